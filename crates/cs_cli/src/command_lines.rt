@@ -3,14 +3,17 @@ ghost use Rattle.std.specs.Prelude.{◌≤◌};
 
 use crate::progress::{takes_time, tell_ended, tell_format, tell_making};
 use crate::tools::run_tool;
+use crate::warnings::{warn_of, warn_of_file, warn_of_older};
 use clap::ArgMatches;
 use cs_core::Core;
 use cs_deps::Refusal;
 use cs_disk::{CrashDisk, FileDisk, MemoryDisk};
+use cs_mount::{AsOf, Mounted};
 use cs_options::{command, geometry_of, race_of};
 use cs_race::{new_core as new_race_core, run_race};
 use cs_script::{
-    new_in_file, new_in_memory, open_in_file, print_no_store, run_check, run_over, statuses,
+    new_in_file, new_in_memory, open_in_file, open_older_in_file, print_no_store, run_check,
+    run_over, statuses,
 };
 use std::alloc::Global;
 use std::fs::File;
@@ -134,6 +137,9 @@ where
 {
     match options.get_str("file") {
         None => run_over_a(rt, in_memory(rt.alloc(), options), writer),
+        Some(path) if options.get_flag("as-of") => {
+            run_over_a(rt, in_older_file(rt, path), writer)
+        }
         Some(path) => run_over_a(rt, in_file(rt, path, options, terminal), writer),
     }
 }
@@ -152,7 +158,7 @@ where
 }
 
 /// A new store in memory, of the geometry that the options ask for. Refused 7 BadGeometry, and 9 OutOfMemory.
-fn in_memory(alloc: Global, options: &ArgMatches) -> Result<Core<MemoryDisk>, Refusal> {
+fn in_memory(alloc: Global, options: &ArgMatches) -> Result<Core<Mounted<MemoryDisk>>, Refusal> {
     new_in_memory(alloc, geometry_of(options)?)
 }
 
@@ -164,9 +170,9 @@ fn in_file<R: AllocGlobal + Files<File = File> + Eprint>(
     path: &str,
     options: &ArgMatches,
     terminal: bool,
-) -> Result<Core<FileDisk>, Refusal> {
+) -> Result<Core<Mounted<FileDisk>>, Refusal> {
     if !options.get_flag("new") {
-        return open_in_file(rt, rt.alloc(), path);
+        return in_old_file(rt, path);
     }
     let geometry = geometry_of(options)?;
     tell_format(rt, geometry.format());
@@ -179,6 +185,38 @@ fn in_file<R: AllocGlobal + Files<File = File> + Eprint>(
         tell_ended(rt, path, store.is_ok());
     }
     store
+}
+
+/// The store in a file that is there. It is told of pages that were damaged.
+fn in_old_file<R: AllocGlobal + Files<File = File> + Eprint>(
+    rt: &R,
+    path: &str,
+) -> Result<Core<Mounted<FileDisk>>, Refusal> {
+    match open_in_file(rt, rt.alloc(), path) {
+        Ok((core, findings)) => {
+            warn_of(rt, &findings);
+            Ok(core)
+        }
+        Err(refusal) => {
+            warn_of_file(rt, path);
+            Err(refusal)
+        }
+    }
+}
+
+/// The store in a file that is there, as of the newest root that is whole. It is told of that.
+fn in_older_file<R: AllocGlobal + Files<File = File> + Eprint>(
+    rt: &R,
+    path: &str,
+) -> Result<Core<AsOf<Mounted<FileDisk>>>, Refusal> {
+    match open_older_in_file(rt, rt.alloc(), path) {
+        Ok((core, findings)) => {
+            warn_of(rt, &findings);
+            warn_of_older(rt);
+            Ok(core)
+        }
+        Err(refusal) => Err(refusal),
+    }
 }
 
 /// Checks the plan document on standard input.

@@ -5,6 +5,7 @@ mod benches;
 mod command_lines;
 mod progress;
 mod tools;
+mod warnings;
 
 use std::io::IsTerminal;
 use std::process::ExitCode;

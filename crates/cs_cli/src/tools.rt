@@ -3,12 +3,15 @@ ghost use Rattle.std.specs.Prelude.{◌≤◌};
 
 use crate::benches::bench_in_file;
 use crate::progress::Told;
+use crate::warnings::{warn_of, warn_of_file, warn_of_older};
 use clap::ArgMatches;
 use cs_core::Core;
+use cs_deps::Refusal;
 use cs_disk::PageDisk;
 use cs_frame::ShardId;
+use cs_mount::Finding;
 use cs_options::{Listing, id_of, listing_of};
-use cs_script::{open_in_file, statuses};
+use cs_script::{open_in_file, open_older_in_file, statuses};
 use cs_store::{LIMITS, Store};
 use cs_tools::{
     Outcome, Progress, Style, delete, explain, export, get, graph, list, put, reclaim, scrub, stat,
@@ -76,13 +79,35 @@ where
     R::Reader: Drop,
     ensures { result ≤ 5 }
 {
+    let older = is_as_of(name, options);
     if let Some(query) = query_of(name, options) {
-        return explain(rt, ask_buffered(rt, path, query, terminal));
+        let outcome = ask_buffered(rt, path, older, query, terminal);
+        return explain_of(rt, path, outcome);
     }
     match call_of(name, options) {
-        Some(call) => explain(rt, call_buffered(rt, path, call)),
+        Some(call) => explain_of(rt, path, call_buffered(rt, path, older, call)),
         None => tell_no_id(rt),
     }
+}
+
+/// Tells why a command over the store in a file ended as it did, and where there is no store, which pages aren't whole; and gives the exit status.
+fn explain_of<R: AllocGlobal + Files<File = File> + Eprint>(
+    rt: &R,
+    path: &str,
+    outcome: Outcome,
+) -> u8
+    ensures { result ≤ 5 }
+{
+    if let Outcome::NoStore(_) = outcome {
+        warn_of_file(rt, path);
+    }
+    explain(rt, outcome)
+}
+
+/// Whether the command of this name is to read a store as of an older root.
+fn is_as_of(name: &str, options: &ArgMatches) -> bool {
+    let writes = name == "put" || name == "del" || name == "reclaim";
+    !writes && options.get_flag("as-of")
 }
 
 /// Tells that a word is no identifier, and gives the exit status.
@@ -145,10 +170,12 @@ where
 fn ask_buffered<R: AllocGlobal + Files<File = File> + Print + Eprint>(
     rt: &R,
     path: &str,
+    older: bool,
     query: Query,
     terminal: bool,
 ) -> Outcome {
     match BufWriter::new(rt.alloc(), io::writer(rt)) {
+        Ok(mut writer) if older => ask_older_file(rt, path, query, terminal, &mut writer),
         Ok(mut writer) => ask_file(rt, path, query, terminal, &mut writer),
         Err(_) => Outcome::Failed,
     }
@@ -162,8 +189,41 @@ fn ask_file<R: AllocGlobal + Files<File = File> + Eprint, W: Write>(
     terminal: bool,
     writer: &mut W,
 ) -> Outcome {
-    match open_in_file(rt, rt.alloc(), path) {
-        Ok(mut core) => {
+    ask_opened(
+        rt,
+        open_in_file(rt, rt.alloc(), path),
+        query,
+        terminal,
+        writer,
+    )
+}
+
+/// The same of the store as of the newest root that is whole.
+fn ask_older_file<R: AllocGlobal + Files<File = File> + Eprint, W: Write>(
+    rt: &R,
+    path: &str,
+    query: Query,
+    terminal: bool,
+    writer: &mut W,
+) -> Outcome {
+    let store = open_older_in_file(rt, rt.alloc(), path);
+    if store.is_ok() {
+        warn_of_older(rt);
+    }
+    ask_opened(rt, store, query, terminal, writer)
+}
+
+/// Asks the store that was opened, where there is one.
+fn ask_opened<D: PageDisk + Drop, R: AllocGlobal + Eprint, W: Write>(
+    rt: &R,
+    store: Result<(Core<D>, Vec<Finding>), Refusal>,
+    query: Query,
+    terminal: bool,
+    writer: &mut W,
+) -> Outcome {
+    match store {
+        Ok((mut core, findings)) => {
+            warn_of(rt, &findings);
             let told = Told::new(rt, terminal);
             ask(rt.alloc(), &mut core, query, &told, writer)
         }
@@ -200,22 +260,24 @@ fn list_of<D: PageDisk, W: Write>(
 }
 
 /// Does a call on the store in a file.
-fn call_buffered<R: AllocGlobal + Files<File = File> + Input + Print>(
+fn call_buffered<R: AllocGlobal + Files<File = File> + Input + Print + Eprint>(
     rt: &R,
     path: &str,
+    older: bool,
     call: Call,
 ) -> Outcome
 where
     R::Reader: Drop,
 {
     match BufWriter::new(rt.alloc(), io::writer(rt)) {
+        Ok(mut writer) if older => call_older_file(rt, path, call, &mut writer),
         Ok(mut writer) => call_file(rt, path, call, &mut writer),
         Err(_) => Outcome::Failed,
     }
 }
 
 /// The same with this writer.
-fn call_file<R: AllocGlobal + Files<File = File> + Input, W: Write>(
+fn call_file<R: AllocGlobal + Files<File = File> + Input + Eprint, W: Write>(
     rt: &R,
     path: &str,
     call: Call,
@@ -225,7 +287,30 @@ where
     R::Reader: Drop,
 {
     match Store::open_file(rt, rt.alloc(), path, LIMITS) {
-        Ok(mut store) => do_call(rt.alloc(), &mut store, call, rt.reader(), writer),
+        Ok(mut store) => {
+            warn_of(rt, store.findings());
+            do_call(rt.alloc(), &mut store, call, rt.reader(), writer)
+        }
+        Err(error) => Outcome::NoStore(error.refusal()),
+    }
+}
+
+/// The same on the store as of the newest root that is whole.
+fn call_older_file<R: AllocGlobal + Files<File = File> + Input + Eprint, W: Write>(
+    rt: &R,
+    path: &str,
+    call: Call,
+    writer: &mut W,
+) -> Outcome
+where
+    R::Reader: Drop,
+{
+    match Store::open_older_file(rt, rt.alloc(), path, LIMITS) {
+        Ok(mut store) => {
+            warn_of(rt, store.findings());
+            warn_of_older(rt);
+            do_call(rt.alloc(), &mut store, call, rt.reader(), writer)
+        }
         Err(error) => Outcome::NoStore(error.refusal()),
     }
 }

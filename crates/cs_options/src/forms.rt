@@ -129,6 +129,13 @@ const JSON: Choice = Choice {
     help: "Prints JSON objects, one a line",
 };
 
+/// The option for a store of which a newer root was persistent than is whole.
+const AS_OF: Choice = Choice {
+    name: "as-of",
+    takes: Takes::Nothing,
+    help: "Opens it as of the newest root that is whole, where it is refused 27 RootLost; nothing is written",
+};
+
 /// The commands.
 pub const FORMS: &[Form] = &[
     Form {
@@ -166,13 +173,14 @@ pub const FORMS: &[Form] = &[
                 takes: Takes::Nothing,
                 help: "Makes a new store in the file, and loses what is in it",
             },
+            AS_OF,
         ],
     },
     Form {
         name: "get",
         about: "Writes out the bytes of a shard",
         after: Some(GET_EXAMPLES),
-        options: &[ID, STORE],
+        options: &[ID, STORE, AS_OF],
     },
     Form {
         name: "put",
@@ -203,25 +211,26 @@ pub const FORMS: &[Form] = &[
                 help: "So many at most",
             },
             JSON,
+            AS_OF,
         ],
     },
     Form {
         name: "export",
         about: "Prints a script that puts all shards",
         after: Some(EXPORT_EXAMPLES),
-        options: &[STORE],
+        options: &[STORE, AS_OF],
     },
     Form {
         name: "stat",
         about: "Prints how a store lies on its disk, and how full it is",
         after: Some(STAT_EXAMPLES),
-        options: &[STORE, JSON],
+        options: &[STORE, JSON, AS_OF],
     },
     Form {
         name: "scrub",
         about: "Reads all that a store keeps, and prints what can't be read",
         after: Some(SCRUB_EXAMPLES),
-        options: &[STORE, JSON],
+        options: &[STORE, JSON, AS_OF],
     },
     Form {
         name: "reclaim",

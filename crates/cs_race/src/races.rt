@@ -12,6 +12,7 @@ use cs_core::Core;
 use cs_deps::Refusal;
 use cs_disk::{MemoryDisk, PageDisk};
 use cs_frame::Geometry;
+use cs_mount::Mounted;
 use cs_node::{Board, Naming, Node, Pilot, Purse, Rest, Unclosed};
 use cs_script::{Race, new_in_memory, print_acknowledged, print_no_store, print_refusal, statuses};
 use std::alloc::{AllocError, Global};
@@ -55,7 +56,7 @@ pub fn run_race<D: PageDisk + Send + Drop, R: Threads + Wait + Sync, W: Write>(
 }
 
 /// A core that did nothing yet, over a new store in memory. Refused 9 OutOfMemory.
-pub fn new_core(alloc: Global) -> Result<Core<MemoryDisk>, Refusal>
+pub fn new_core(alloc: Global) -> Result<Core<Mounted<MemoryDisk>>, Refusal>
     ensures { IfOk result (λ core. (core.history ≡ []) × (core.store.accepted ≡ 0)) }
 {
     let Ok(geometry) = Geometry::new(EXTENTS, PAGES) else {

@@ -10,6 +10,7 @@ mod documents;
 mod laws;
 mod letters;
 mod lines;
+mod older_stores;
 mod outputs;
 mod plans;
 mod race_numbers;
@@ -22,6 +23,7 @@ mod syncs;
 
 pub use checks::run_check;
 pub use laws::a_sync_line_is_never_out_of_turn;
+pub use older_stores::{look_in_file, open_older_in_file};
 pub use outputs::{print_acknowledged, print_no_store, print_refusal};
 pub use race_numbers::Race;
 pub use scripts::{Ran, run_script};

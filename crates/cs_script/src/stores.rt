@@ -3,8 +3,8 @@ ghost use Rattle.std.specs.Prelude.{◌≡◌, ◌⊎◌, ◌<◌, ◌≤◌, �
 ghost use Rattle.std.specs.Io.KnownBytes.{Appends};
 ghost use Rattle.cs_deps.specs.Refusals.{number_of};
 ghost use Rattle.cs_disk.specs.Faults.{open_fault_number};
-ghost use Rattle.cs_disk.specs.Memory.{memory_state};
 ghost use Rattle.cs_core.specs.Openings.{IsOpeningRefusal};
+ghost use Rattle.cs_pair.specs.Paired.{state_shown};
 ghost use Rattle.cs_script.specs.Outputs.{refusal_line};
 ghost use Rattle.cs_script.specs.Stores.{IsJustOpened, IsNew, IsNewDisk, RunsOver};
 
@@ -14,6 +14,7 @@ use cs_core::{Core, Limits};
 use cs_deps::Refusal;
 use cs_disk::{CrashDisk, FileDisk, MemoryDisk, OpenFault};
 use cs_frame::Geometry;
+use cs_mount::{Finding, Mounted, make_store, open_store};
 use std::alloc::Global;
 use std::fs::File;
 use std::io::{Read, Write};
@@ -44,17 +45,21 @@ pub fn run_over<D: CrashDisk + Drop, R: Read + Drop, W: Write>(
 }
 
 /// A new store in memory. Refused 9 OutOfMemory alone.
-pub fn new_in_memory(alloc: Global, geometry: Geometry) -> Result<Core<MemoryDisk>, Refusal>
+pub fn new_in_memory(
+    alloc: Global,
+    geometry: Geometry,
+) -> Result<Core<Mounted<MemoryDisk>>, Refusal>
     ensures store { IfOk result (IsNew geometry.format geometry.extents geometry.pages geometry.sections) }
-    ensures disk { IfOk result (λ core. IsNewDisk geometry.format geometry.extents geometry.pages geometry.sections (memory_state core.disk)) }
+    ensures disk { IfOk result (λ core. IsNewDisk geometry.format geometry.extents geometry.pages geometry.sections (state_shown core.disk)) }
     ensures memory { IfErr result (λ refusal. refusal ≡ Refusal.OutOfMemory) }
 {
     let Ok(disk) = MemoryDisk::new(alloc, geometry.device_pages()) else {
         return Err(Refusal::OutOfMemory);
     };
-    match Core::format(alloc, disk, geometry, limits()) {
+    // Nothing but memory can be refused: a disk in memory doesn't fail, and on pages of zeros no write is older than what is there.
+    match make_store(alloc, disk, geometry, limits()) {
         Ok(core) => Ok(core),
-        Err((refusal, _)) => Err(refusal),
+        Err(_) => Err(Refusal::OutOfMemory),
     }
 }
 
@@ -65,7 +70,7 @@ pub fn new_in_file<R: Files<File = File>>(
     alloc: Global,
     path: &str,
     geometry: Geometry,
-) -> Result<Core<FileDisk>, Refusal>
+) -> Result<Core<Mounted<FileDisk>>, Refusal>
     ensures store { IfOk result (IsNew geometry.format geometry.extents geometry.pages geometry.sections) }
     ensures refusals { IfErr result (λ refusal. (refusal ≡ Refusal.DeviceFault) ⊎ (refusal ≡ Refusal.OutOfMemory)) }
 {
@@ -73,13 +78,10 @@ pub fn new_in_file<R: Files<File = File>>(
         Ok(disk) => disk,
         Err(_) => return Err(Refusal::DeviceFault),
     };
-    match Core::format(alloc, disk, geometry, limits()) {
-        Ok(core) => Ok(core),
-        Err((refusal, _)) => Err(refusal),
-    }
+    make_store(alloc, disk, geometry, limits())
 }
 
-/// The store that is in a file, with the geometry that its superblock has.
+/// The store that is in a file, with the geometry that its superblock has, and what the pages hold that it has twice.
 ///
 /// Refused 1 DeviceFault where the operating system refuses a call, as where there is no such file; 6 OddLength where its length
 /// is no multiple of 4,096; and as `Core::open` where it holds no store, or a damaged one. The file is as it was then.
@@ -87,29 +89,26 @@ pub fn open_in_file<R: Files<File = File>>(
     rt: &R,
     alloc: Global,
     path: &str,
-) -> Result<Core<FileDisk>, Refusal>
-    ensures store { IfOk result IsJustOpened }
+) -> Result<(Core<Mounted<FileDisk>>, Vec<Finding>), Refusal>
+    ensures store { IfOk result (λ opened. IsJustOpened opened.0) }
     ensures refusals { IfErr result (λ refusal. IsOpeningRefusal refusal ⊎ (refusal ≡ Refusal.OddLength)) }
 {
     let disk = match FileDisk::open(rt, alloc, path) {
         Ok(disk) => disk,
         Err(fault) => return Err(refusal_of(fault)),
     };
-    match Core::open(alloc, disk, limits()) {
-        Ok(core) => Ok(core),
-        Err((refusal, _)) => Err(refusal),
-    }
+    open_store(alloc, disk, limits())
 }
 
 /// How much may be recorded.
-fn limits() -> Limits
+pub fn limits() -> Limits
     ensures { result.history ≡ 65536 }
 {
     Limits { history: HISTORY }
 }
 
 /// The refusal of a file that isn't opened.
-fn refusal_of(fault: OpenFault) -> Refusal
+pub fn refusal_of(fault: OpenFault) -> Refusal
     ensures { number_of result ≡ open_fault_number fault }
 {
     match fault {

@@ -4,6 +4,7 @@ ghost use Rattle.cs_disk.specs.Files.{file_pages};
 ghost use Rattle.cs_frame.specs.Geometries.{IsGeometry, device_pages, sections_needed};
 ghost use Rattle.cs_core.specs.Openings.{IsOpened};
 ghost use Rattle.cs_core.specs.Started.{new_stored};
+ghost use Rattle.cs_pair.specs.Paired.{disk_below};
 
 use crate::errors::OpenError;
 use crate::options::Options;
@@ -11,13 +12,14 @@ use crate::stores::Store;
 use cs_core::Limits;
 use cs_disk::{FileDisk, OpenFault};
 use cs_frame::Geometry;
+use cs_mount::Mounted;
 use std::alloc::Global;
 use std::fs::File;
 use std::rt::Files;
 
 // No clause can say what the operating system answers, so bodies that always refuse, or take another file, would be proved too. A program that is tested
 // makes a file, and opens it again.
-impl Store<FileDisk> {
+impl Store<Mounted<FileDisk>> {
     /// Makes a new store in a file, with nothing in it. The file is made, or emptied where it is there, and locked for as long as the store lives. It is
     /// synced, 4,096 bytes for each page of the disk, all of them written up to a gibibyte; a larger file takes room as its pages are written.
     ///
@@ -31,7 +33,7 @@ impl Store<FileDisk> {
         ensures new { IfOk result (λ made. (made.history ≡ []) × (made.base ≡ 0) × (made.limit ≡ options.limits.history)) }
         ensures store { IfOk result (λ made. made.store ≡ new_stored options.format options.extents options.pages (sections_needed options.extents)) }
         ensures found { IfOk result (λ made. made.found ≡ (0, 0)) }
-        ensures pages { IfOk result (λ made. file_pages made.disk ≡ device_pages options.format options.extents options.pages (sections_needed options.extents)) }
+        ensures pages { IfOk result (λ made. file_pages (disk_below made.disk) ≡ device_pages options.format options.extents options.pages (sections_needed options.extents)) }
         // It is refused 7 just where there is no store of this format of so many extents and pages.
         ensures geometry { (result ≡ Err OpenError.BadGeometry) ↔ ¬ IsGeometry options.format options.extents options.pages (sections_needed options.extents) }
         ensures refusals { IfErr result (λ error. (error ≡ OpenError.BadGeometry) ⊎ (error ≡ OpenError.DeviceFault) ⊎ (error ≡ OpenError.OutOfMemory)) }
@@ -43,13 +45,14 @@ impl Store<FileDisk> {
         let Ok(disk) = FileDisk::create(rt, alloc, path, geometry.device_pages()) else {
             return Err(OpenError::DeviceFault);
         };
-        match Store::make(alloc, disk, geometry, options.limits) {
+        match Store::make_mounted(alloc, disk, geometry, options.limits) {
             Ok(store) => Ok(store),
-            Err((refusal, _)) => Err(OpenError::of(refusal)),
+            Err(refusal) => Err(OpenError::of(refusal)),
         }
     }
 
-    /// Opens the store that is in a file, as it was made persistent or as a crash left it. The file is locked for as long as the store lives.
+    /// Opens the store that is in a file, as it was made persistent or as a crash left it. The file is locked for as long as the store lives. `findings` tells
+    /// of pages of which it has two and one is damaged.
     ///
     /// Refused 1 DeviceFault where the operating system refuses a call, as where there is no such file or another process has it; 6 OddLength; 43 NotAStore
     /// where no store of that many pages is in it; 20 to 26 for a page that is damaged; in format 3 27 RootLost where the root is older than one that was persistent; and 9 OutOfMemory. The file
@@ -69,9 +72,9 @@ impl Store<FileDisk> {
             Err(OpenFault::DeviceFault) => return Err(OpenError::DeviceFault),
             Err(OpenFault::OddLength) => return Err(OpenError::OddLength),
         };
-        match Store::open(alloc, disk, limits) {
+        match Store::open_mounted(alloc, disk, limits) {
             Ok(store) => Ok(store),
-            Err((refusal, _)) => Err(OpenError::of(refusal)),
+            Err(refusal) => Err(OpenError::of(refusal)),
         }
     }
 }

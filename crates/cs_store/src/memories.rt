@@ -1,8 +1,8 @@
 //! Stores in memory.
 ghost use Rattle.std.specs.Prelude.{◌↔◌, ◌≡◌, ◌⊎◌, Err, IfErr, IfOk, None, [], replicate};
-ghost use Rattle.cs_disk.specs.Memory.{memory_state};
 ghost use Rattle.cs_frame.specs.Geometries.{IsGeometry, device_pages, sections_needed};
 ghost use Rattle.cs_core.specs.Started.{IsNewOn, new_stored};
+ghost use Rattle.cs_pair.specs.Paired.{state_shown};
 ghost use Rattle.cs_store.specs.Maps.{HasMap};
 
 use crate::errors::OpenError;
@@ -10,9 +10,10 @@ use crate::options::Options;
 use crate::stores::Store;
 use cs_disk::MemoryDisk;
 use cs_frame::Geometry;
+use cs_mount::Mounted;
 use std::alloc::Global;
 
-impl Store<MemoryDisk> {
+impl Store<Mounted<MemoryDisk>> {
     /// Makes a new store in memory, with nothing in it. It takes 4,096 bytes for each page of the disk.
     ///
     /// Refused 7 BadGeometry and 9 OutOfMemory.
@@ -24,7 +25,7 @@ impl Store<MemoryDisk> {
         ensures map { IfOk result (λ made. HasMap made (λ id. None)) }
         // The superblock and the root are written and durable, on pages of zeros.
         ensures written { IfOk result (λ made. IsNewOn options.format options.extents options.pages (sections_needed options.extents)
-            (record { durable = replicate (device_pages options.format options.extents options.pages (sections_needed options.extents)) (replicate 4096 0); volatile = [] }) (memory_state made.disk)) }
+            (record { durable = replicate (device_pages options.format options.extents options.pages (sections_needed options.extents)) (replicate 4096 0); volatile = [] }) (state_shown made.disk)) }
         // It is refused 7 just where there is no store of this format of so many extents and pages.
         ensures geometry { (result ≡ Err OpenError.BadGeometry) ↔ ¬ IsGeometry options.format options.extents options.pages (sections_needed options.extents) }
         ensures refusals { IfErr result (λ error. (error ≡ OpenError.BadGeometry) ⊎ (error ≡ OpenError.OutOfMemory)) }
@@ -36,9 +37,10 @@ impl Store<MemoryDisk> {
         let Ok(disk) = MemoryDisk::new(alloc, geometry.device_pages()) else {
             return Err(OpenError::OutOfMemory);
         };
-        match Store::make(alloc, disk, geometry, options.limits) {
+        // Nothing but memory can be refused: a disk in memory doesn't fail, and on pages of zeros no write is older than what is there.
+        match Store::make_mounted(alloc, disk, geometry, options.limits) {
             Ok(store) => Ok(store),
-            Err((refusal, _)) => Err(OpenError::of(refusal)),
+            Err(_) => Err(OpenError::OutOfMemory),
         }
     }
 }

@@ -17,6 +17,7 @@ use cs_core::{Core, Limits};
 use cs_deps::Refusal;
 use cs_disk::PageDisk;
 use cs_frame::Geometry;
+use cs_mount::Finding;
 use std::alloc::Global;
 use std::marker::Model;
 
@@ -25,6 +26,8 @@ use std::marker::Model;
 pub struct Store<D: PageDisk> {
     pub(crate) alloc: Global,
     pub(crate) core: Core<D>,
+    /// What the pages held that it has twice, as it was opened.
+    pub(crate) findings: Vec<Finding>,
 }
 
 impl<D: PageDisk> Model for Store<D> {
@@ -61,7 +64,11 @@ impl<D: PageDisk> Store<D> {
         ensures cause { IfErr result (λ refused. refused.0 ≡ Refusal.DeviceFault → Rises (D.failure_count disk) (D.failure_count refused.1)) }
     {
         match Core::format(alloc, disk, geometry, limits) {
-            Ok(core) => Ok(Store { alloc, core }),
+            Ok(core) => Ok(Store {
+                alloc,
+                core,
+                findings: Vec::new(alloc),
+            }),
             Err(refused) => Err(refused),
         }
     }
@@ -91,7 +98,11 @@ impl<D: PageDisk> Store<D> {
         ensures cause { IfErr result (λ refused. refused.0 ≡ Refusal.DeviceFault → Rises (D.failure_count disk) (D.failure_count refused.1)) }
     {
         match Core::open(alloc, disk, limits) {
-            Ok(core) => Ok(Store { alloc, core }),
+            Ok(core) => Ok(Store {
+                alloc,
+                core,
+                findings: Vec::new(alloc),
+            }),
             Err(refused) => Err(refused),
         }
     }
@@ -100,7 +111,11 @@ impl<D: PageDisk> Store<D> {
     pub fn close(self) -> D
         ensures { result ≡ self.disk }
     {
-        let Store { alloc: _, core } = self;
+        let Store {
+            alloc: _,
+            core,
+            findings: _,
+        } = self;
         core.into_disk()
     }
 }

@@ -5,6 +5,7 @@ ghost use Rattle.cs_node.specs.Starts.{start_of};
 use cs_core::Core;
 use cs_disk::{MemoryDisk, PageDisk};
 use cs_frame::Geometry;
+use cs_mount::Mounted;
 use cs_node::{Board, Job, Naming, Node};
 use cs_race::{Returned, new_core, racers_of, run_race};
 use cs_script::{Race, new_in_memory};
@@ -65,7 +66,7 @@ fn numbers_have_ranges(rt: HostRuntime) {
 }
 
 /// A core that did nothing yet, over a new store with room for more shards than tickets may be under way.
-fn large_core(alloc: Global) -> Result<Core<MemoryDisk>, Fail>
+fn large_core(alloc: Global) -> Result<Core<Mounted<MemoryDisk>>, Fail>
     ensures { IfOk result (λ core. (core.history ≡ []) × (core.store.accepted ≡ 0)) }
 {
     let geometry = Geometry::new(64, 32)?;
@@ -87,13 +88,13 @@ fn racers_run_one_after_another(rt: HostRuntime) -> Result<(), Fail> {
 fn one_after_another<K: Naming + Send + Sync, R: Wait + Abort>(
     rt: &R,
     alloc: Global,
-    board: Board<MemoryDisk>,
-    core: Core<MemoryDisk>,
+    board: Board<Mounted<MemoryDisk>>,
+    core: Core<Mounted<MemoryDisk>>,
 )
     requires named { (board ≡ K.table) × (start_of core ≡ K.start) }
     requires new { (core.history ≡ []) × (core.store.accepted ≡ 0) }
 {
-    let node = Node::<MemoryDisk, K>::new(alloc, board, core);
+    let node = Node::<Mounted<MemoryDisk>, K>::new(alloc, board, core);
     let race = Race::new(2, 600, 0, false).expect(rt, "a race");
     assert_eq!(rt; read_back(rt, alloc, &node, race), 1200);
 }

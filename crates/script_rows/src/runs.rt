@@ -1,7 +1,7 @@
 //! A script's run.
 use cs_core::Core;
 use cs_deps::Refusal;
-use cs_disk::{CrashDisk, MemoryDisk};
+use cs_disk::CrashDisk;
 use cs_frame::Geometry;
 use cs_script::{new_in_memory, print_no_store, run_script};
 use std::alloc::Global;
@@ -53,7 +53,7 @@ fn refused(alloc: Global, refusal: Refusal) -> Ended {
 }
 
 /// Runs a script over a store, which is let go here alone.
-fn run(alloc: Global, core: Core<MemoryDisk>, script: &str) -> Ended {
+fn run<D: CrashDisk + Drop>(alloc: Global, core: Core<D>, script: &str) -> Ended {
     let mut output = Vec::new(alloc);
     let ran = run_script(alloc, core, script.as_bytes(), &mut output);
     let left = match &ran.core {

@@ -2,7 +2,7 @@
 use super::{printed, script_text};
 use cs_core::Core;
 use cs_deps::Refusal;
-use cs_disk::FileDisk;
+use cs_disk::CrashDisk;
 use cs_frame::Geometry;
 use cs_script::{new_in_file, open_in_file, run_over};
 use std::fs::File;
@@ -11,9 +11,9 @@ use std::rt::Files;
 use std::test::Fail;
 
 /// Asserts what a script's text prints over the store in a file, and its exit status.
-fn prints_over(
+fn prints_over<D: CrashDisk + Drop>(
     rt: &(impl Abort + AllocGlobal),
-    store: Result<Core<FileDisk>, Refusal>,
+    store: Result<Core<D>, Refusal>,
     text: &str,
     wanted: &str,
     status: u8,
@@ -36,6 +36,16 @@ fn make(rt: &(impl Abort + AllocGlobal + Files<File = File>), path: &str) -> Res
     Ok(())
 }
 
+/// The core of a store that was opened.
+fn core_of<D: CrashDisk + Drop, F: Drop>(
+    opened: Result<(Core<D>, F), Refusal>,
+) -> Result<Core<D>, Refusal> {
+    match opened {
+        Ok((core, _)) => Ok(core),
+        Err(refusal) => Err(refusal),
+    }
+}
+
 /// Asserts what a script prints over the store that is in the file, and its exit status.
 fn opens(
     rt: &(impl Abort + AllocGlobal + Files<File = File>),
@@ -46,7 +56,7 @@ fn opens(
 ) -> Result<(), Fail> {
     let text = script_text(rt.alloc(), script)?;
     let wanted = printed(rt.alloc(), lines)?;
-    let store = open_in_file(rt, rt.alloc(), path);
+    let store = core_of(open_in_file(rt, rt.alloc(), path));
     prints_over(rt, store, &text, &wanted, status);
     Ok(())
 }

@@ -1,0 +1,110 @@
+// Stores over disks in pairs: how they are made and opened.
+ghost use Rattle.std.specs.Prelude.{◌≡◌, ◌≢◌, ◌⊎◌, ◌↔◌, ◌<◌, ℕ, [], Err, IfErr, IfOk, MatchResult, None, OnOk, Some, replicate};
+ghost use Rattle.cs_chunk.specs.Reads.{IsNoAnswer};
+ghost use Rattle.cs_core.specs.Openings.{IsOpened, IsOpeningRefusal, IsWhyNotOpened};
+ghost use Rattle.cs_core.specs.Started.{IsNewOn, new_stored};
+ghost use Rattle.cs_disk.specs.Disk.{Image, MayLeave, flushed, page, seen};
+ghost use Rattle.cs_extent.specs.State.{shape};
+ghost use Rattle.cs_frame.specs.Formats.{formats_of};
+ghost use Rattle.cs_frame.specs.Geometries.{IsGeometry, device_pages, section_size};
+ghost use Rattle.cs_image.specs.Counts.{HasCount};
+ghost use Rattle.cs_model.specs.Element.{Map};
+ghost use Rattle.cs_model.specs.Geometry.{shape_of};
+ghost use Rattle.cs_model.specs.Recovery.{Recovers};
+ghost use Rattle.cs_pair.specs.Paired.{disk_below, left_as_shown, state_shown};
+ghost use Rattle.cs_pair.specs.Pairs.{shown_state};
+ghost use Rattle.cs_pair.specs.Showing.{ShowsOn, findings_on, shown_on};
+ghost use Rattle.cs_pair.specs.Stores.{store_pairs, store_version};
+
+use cs_chunk::refusal_of_disk;
+use cs_core::{Core, Limits};
+use cs_deps::Refusal;
+use cs_disk::PageDisk;
+use cs_frame::Geometry;
+use cs_pair::{Finding, Paired, StoreRules, open_store as open_pairs};
+use std::alloc::Global;
+
+/// A disk over which a store lies: in format 3 its most important pages have two pages each.
+pub type Mounted<D> = Paired<D, StoreRules>;
+
+/// Makes a new store of this geometry on a disk that holds none: flushes the disk, writes the superblock and the root, each of them once, and makes them durable.
+///
+/// Refused 43 NotAStore where the disk hasn't the geometry's pages, 1 DeviceFault, and 9 OutOfMemory.
+pub fn make_store<D: PageDisk + Drop>(
+    alloc: Global,
+    disk: D,
+    geometry: Geometry,
+    limits: Limits,
+) -> Result<Core<Mounted<D>>, Refusal>
+    ensures new { IfOk result (λ core. (core.history ≡ []) × (core.base ≡ 0) × (core.limit ≡ limits.history)) }
+    ensures store { IfOk result (λ core. core.store ≡ new_stored geometry.format geometry.extents geometry.pages geometry.sections) }
+    ensures found { IfOk result (λ core. core.found ≡ (0, 0)) }
+    ensures start { IfOk result (λ core. D.honest disk → Recovers (shape core.store.extents) (formats_of (shape core.store.extents)) (page core.opened) 0 (λ id. None)) }
+    ensures written { D.honest disk → IfOk result (λ core. IsNewOn geometry.format geometry.extents geometry.pages geometry.sections (shown_state (store_version (Some geometry)) (store_pairs geometry) (flushed (D.state disk))) (state_shown core.disk)) }
+    // So it is on pages of zeros.
+    ensures zeros { D.honest disk → (D.state disk).durable ≡ replicate (device_pages geometry.format geometry.extents geometry.pages geometry.sections) (replicate 4096 0) → (D.state disk).volatile ≡ [] → IfOk result (λ core. IsNewOn geometry.format geometry.extents geometry.pages geometry.sections (record { durable = replicate (device_pages geometry.format geometry.extents geometry.pages geometry.sections) (replicate 4096 0); volatile = [] }) (state_shown core.disk)) }
+    ensures pages { IfOk result (λ core. D.page_count (disk_below core.disk) ≡ D.page_count disk) }
+    ensures honest { IfOk result (λ core. D.honest disk ↔ D.honest (disk_below core.disk)) }
+    ensures sized { OnOk result (D.page_count disk ≡ device_pages geometry.format geometry.extents geometry.pages geometry.sections) }
+    ensures not_a_store { IfErr result (λ refusal. (refusal ≡ Refusal.NotAStore) ↔ (D.page_count disk ≢ device_pages geometry.format geometry.extents geometry.pages geometry.sections)) }
+    ensures refusals { IfErr result (λ refusal. (refusal ≡ Refusal.NotAStore) ⊎ (refusal ≡ Refusal.DeviceFault) ⊎ (refusal ≡ Refusal.OutOfMemory)) }
+{
+    // Called for its contract alone: what every geometry keeps.
+    geometry.extents();
+    if disk.pages() != geometry.device_pages() {
+        return Err(Refusal::NotAStore);
+    }
+    let rules = StoreRules {
+        alloc,
+        geometry: Some(geometry),
+    };
+    let Ok(pairs) = rules.pairs() else {
+        return Err(Refusal::OutOfMemory);
+    };
+    match Paired::new(alloc, disk, rules, pairs) {
+        Ok(paired) => match Core::format(alloc, paired, geometry, limits) {
+            Ok(core) => Ok(core),
+            Err((refusal, _)) => Err(refusal),
+        },
+        Err((fault, _)) => Err(refusal_of_disk(fault)),
+    }
+}
+
+/// Opens the store on a disk, as it was made persistent or as a crash left it, and tells what the pages hold that it has twice: flushes, and reads the
+/// superblock, the root and the index's runs.
+///
+/// Refused 43 NotAStore where no store of that many pages is on it, 20 to 26 for a page that is damaged, where it has two for both of them, 27 RootLost
+/// where the newest root that is whole is older than one that was persistent, 1 DeviceFault, and 9 OutOfMemory.
+pub fn open_store<D: PageDisk + Drop>(
+    alloc: Global,
+    disk: D,
+    limits: Limits,
+) -> Result<(Core<Mounted<D>>, Vec<Finding>), Refusal>
+    ensures new { IfOk result (λ opened. (opened.0.history ≡ []) × (opened.0.base ≡ 0) × (opened.0.limit ≡ limits.history)) }
+    ensures image { D.honest disk → IfOk result (λ opened. (opened.0.opened ≡ shown_on (D.page_count disk) (seen (D.state disk))) × (state_shown opened.0.disk ≡ record { durable = shown_on (D.page_count disk) (seen (D.state disk)); volatile = [] })) }
+    ensures store { IfOk result (λ opened. IsOpened (D.honest disk) opened.0.opened opened.0.found opened.0.store) }
+    // Where the disk shows a store of some geometry, that store is opened.
+    ensures recovers { D.honest disk → (format extents pages sections : ℕ) → IsGeometry format extents pages sections → D.page_count disk ≡ device_pages format extents pages sections → (n : ℕ) (m : Map)
+        → (let S = shape_of extents pages sections (section_size extents sections) format in Recovers S (formats_of S) (page (shown_on (D.page_count disk) (seen (D.state disk)))) n m
+        → MatchResult result (λ opened. (shape opened.0.store.extents ≡ S) × (opened.0.found.0 ≡ n) × HasCount (λ id. m id ≢ None) opened.0.found.1) (λ refusal. IsNoAnswer refusal)) }
+    ensures findings { D.honest disk → IfOk result (λ opened. opened.1.items ≡ findings_on (D.page_count disk) (seen (D.state disk))) }
+    ensures refusals { D.honest disk → IfErr result (λ refusal. IsNoAnswer refusal ⊎ IsWhyNotOpened (D.page_count disk) (page (shown_on (D.page_count disk) (seen (D.state disk)))) refusal) }
+    // Whatever the disk answers.
+    ensures number { IfErr result IsOpeningRefusal }
+    ensures small { D.page_count disk < 10 → result ≡ Err Refusal.NotAStore }
+    // A crash meanwhile leaves what shows as what one before it might have left.
+    ensures crash { D.honest disk → IfOk result (λ opened. (left : Image) → left_as_shown opened.0.disk (D.moment disk) left → ShowsOn (D.page_count disk) (seen (D.state disk)) (MayLeave (D.state disk)) left) }
+    ensures honest { IfOk result (λ opened. D.honest disk ↔ D.honest (disk_below opened.0.disk)) }
+    ensures pages { IfOk result (λ opened. D.page_count (disk_below opened.0.disk) ≡ D.page_count disk) }
+{
+    if disk.pages() < 10 {
+        return Err(Refusal::NotAStore);
+    }
+    match open_pairs(alloc, disk) {
+        Ok((paired, found)) => match Core::open(alloc, paired, limits) {
+            Ok(core) => Ok((core, found)),
+            Err((refusal, _)) => Err(refusal),
+        },
+        Err((fault, _)) => Err(refusal_of_disk(fault)),
+    }
+}

@@ -1,0 +1,48 @@
+use Rattle.std.proofs.Common.{List, ap, inl, inr, slice_get, subst, sym, ⊎_elim, ◌∙◌}
+use Rattle.cs_disk.specs.Disk.{Image, LeavesOnly, MayLeave, State, seen}
+use Rattle.cs_pair.specs.declared.pairs.Pair.{Pair}
+use Rattle.cs_pair.specs.Noted.{AreNotes, AreRight}
+use Rattle.cs_pair.specs.Findings.{mended}
+use Rattle.cs_pair.specs.Pairs.{ArePairs, shown, shown_state}
+use Rattle.cs_pair.proofs.Mending.{none_left_ok}
+use Rattle.cs_pair.proofs.Over.{shows_here, whole_here}
+use Rattle.cs_pair.proofs.paired.Paired.repair.Goals as goal
+
+pub invariant_of-self : goal.invariant_of-self
+invariant_of-self g c =
+    let V = g.R.PageRules.version c.args.self.now.rules in
+    let disk = c.repair.new.disk in
+    let pairs = c.args.self.now.pairs.items in
+    let apart = subst (λ n. ArePairs pairs n) (sym c.repair.ensures.pages) c.args.self.now.apart in
+    let right = λ (h : g.D.PageDisk.honest disk). subst (λ (ps : List Pair). AreRight V ps c.repair.new.self (g.D.PageDisk.state disk)) c.deref.ensures.value (c.repair.ensures.right h) in
+    record {
+      apart = apart;
+      noted = subst (λ (ps : List Pair). AreNotes ps c.repair.new.self) c.deref.ensures.value c.repair.ensures.notes;
+      right = right;
+      shows = λ h. shows_here V pairs _ _ apart (g.met.D.PageDisk.sized disk h) (right h).newer;
+      whole = λ h. whole_here V pairs _ _ apart (g.met.D.PageDisk.sized disk h) (right h).newer (g.met.D.PageDisk.whole disk h);
+    }
+
+pub returns-clause-none_left : goal.returns-clause-none_left
+returns-clause-none_left g c = λ h x at.
+    let self = c.args.self.now in
+    let there = ap (λ (ps : List Pair). slice_get ps c.args.place) c.deref.ensures.value ∙ at in
+    none_left_ok c.repair.result (g.R.PageRules.version self.rules) self.pairs.items (g.D.PageDisk.page_count self.disk) (g.D.PageDisk.state self.disk) (g.D.PageDisk.state c.repair.new.disk) c.args.place x self.apart (g.met.D.PageDisk.sized self.disk h) at
+    (c.repair.ensures.mended h x there)
+
+pub returns-clause-crash : goal.returns-clause-crash
+returns-clause-crash g c = λ h.
+    let D = g.D.PageDisk in
+    let self = c.args.self.now in
+    let V = g.R.PageRules.version self.rules in
+    let pairs = self.pairs.items in
+    let s = D.state self.disk in
+    let only = subst (λ (ps : List Pair). LeavesOnly D.moment D.left_since self.disk c.repair.new.disk (λ left. MayLeave (shown_state V ps s) (shown V ps left))) c.deref.ensures.value (c.repair.ensures.crash h) in
+    record {
+      later = only.later;
+      each = λ i left. subst (λ (image : Image). MayLeave (shown_state V pairs s) image) (sym left.2) (only.each left.0 left.1);
+      before = λ t i le left. ⊎_elim
+          (λ (was : D.left_since self.disk t left.0). inl (left.0, was, left.2))
+          (λ (has : MayLeave (shown_state V pairs s) (shown V pairs left.0)). inr (subst (λ (image : Image). MayLeave (shown_state V pairs s) image) (sym left.2) has))
+          (only.before t left.0 le left.1);
+    }

@@ -1,0 +1,93 @@
+use Rattle.std.proofs.Common.{◌<◌, ◌≡◌, ◌∙◌, List, ap, length, slice_get, subst, sym}
+use Rattle.std.proofs.lemmas.Option.{slice_get_within}
+use Rattle.cs_disk.specs.Disk.{written}
+use Rattle.cs_pair.specs.declared.pairs.Pair.{Pair}
+use Rattle.cs_pair.specs.declared.places.Place.TheVariants.{OfPair, OfTwin, Own}
+use Rattle.cs_pair.specs.Noted.{AreNotes, AreRight, IsPlace}
+use Rattle.cs_pair.specs.Pairs.{ArePairs}
+use Rattle.cs_pair.proofs.Over.{own_either, own_ok, pair_either, shows_here, time_here, whole_here}
+use Rattle.cs_pair.proofs.Right.{own_right, still_noted, still_right}
+use Rattle.cs_pair.proofs.paired.PairedPageDisk.write.Goals as goal
+
+pub write_newer-requires-clause-inside : goal.write_newer-requires-clause-inside
+write_newer-requires-clause-inside g c =
+    let k = c.in-OfPair.k in
+    let at = subst (λ (ps : List Pair). IsPlace ps c.args.number (OfPair k)) (c.deref.ensures.value ∙ sym c.deref-in-OfPair.ensures.value) c.in-OfPair.ensures in
+    slice_get_within c.deref-in-OfPair.result.now k at.0 at.1
+
+pub invariant_of-self : goal.invariant_of-self
+invariant_of-self g c =
+    let self = c.args.self.now in
+    let V = g.R.PageRules.version self.rules in
+    let disk = c.write.new.self in
+    let pairs = self.pairs.items in
+    let apart = subst (λ n. ArePairs pairs n) (sym c.write.ensures.pages) self.apart in
+    let own = subst (λ (ps : List Pair). IsPlace ps c.args.number Own) c.deref.ensures.value c.in-Own.ensures in
+    let right = λ (h : g.D.PageDisk.honest disk). let old = c.write.ensures.honest.1 h in own_right V pairs self.notes (g.D.PageDisk.state self.disk) c.args.number c.args.bytes.now own (self.right old) (g.D.PageDisk.state disk) (c.write.ensures.fault old) in
+    record {
+      apart = apart;
+      noted = self.noted;
+      right = right;
+      shows = λ h. shows_here V pairs _ _ apart (g.met.D.PageDisk.sized disk h) (right h).newer;
+      whole = λ h. whole_here V pairs _ _ apart (g.met.D.PageDisk.sized disk h) (right h).newer (g.met.D.PageDisk.whole disk h);
+    }
+
+pub invariant_of-self-in-OfTwin : goal.invariant_of-self-in-OfTwin
+invariant_of-self-in-OfTwin g c =
+    let self = c.args.self.now in
+    record {
+      apart = self.apart;
+      noted = still_noted self.pairs.items self.notes c.refuse.new.self _ c.refuse.ensures.notes self.noted;
+      right = λ h. still_right (g.R.PageRules.version self.rules) self.pairs.items self.notes _ _ _ c.refuse.ensures.notes (self.right h);
+      shows = self.shows;
+      whole = self.whole;
+    }
+
+pub invariant_of-self-in-OfPair : goal.invariant_of-self-in-OfPair
+invariant_of-self-in-OfPair g c =
+    let V = g.R.PageRules.version c.args.self.now.rules in
+    let disk = c.write_newer.new.disk in
+    let pairs = c.args.self.now.pairs.items in
+    let apart = subst (λ n. ArePairs pairs n) (sym c.write_newer.ensures.pages) c.args.self.now.apart in
+    let right = λ (h : g.D.PageDisk.honest disk). subst (λ (ps : List Pair). AreRight V ps c.write_newer.new.self (g.D.PageDisk.state disk)) c.deref-in-OfPair.ensures.value (c.write_newer.ensures.right h) in
+    record {
+      apart = apart;
+      noted = subst (λ (ps : List Pair). AreNotes ps c.write_newer.new.self) c.deref-in-OfPair.ensures.value c.write_newer.ensures.notes;
+      right = right;
+      shows = λ h. shows_here V pairs _ _ apart (g.met.D.PageDisk.sized disk h) (right h).newer;
+      whole = λ h. whole_here V pairs _ _ apart (g.met.D.PageDisk.sized disk h) (right h).newer (g.met.D.PageDisk.whole disk h);
+    }
+
+pub returns-in-Own-clause-ok : goal.returns-in-Own-clause-ok
+returns-in-Own-clause-ok g c = λ h.
+    let own = subst (λ (ps : List Pair). IsPlace ps c.args.number Own) c.deref.ensures.value c.in-Own.ensures in
+    own_ok (g.R.PageRules.version c.args.self.now.rules) c.args.self.now.pairs.items (g.D.PageDisk.state c.args.self.now.disk) _ c.args.number c.args.bytes.now own c.write.result (c.write.ensures.ok h)
+
+pub returns-in-Own-clause-fault : goal.returns-in-Own-clause-fault
+returns-in-Own-clause-fault g c = λ h.
+    let own = subst (λ (ps : List Pair). IsPlace ps c.args.number Own) c.deref.ensures.value c.in-Own.ensures in
+    own_either (g.R.PageRules.version c.args.self.now.rules) c.args.self.now.pairs.items (g.D.PageDisk.state c.args.self.now.disk) _ c.args.number c.args.bytes.now own (c.write.ensures.fault h)
+
+pub returns-in-Own-clause-time : goal.returns-in-Own-clause-time
+returns-in-Own-clause-time g c = λ h.
+    let self = c.args.self.now in
+    let disk = c.write.new.self in
+    let own = subst (λ (ps : List Pair). IsPlace ps c.args.number Own) c.deref.ensures.value c.in-Own.ensures in
+    let right = own_right (g.R.PageRules.version self.rules) self.pairs.items self.notes (g.D.PageDisk.state self.disk) c.args.number c.args.bytes.now own (self.right h) (g.D.PageDisk.state disk) (c.write.ensures.fault h) in
+    time_here (g.R.PageRules.version self.rules) self.pairs.items (g.D.PageDisk.page_count disk) (g.D.PageDisk.state disk) (subst (λ n. ArePairs self.pairs.items n) (sym c.write.ensures.pages) self.apart) (g.met.D.PageDisk.sized disk (c.write.ensures.honest.0 h)) right.newer
+    _ _ _ _ (c.write.ensures.time h)
+
+pub returns-in-OfPair-clause-fault : goal.returns-in-OfPair-clause-fault
+returns-in-OfPair-clause-fault g c = λ h.
+    let self = c.args.self.now in
+    let at = subst (λ (ps : List Pair). IsPlace ps c.args.number (OfPair c.in-OfPair.k)) (c.deref.ensures.value ∙ sym c.deref-in-OfPair.ensures.value) c.in-OfPair.ensures in
+    pair_either (g.R.PageRules.version self.rules) _ self.pairs.items (g.D.PageDisk.state self.disk) _ c.args.number at.0.page c.args.bytes.now c.deref-in-OfPair.ensures.value at.2 (c.write_newer.ensures.fault h at.0 at.1)
+
+pub returns-in-OfPair-clause-time : goal.returns-in-OfPair-clause-time
+returns-in-OfPair-clause-time g c = λ h.
+    let self = c.args.self.now in
+    let disk = c.write_newer.new.disk in
+    let later = c.write_newer.ensures.honest.0 h in
+    let right = subst (λ (ps : List Pair). AreRight (g.R.PageRules.version self.rules) ps c.write_newer.new.self (g.D.PageDisk.state disk)) c.deref-in-OfPair.ensures.value (c.write_newer.ensures.right later) in
+    time_here (g.R.PageRules.version self.rules) self.pairs.items (g.D.PageDisk.page_count disk) (g.D.PageDisk.state disk) (subst (λ n. ArePairs self.pairs.items n) (sym c.write_newer.ensures.pages) self.apart) (g.met.D.PageDisk.sized disk later) right.newer
+    _ _ _ _ (c.write_newer.ensures.time h)

@@ -1,0 +1,11 @@
+pub mod Findings
+pub mod Noted
+pub mod Paired
+pub mod Pairs
+pub mod Reads
+pub mod Stores
+pub mod Tears
+pub mod TearDisks
+pub mod Laws
+pub mod Showing
+pub mod Older

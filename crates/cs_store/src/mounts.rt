@@ -1,0 +1,103 @@
+//! Stores whose disks have the pages twice that matter most.
+ghost use Rattle.std.specs.Prelude.{◌<◌, ◌↔◌, ◌≡◌, ◌≢◌, ◌⊎◌, Err, IfErr, IfOk, MatchResult, None, OnOk, Some, [], replicate, ℕ};
+ghost use Rattle.cs_chunk.specs.Reads.{IsNoAnswer};
+ghost use Rattle.cs_core.specs.Openings.{IsOpened, IsOpeningRefusal, IsWhyNotOpened};
+ghost use Rattle.cs_core.specs.Started.{IsNewOn, new_stored};
+ghost use Rattle.cs_disk.specs.Disk.{Image, MayLeave, flushed, page, seen};
+ghost use Rattle.cs_extent.specs.State.{shape};
+ghost use Rattle.cs_frame.specs.Formats.{formats_of};
+ghost use Rattle.cs_frame.specs.Geometries.{IsGeometry, device_pages, section_size};
+ghost use Rattle.cs_image.specs.Counts.{HasCount};
+ghost use Rattle.cs_model.specs.Element.{Map};
+ghost use Rattle.cs_model.specs.Geometry.{shape_of};
+ghost use Rattle.cs_model.specs.Recovery.{Recovers};
+ghost use Rattle.cs_pair.specs.Paired.{disk_below, left_as_shown, state_shown};
+ghost use Rattle.cs_pair.specs.Pairs.{shown_state};
+ghost use Rattle.cs_pair.specs.Showing.{ShowsOn, shown_on};
+ghost use Rattle.cs_pair.specs.Stores.{store_pairs, store_version};
+ghost use Rattle.cs_store.specs.Maps.{HasMap};
+
+use crate::stores::Store;
+use cs_core::Limits;
+use cs_deps::Refusal;
+use cs_disk::PageDisk;
+use cs_frame::Geometry;
+use cs_mount::{Finding, Mounted, make_store, open_store};
+use std::alloc::Global;
+
+impl<D: PageDisk + Drop> Store<Mounted<D>> {
+    /// Makes a new store of this geometry on a disk: flushes it, writes its superblock and its root, and makes them durable. In format 3 each section and the
+    /// root have two pages; one of each is written.
+    ///
+    /// Refused 43 NotAStore where the disk hasn't the geometry's pages, 1 DeviceFault, and 9 OutOfMemory.
+    pub fn make_mounted(
+        alloc: Global,
+        disk: D,
+        geometry: Geometry,
+        limits: Limits,
+    ) -> Result<Self, Refusal>
+        ensures new { IfOk result (λ made. (made.history ≡ []) × (made.base ≡ 0) × (made.limit ≡ limits.history)) }
+        ensures store { IfOk result (λ made. made.store ≡ new_stored geometry.format geometry.extents geometry.pages geometry.sections) }
+        ensures found { IfOk result (λ made. made.found ≡ (0, 0)) }
+        // It has no shard.
+        ensures map { D.honest disk → IfOk result (λ made. HasMap made (λ id. None)) }
+        ensures written { D.honest disk → IfOk result (λ made. IsNewOn geometry.format geometry.extents geometry.pages geometry.sections (shown_state (store_version (Some geometry)) (store_pairs geometry) (flushed (D.state disk))) (state_shown made.disk)) }
+        // So it is on pages of zeros.
+        ensures zeros { D.honest disk → (D.state disk).durable ≡ replicate (device_pages geometry.format geometry.extents geometry.pages geometry.sections) (replicate 4096 0) → (D.state disk).volatile ≡ [] → IfOk result (λ made. IsNewOn geometry.format geometry.extents geometry.pages geometry.sections (record { durable = replicate (device_pages geometry.format geometry.extents geometry.pages geometry.sections) (replicate 4096 0); volatile = [] }) (state_shown made.disk)) }
+        ensures not_a_store { IfErr result (λ refusal. (refusal ≡ Refusal.NotAStore) ↔ (D.page_count disk ≢ device_pages geometry.format geometry.extents geometry.pages geometry.sections)) }
+        ensures pages { IfOk result (λ made. D.page_count (disk_below made.disk) ≡ D.page_count disk) }
+        ensures honest { IfOk result (λ made. D.honest disk ↔ D.honest (disk_below made.disk)) }
+        ensures sized { OnOk result (D.page_count disk ≡ device_pages geometry.format geometry.extents geometry.pages geometry.sections) }
+        ensures refusals { IfErr result (λ refusal. (refusal ≡ Refusal.NotAStore) ⊎ (refusal ≡ Refusal.DeviceFault) ⊎ (refusal ≡ Refusal.OutOfMemory)) }
+    {
+        match make_store(alloc, disk, geometry, limits) {
+            Ok(core) => Ok(Store {
+                alloc,
+                core,
+                findings: Vec::new(alloc),
+            }),
+            Err(refusal) => Err(refusal),
+        }
+    }
+
+    /// Opens the store on a disk, as it was made persistent or as a crash left it: flushes, and reads the superblock, the root and the index's runs, in format
+    /// 3 of two pages of each section and of the root those that are the newest and whole. `findings` tells then of those that weren't.
+    ///
+    /// Refused 43 NotAStore where no store of that many pages is on it, 20 to 26 for a page that is damaged, and its twin too where it has one, 27 RootLost
+    /// where a newer root was persistent than is whole, 1 DeviceFault, and 9 OutOfMemory.
+    pub fn open_mounted(alloc: Global, disk: D, limits: Limits) -> Result<Self, Refusal>
+        ensures new { IfOk result (λ opened. (opened.history ≡ []) × (opened.base ≡ 0) × (opened.limit ≡ limits.history)) }
+        ensures image { D.honest disk → IfOk result (λ opened. (opened.opened ≡ shown_on (D.page_count disk) (seen (D.state disk))) × (state_shown opened.disk ≡ record { durable = shown_on (D.page_count disk) (seen (D.state disk)); volatile = [] })) }
+        ensures store { IfOk result (λ opened. IsOpened (D.honest disk) opened.opened opened.found opened.store) }
+        // Where the disk shows a store of some geometry with this map, that store is opened and has this map.
+        ensures recovers { D.honest disk → (format extents pages sections : ℕ) → IsGeometry format extents pages sections → D.page_count disk ≡ device_pages format extents pages sections → (n : ℕ) (m : Map)
+            → (let S = shape_of extents pages sections (section_size extents sections) format in Recovers S (formats_of S) (page (shown_on (D.page_count disk) (seen (D.state disk)))) n m
+            → MatchResult result (λ opened. (shape opened.store.extents ≡ S) × (opened.found.0 ≡ n) × HasCount (λ id. m id ≢ None) opened.found.1 × HasMap opened m) (λ refusal. IsNoAnswer refusal)) }
+        ensures refusals { D.honest disk → IfErr result (λ refusal. IsNoAnswer refusal ⊎ IsWhyNotOpened (D.page_count disk) (page (shown_on (D.page_count disk) (seen (D.state disk)))) refusal) }
+        // Whatever the disk answers.
+        ensures number { IfErr result IsOpeningRefusal }
+        ensures small { D.page_count disk < 10 → result ≡ Err Refusal.NotAStore }
+        // A crash meanwhile leaves what shows as what one before it might have left.
+        ensures crash { D.honest disk → IfOk result (λ opened. (left : Image) → left_as_shown opened.disk (D.moment disk) left → ShowsOn (D.page_count disk) (seen (D.state disk)) (MayLeave (D.state disk)) left) }
+        ensures honest { IfOk result (λ opened. D.honest disk ↔ D.honest (disk_below opened.disk)) }
+        ensures pages { IfOk result (λ opened. D.page_count (disk_below opened.disk) ≡ D.page_count disk) }
+    {
+        match open_store(alloc, disk, limits) {
+            Ok((core, findings)) => Ok(Store {
+                alloc,
+                core,
+                findings,
+            }),
+            Err(refusal) => Err(refusal),
+        }
+    }
+}
+
+// The value of a store is its core's, so no clause tells what was found. `open_store` of cs_mount tells it by a contract.
+impl<D: PageDisk> Store<D> {
+    /// What the pages held that the store has twice, as it was opened by `open_file` or `open_mounted`: those of the root, which show as page 1, and of each
+    /// section of the superblock. `Finding::passed_over` names a page that is damaged. None of a store that was made, nor up to format 2.
+    pub fn findings(&self) -> &[Finding] {
+        &self.findings
+    }
+}
