@@ -61,10 +61,14 @@ class Model:
 
 
 def shards(program, path, names):
-    """What a store in a file holds, or why it isn't opened."""
-    lines, status = run(program, ["--file", path], "".join("get %s\n" % name for name in names))
-    if status != 0 or len(lines) != len(names):
-        return None, "status %d: %s" % (status, lines[:1])
+    """What a store in a file holds, or why it isn't opened, or that a page of it is damaged: where each page is written whole or not at all none is."""
+    text = "".join("get %s\n" % name for name in names)
+    done = subprocess.run([program, "run", "--file", path], input=text, capture_output=True, text=True)
+    lines = done.stdout.splitlines()
+    if done.returncode != 0 or len(lines) != len(names):
+        return None, "status %d: %s" % (done.returncode, lines[:1])
+    if "warning: " in done.stderr:
+        return None, done.stderr.strip()
     found = {}
     for name, line in zip(names, lines):
         if line.startswith("value "):

@@ -31,13 +31,15 @@ class Rules(NamedTuple):
     heads: bool
     # A section of the superblock records the version of the root that was persistent as it was staged.
     records: bool
+    # The root and each section of the superblock have two pages in a file, of which a version goes to the one that isn't the newest.
+    twice: bool
 
 
 RULES = {
     2: Rules(extents=range(4, 2049), pages=range(2, 257), sections=range(1, 9), most_runs=4,
-             pages_first=True, by_size=False, apart=False, fills=False, marks=False, heads=False, records=False),
+             pages_first=True, by_size=False, apart=False, fills=False, marks=False, heads=False, records=False, twice=False),
     3: Rules(extents=range(5, 7681), pages=range(2, 65536), sections=range(1, 16), most_runs=24,
-             pages_first=False, by_size=True, apart=True, fills=True, marks=True, heads=True, records=True),
+             pages_first=False, by_size=True, apart=True, fills=True, marks=True, heads=True, records=True, twice=True),
 }
 
 

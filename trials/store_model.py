@@ -15,21 +15,29 @@ class BadLine(Exception):
 
 
 class Disk:
-    def __init__(self):
-        self.durable, self.volatile = {}, []
+    """A disk by what it shows. `twins` has the other page of each that lies twice on the device below, and `turned` those whose newest half lies there: a write goes
+    to the half that isn't the newest."""
+
+    def __init__(self, durable=(), twins=(), turned=()):
+        self.durable, self.volatile = dict(durable), []
+        self.twins, self.turned = dict(twins), set(turned)
 
     def write(self, page, content):
         self.volatile.append((page, content))
 
     def flush(self):
-        self.durable.update(self.volatile)
-        self.volatile = []
+        self.crash([True] * len(self.volatile))
 
     def crash(self, kept):
         for (page, content), keep in zip(self.volatile, kept):
             if keep:
                 self.durable[page] = content
+                self.turned ^= {page} & set(self.twins)
         self.volatile = []
+
+    def half_of(self, page):
+        """The page below to which a write of this one goes."""
+        return self.twins[page] if page in self.twins and page not in self.turned else page
 
 
 class Element:

@@ -1,0 +1,98 @@
+"""Which of two pages counts in a store of format 3, by the second reader, written from docs/FORMATS.md alone."""
+import reader
+
+PAGE = reader.PAGE
+ROOT = 1
+
+
+class Pairs:
+    """The pages that a device of so many pages has twice, where a store of format 3 is on it; `page` gives the bytes of one."""
+
+    def __init__(self, count, page):
+        self.count, self.page = count, page
+        self.named = self.named_by()
+        self.pairs = []
+        if self.named is not None:
+            extents, pages, sections = self.named
+            self.pairs = [(k if k < 2 else extents * pages + k, count - 1 - k) for k in range(sections + 1)]
+
+    def named_by(self):
+        """The extents, their pages and the sections of the store: page 0 says them, where it is whole in whatever format, else the last page."""
+        for number, form in ((0, None), (self.count - 1, 3)):
+            try:
+                form, extents, pages, sections, section = reader.section(self.page(number), form)[:5]
+            except reader.Unread:
+                continue
+            fits = form == 3 and section == 0 and self.count == 2 + extents * pages + 2 * sections
+            return (extents, pages, sections) if fits else None
+        return None
+
+    def version(self, own, number):
+        """The version of what a half holds of the pair that shows as its own page, 0 where it isn't whole."""
+        page = self.page(number)
+        try:
+            if own == ROOT:
+                reader.root(page, 3)
+            else:
+                extents, pages, sections = self.named
+                which = 0 if own == 0 else own - 1 - extents * pages
+                if tuple(reader.section(page, 3)[1:5]) != (extents, pages, sections, which):
+                    return 0
+        except reader.Unread:
+            return 0
+        return int.from_bytes(page[4:12], "big")
+
+    def newest(self):
+        """Of each pair its own page, the half that counts, and the other one."""
+        for own, twin in self.pairs:
+            yield (own, own, twin) if self.version(own, own) > self.version(own, twin) else (own, twin, own)
+
+    def passed_over(self):
+        """The halves that aren't whole beside one that is, but for zeros beside a first version."""
+        found = []
+        for own, newest, other in self.newest():
+            version = self.version(own, newest)
+            if version > 0 and self.version(own, other) == 0 and (version > 1 or any(self.page(other))):
+                found.append(other)
+        return sorted(found)
+
+
+def pairs_of(image):
+    """The pairs of the store that these bytes are."""
+    return Pairs(len(image) // PAGE, lambda number: bytes(image[number * PAGE:(number + 1) * PAGE]))
+
+
+def shown(image):
+    """A store's bytes as they show: of each pair the half that counts, on its own page, and zeros on its twin."""
+    if len(image) % PAGE != 0 or len(image) < 10 * PAGE:
+        return image
+    pairs = pairs_of(image)
+    shows = bytearray(image)
+    for own, newest, _ in pairs.newest():
+        shows[own * PAGE:(own + 1) * PAGE] = pairs.page(newest)
+    for _, twin in pairs.pairs:
+        shows[twin * PAGE:(twin + 1) * PAGE] = bytes(PAGE)
+    return shows
+
+
+class Opened(reader.Store):
+    """The store that these bytes are, by the half of each pair that counts. Raises `reader.Unread` where it can't be opened."""
+
+    def __init__(self, image):
+        super().__init__(shown(image))
+
+
+def warnings(image, is_opened):
+    """What is told of a store's pairs: which half is passed over, as of which root the store is opened where that is one of the root's, and which pair has no
+    half that is whole."""
+    pairs, told = pairs_of(image), []
+    passed = pairs.passed_over()
+    for own, newest, other in pairs.newest():
+        version = pairs.version(own, newest)
+        if other in passed:
+            told.append(f"warning: page {other} is not whole; its other copy was taken")
+        if version == 0:
+            told.append(f"warning: neither page {own} nor its other copy, page {newest}, is whole")
+        if other in passed and own == ROOT and is_opened:
+            told.append(f"warning: the store opens as of root {version}; if the newest root is the one that is not whole, commands after root {version} are lost")
+    return told
