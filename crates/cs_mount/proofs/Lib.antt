@@ -1,2 +1,3 @@
+pub mod Mending
 pub mod Opened
 pub mod Torn

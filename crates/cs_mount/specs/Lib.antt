@@ -1,1 +1,2 @@
+pub mod Mends
 pub mod Torn

@@ -1,0 +1,5 @@
+pub mod Getting
+pub mod Mapped
+pub mod Newest
+pub mod Opening
+pub mod Rescuing

@@ -1,0 +1,5 @@
+pub mod Reads
+pub mod Parts
+pub mod Frames
+pub mod Shards
+pub mod Puts
