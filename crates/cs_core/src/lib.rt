@@ -38,9 +38,12 @@ mod sweeps;
 pub use contents::{Bytes, Elements};
 pub use cores::{Core, Limits};
 pub use events::{Event, OutOfMemory, Reply};
+pub use families::new_graph;
 pub use laws::{
     a_crash_of_a_run_leaves_a_prefix, a_round_lowers_heights_by_one,
     all_accepted_is_persistent_at_rest, disks_hold_what_is_persistent,
     what_a_torn_crash_leaves_is_recovered, what_may_be_staged_agrees,
     what_places_mean_is_what_the_map_has, what_places_mean_is_what_was_put,
 };
+pub use runs::are_places_located;
+pub use sections::{read_first, read_sections};

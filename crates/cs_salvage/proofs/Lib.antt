@@ -1,0 +1,13 @@
+pub mod OnlyRead
+pub mod Standing
+pub mod Orders
+pub mod Groups
+pub mod Conflicting
+pub mod Zips
+pub mod Finding
+pub mod Putting
+pub mod Grouping
+pub mod Sames
+pub mod Missings
+pub mod Wholes
+pub mod Meaning

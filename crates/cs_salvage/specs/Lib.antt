@@ -1,0 +1,6 @@
+pub mod Reads
+pub mod Parts
+pub mod Frames
+pub mod Shards
+pub mod Missing
+pub mod Puts

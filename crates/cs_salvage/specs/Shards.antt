@@ -1,0 +1,69 @@
+-- Whole shards: puts all of whose parts are there.
+use Rattle.std.specs.Prelude.{◌≡◌, ◌≢◌, ◌⊎◌, ◌<◌, ◌≤◌, ℕ, List, length, All, Contains, slice_index_or}
+use Rattle.std.specs.List.{AllPairs}
+use Rattle.std.specs.Cmp.Lexicographic.{slice_cmp}
+use Rattle.std.specs.declared.cmp.Ordering.TheVariants.{Less}
+use Rattle.std.specs.Ordering.{nat_cmp}
+use Rattle.cs_disk.specs.Disk.{Image}
+use Rattle.cs_frame.specs.declared.identifiers.ShardId.{ShardId}
+use Rattle.cs_frame.specs.Geometries.{Dimensions}
+use Rattle.cs_salvage.specs.Parts.{IsChunkAt, IsPart}
+use Rattle.cs_salvage.specs.declared.parts.Part.{Part}
+use Rattle.cs_salvage.specs.declared.parts.Put.{Put}
+use Rattle.cs_salvage.specs.declared.shards.WholeShard.{WholeShard}
+
+-- the put that a part is of, by its head
+abbrev pub put_of : Part → Put
+put_of part = record { id = part.head.id; command = part.head.command }
+
+-- Two parts can't be of the same bytes: they say different numbers of chunks, or have different payloads of one number.
+abbrev pub Conflict : Part → Part → Type 0
+Conflict a b = (a.head.count ≢ b.head.count) ⊎ ((a.head.number ≡ b.head.number) × (a.digest ≢ b.digest))
+
+-- two parts of the put are there that conflict
+pub record IsAmbiguous (parts : List Part) (put : Put) : Type 0 where
+  pub one : Part
+  pub other : Part
+  pub one_there : Contains parts one
+  pub other_there : Contains parts other
+  pub one_of : put_of one ≡ put
+  pub other_of : put_of other ≡ put
+  pub conflict : Conflict one other
+
+-- These are the parts of a put, one of each number, in order, as many as each of them says; and no two parts of the put conflict.
+pub record AreAllOf (parts : List Part) (put : Put) (pieces : List Part) : Type 0 where
+  pub some : 0 < length pieces
+  pub there : All (Contains parts) pieces
+  pub own : All (λ piece. put_of piece ≡ put) pieces
+  pub numbered : (k : ℕ) (d : Part) → k < length pieces → (slice_index_or pieces k d).head.number ≡ k
+  pub counted : All (λ (piece : Part). piece.head.count ≡ length pieces) pieces
+  pub clear : IsAmbiguous parts put → ⊥
+
+-- all parts of the put are there
+abbrev pub IsWhole : List Part → Put → Type 0
+IsWhole parts put = (pieces : List Part) × AreAllOf parts put pieces
+
+-- an identifier comes before another, as their bytes do
+abbrev pub ComesBefore : ShardId → ShardId → Type 0
+ComesBefore a b = slice_cmp nat_cmp a.0 b.0 ≡ Less
+
+-- These are the shards of which some put is whole, each once, in the order of their identifiers, and each as its newest whole put has it.
+pub record AreNewest (parts : List Part) (shards : List WholeShard) : Type 0 where
+  pub whole : All (λ (shard : WholeShard). AreAllOf parts shard.put shard.parts.items) shards
+  pub newest : All (λ (shard : WholeShard). (put : Put) → put.id ≡ shard.put.id → IsWhole parts put → put.command ≤ shard.put.command) shards
+  pub there : (put : Put) → IsWhole parts put → (shard : WholeShard) × Contains shards shard × (shard.put.id ≡ put.id)
+  pub ordered : AllPairs (λ (a b : WholeShard). ComesBefore a.put.id b.put.id) shards
+
+-- These are the puts that are ambiguous, each once.
+pub record AreAmbiguous (parts : List Part) (puts : List Put) : Type 0 where
+  pub sound : All (IsAmbiguous parts) puts
+  pub complete : (put : Put) → IsAmbiguous parts put → Contains puts put
+  pub once : AllPairs (λ (a b : Put). a ≢ b) puts
+
+-- the parts of a put on the device have these payloads and no others
+abbrev pub HasOnly : Dimensions → Image → Put → (payloads : List (List ℕ)) → Type 0
+HasOnly g image put payloads = (part : Part) (payload : List ℕ) → IsPart g image part payload → put_of part ≡ put → Contains payloads payload
+
+-- of each of the payloads a whole frame stands on the device
+abbrev pub HasFrames : Dimensions → Image → (payloads : List (List ℕ)) → Type 0
+HasFrames g image payloads = (payload : List ℕ) → Contains payloads payload → (extent : ℕ) × (first : ℕ) × IsChunkAt g image extent first payload
