@@ -1,2 +1,4 @@
+pub mod Aged
+pub mod Looking
 pub mod Opened
 pub mod Torn

@@ -1,5 +1,5 @@
 // Stores over disks in pairs: how they are made and opened.
-ghost use Rattle.std.specs.Prelude.{◌≡◌, ◌≢◌, ◌⊎◌, ◌↔◌, ◌<◌, ℕ, [], Err, IfErr, IfOk, MatchResult, None, OnOk, Some, replicate};
+ghost use Rattle.std.specs.Prelude.{◌≡◌, ◌≢◌, ◌⊎◌, ◌↔◌, ◌<◌, ℕ, [], Contains, Err, IfErr, IfOk, IsErr, MatchResult, None, OnOk, Some, replicate};
 ghost use Rattle.cs_chunk.specs.Reads.{IsNoAnswer};
 ghost use Rattle.cs_core.specs.Openings.{IsOpened, IsOpeningRefusal, IsWhyNotOpened};
 ghost use Rattle.cs_core.specs.Started.{IsNewOn, new_stored};
@@ -12,10 +12,12 @@ ghost use Rattle.cs_model.specs.Element.{Map};
 ghost use Rattle.cs_model.specs.Geometry.{shape_of};
 ghost use Rattle.cs_model.specs.Recovery.{Recovers};
 ghost use Rattle.cs_pair.specs.Paired.{disk_below, left_as_shown, state_shown};
-ghost use Rattle.cs_pair.specs.Pairs.{shown_state};
+ghost use Rattle.cs_pair.specs.declared.pairs.Pair.{Pair};
+ghost use Rattle.cs_pair.specs.Pairs.{held_in, shown_state};
 ghost use Rattle.cs_pair.specs.Showing.{ShowsOn, findings_on, shown_on};
-ghost use Rattle.cs_pair.specs.Stores.{store_pairs, store_version};
+ghost use Rattle.cs_pair.specs.Stores.{dimensions_on, store_pairs, store_version};
 
+use crate::looks::is_taken;
 use cs_chunk::refusal_of_disk;
 use cs_core::{Core, Limits};
 use cs_deps::Refusal;
@@ -27,9 +29,11 @@ use std::alloc::Global;
 /// A disk over which a store lies: in format 3 its most important pages have two pages each.
 pub type Mounted<D> = Paired<D, StoreRules>;
 
-/// Makes a new store of this geometry on a disk that holds none: flushes the disk, writes the superblock and the root, each of them once, and makes them durable.
+/// Makes a new store of this geometry on a disk that holds none of format 3: looks for one, flushes the disk, writes the superblock and the root, each of them once, and makes them
+/// durable. Over a store of an earlier format it is made as over anything else.
 ///
-/// Refused 43 NotAStore where the disk hasn't the geometry's pages, 1 DeviceFault, and 9 OutOfMemory.
+/// Refused 43 NotAStore where the disk hasn't the geometry's pages; 1 DeviceFault where a store of format 3 is on the disk, of whatever dimensions, or one of the pages is whole that the
+/// new store has twice, and then nothing is written or flushed; 1 where the device refuses a call, and 9 OutOfMemory.
 pub fn make_store<D: PageDisk + Drop>(
     alloc: Global,
     disk: D,
@@ -48,6 +52,9 @@ pub fn make_store<D: PageDisk + Drop>(
     ensures sized { OnOk result (D.page_count disk ≡ device_pages geometry.format geometry.extents geometry.pages geometry.sections) }
     ensures not_a_store { IfErr result (λ refusal. (refusal ≡ Refusal.NotAStore) ↔ (D.page_count disk ≢ device_pages geometry.format geometry.extents geometry.pages geometry.sections)) }
     ensures refusals { IfErr result (λ refusal. (refusal ≡ Refusal.NotAStore) ⊎ (refusal ≡ Refusal.DeviceFault) ⊎ (refusal ≡ Refusal.OutOfMemory)) }
+    // No store is made over one of format 3, nor over a half of a pair that is whole.
+    ensures taken { D.honest disk → dimensions_on (D.page_count disk) (seen (D.state disk)) ≢ None → IsErr result }
+    ensures held { D.honest disk → (x : Pair) → Contains (store_pairs geometry) x → 0 < (held_in (store_version (Some geometry)) (seen (D.state disk)) x).version → IsErr result }
 {
     // Called for its contract alone: what every geometry keeps.
     geometry.extents();
@@ -61,6 +68,12 @@ pub fn make_store<D: PageDisk + Drop>(
     let Ok(pairs) = rules.pairs() else {
         return Err(Refusal::OutOfMemory);
     };
+    let mut disk = disk;
+    match is_taken(alloc, &mut disk, &rules, &pairs) {
+        Ok(false) => {}
+        Ok(true) => return Err(Refusal::DeviceFault),
+        Err(fault) => return Err(refusal_of_disk(fault)),
+    }
     match Paired::new(alloc, disk, rules, pairs) {
         Ok(paired) => match Core::format(alloc, paired, geometry, limits) {
             Ok(core) => Ok(core),

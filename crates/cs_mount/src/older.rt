@@ -1,27 +1,75 @@
 // Stores that are opened as of an older root.
-ghost use Rattle.std.specs.Prelude.{◌≡◌, [], IfErr, IfOk};
+ghost use Rattle.std.specs.Prelude.{◌≡◌, ◌≢◌, ◌↔◌, ◌<◌, ◌≤◌, [], IfErr, IfOk, None, OnOk, Some};
+ghost use Rattle.cs_chunk.specs.Reads.{IsNoAnswer};
 ghost use Rattle.cs_core.specs.Openings.{IsOpened, IsOpeningRefusal};
+ghost use Rattle.cs_disk.specs.Disk.{seen};
+ghost use Rattle.cs_mount.specs.Older.{older_on, root_found};
+ghost use Rattle.cs_pair.specs.OlderDisks.{shown_below, state_lowered};
+ghost use Rattle.cs_pair.specs.Paired.{disk_below};
+ghost use Rattle.cs_pair.specs.Reads.{OnlyReads};
+ghost use Rattle.cs_pair.specs.Showing.{findings_on};
+ghost use Rattle.cs_pair.specs.Stores.{dimensions_on, pages_of};
 
 use crate::mounts::Mounted;
 use cs_chunk::refusal_of_disk;
 use cs_core::{Core, Limits};
 use cs_deps::Refusal;
 use cs_disk::PageDisk;
+use cs_frame::Geometry;
 use cs_pair::{AsOf, Finding, find_geometry, open_store as open_pairs};
 use std::alloc::Global;
 
-/// The page under whose number both pages of the root show.
-const ROOT: u64 = 1;
+/// Where the findings of a store tell of its root.
+const ROOT: usize = 1;
 
-/// The version of the newest root that is whole, 0 where none is.
-fn newest_root(found: &[Finding]) -> u64 {
-    let mut version = 0;
-    for finding in found {
-        if finding.pair.page == ROOT {
-            version = finding.held().version;
-        }
+/// The version of the newest root that is whole, by what the pairs of a store hold: 0 where none is.
+fn newest_root(found: &[Finding]) -> u64
+    ensures { result ≡ root_found found.now }
+{
+    match found.get(ROOT) {
+        Some(finding) => finding.held().version,
+        None => 0,
     }
-    version
+}
+
+/// The geometry of the store of format 3 that is on a disk. Refused 43 NotAStore where there is none.
+fn find_older<D: PageDisk>(alloc: Global, disk: &mut D) -> Result<Geometry, Refusal>
+    requires { 0 < D.page_count disk.old }
+    ensures found { D.honest disk.old → IfOk result (λ found. Some found ≡ dimensions_on (D.page_count disk.old) (seen (D.state disk.old))) }
+    ensures sized { IfOk result (λ found. pages_of found ≡ D.page_count disk.old) }
+    ensures disk { OnlyReads D.PageDisk disk.old disk.new }
+    ensures number { IfErr result IsOpeningRefusal }
+{
+    match find_geometry(alloc, disk) {
+        Ok(Some(geometry)) => Ok(geometry),
+        Ok(None) => Err(Refusal::NotAStore),
+        Err(fault) => Err(refusal_of_disk(fault)),
+    }
+}
+
+/// The disk of the store of this geometry as of the newest root that is whole, and what the pages hold that it has twice.
+fn show_older<D: PageDisk + Drop>(
+    alloc: Global,
+    disk: D,
+    geometry: Geometry,
+) -> Result<(AsOf<Mounted<D>>, Vec<Finding>), Refusal>
+    requires some { 10 ≤ D.page_count disk }
+    requires sized { pages_of geometry ≡ D.page_count disk }
+    ensures shown { D.honest disk → Some geometry ≡ dimensions_on (D.page_count disk) (seen (D.state disk)) → IfOk result (λ shown. state_lowered shown.0 ≡ record { durable = older_on (D.page_count disk) (seen (D.state disk)); volatile = [] }) }
+    ensures findings { D.honest disk → IfOk result (λ shown. shown.1.items ≡ findings_on (D.page_count disk) (seen (D.state disk))) }
+    ensures honest { IfOk result (λ shown. D.honest disk ↔ D.honest (disk_below (shown_below shown.0))) }
+    ensures pages { IfOk result (λ shown. D.page_count (disk_below (shown_below shown.0)) ≡ D.page_count disk) }
+    ensures refusals { IfErr result (λ refusal. IsNoAnswer refusal) }
+{
+    // Called for its contract alone: what every geometry keeps.
+    geometry.extents();
+    match open_pairs(alloc, disk) {
+        Ok((paired, found)) => {
+            let root = newest_root(&found);
+            Ok((AsOf::new(alloc, paired, geometry, root), found))
+        }
+        Err((fault, _)) => Err(refusal_of_disk(fault)),
+    }
 }
 
 /// Opens the store of format 3 on a disk as of the newest root that is whole, though a newer one was persistent: so some commands that were acknowledged are lost. Nothing is
@@ -35,26 +83,28 @@ pub fn open_older_store<D: PageDisk + Drop>(
     limits: Limits,
 ) -> Result<(Core<AsOf<Mounted<D>>>, Vec<Finding>), Refusal>
     ensures new { IfOk result (λ opened. (opened.0.history ≡ []) × (opened.0.base ≡ 0) × (opened.0.limit ≡ limits.history)) }
-    ensures store { IfOk result (λ opened. IsOpened ⊥ opened.0.opened opened.0.found opened.0.store) }
+    // What it shows, by which it is opened: no section of it records a later root than the newest that is whole.
+    ensures image { D.honest disk → IfOk result (λ opened. (opened.0.opened ≡ older_on (D.page_count disk) (seen (D.state disk))) × (state_lowered opened.0.disk ≡ record { durable = older_on (D.page_count disk) (seen (D.state disk)); volatile = [] })) }
+    ensures store { IfOk result (λ opened. IsOpened (D.honest disk) opened.0.opened opened.0.found opened.0.store) }
+    ensures there { D.honest disk → OnOk result (dimensions_on (D.page_count disk) (seen (D.state disk)) ≢ None) }
+    ensures findings { D.honest disk → IfOk result (λ opened. opened.1.items ≡ findings_on (D.page_count disk) (seen (D.state disk))) }
     ensures number { IfErr result IsOpeningRefusal }
+    ensures honest { IfOk result (λ opened. D.honest disk ↔ D.honest (disk_below (shown_below opened.0.disk))) }
+    ensures pages { IfOk result (λ opened. D.page_count (disk_below (shown_below opened.0.disk)) ≡ D.page_count disk) }
 {
     if disk.pages() < 10 {
         return Err(Refusal::NotAStore);
     }
     let mut disk = disk;
-    let geometry = match find_geometry(alloc, &mut disk) {
-        Ok(Some(geometry)) => geometry,
-        Ok(None) => return Err(Refusal::NotAStore),
-        Err(fault) => return Err(refusal_of_disk(fault)),
+    let geometry = match find_older(alloc, &mut disk) {
+        Ok(geometry) => geometry,
+        Err(refusal) => return Err(refusal),
     };
-    match open_pairs(alloc, disk) {
-        Ok((paired, found)) => {
-            let older = AsOf::new(alloc, paired, geometry, newest_root(&found));
-            match Core::open(alloc, older, limits) {
-                Ok(core) => Ok((core, found)),
-                Err((refusal, _)) => Err(refusal),
-            }
-        }
-        Err((fault, _)) => Err(refusal_of_disk(fault)),
+    match show_older(alloc, disk, geometry) {
+        Ok((older, found)) => match Core::open(alloc, older, limits) {
+            Ok(core) => Ok((core, found)),
+            Err((refusal, _)) => Err(refusal),
+        },
+        Err(refusal) => Err(refusal),
     }
 }

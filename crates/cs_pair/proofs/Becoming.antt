@@ -1,5 +1,5 @@
 -- What becomes of volatile writes where a crash tears pages.
-use Rattle.std.proofs.Common.{◌≡◌, ◌≢◌, ◌⊎◌, inl, inr, ⊎_elim, ℕ, zero, suc, ◌+◌, ◌<◌, ◌≤◌, Bool, true, false, List, [], ◌∷◌, ◌++◌, Some, slice_get, get_or, set, take, length, replicate, Result, Ok, Err, OnOk, refl, sym, ◌∙◌, ap, subst, arith, add-one}
+use Rattle.std.proofs.Common.{◌≡◌, ◌≢◌, ◌⊎◌, inl, inr, ⊎_elim, ℕ, zero, suc, ◌+◌, ◌<◌, ◌≤◌, Bool, true, false, List, [], ◌∷◌, get_or, set, take, length, replicate, Result, Ok, Err, OnOk, refl, sym, ◌∙◌, ap, subst, arith, add-one}
 use Rattle.std.proofs.lemmas.Bool.{cases_eq}
 use Rattle.std.proofs.lemmas.List.{length-set, set_past}
 use Rattle.cs_disk.specs.Disk.{Image, State, Write, applied, crashed, flushed, kept, page, seen, written}
@@ -8,7 +8,7 @@ use Rattle.cs_pair.specs.declared.pairs.Pair.{Pair}
 use Rattle.cs_pair.specs.declared.fates.Fate.{Fate}
 use Rattle.cs_pair.specs.declared.fates.Fate.TheVariants.{Kept, Lost, Torn}
 use Rattle.cs_pair.specs.Pairs.{Versions}
-use Rattle.cs_pair.specs.Tears.{HasWaitingWrite, IsLeft, IsTornBy, MayTear, NoneLooksWhole, after_fate, left_by, spliced}
+use Rattle.cs_pair.specs.Tears.{IsTornBy, MayTear, NoneLooksWhole, after_fate, left_by, spliced}
 
 -- a write past the last page
 pub fate_past : (image : Image) (w : Write) (fate : Fate) → length image ≤ w.0 → after_fate image w fate ≡ image

@@ -1,5 +1,5 @@
 -- A device of zeros shows zeros.
-use Rattle.std.proofs.Common.{All, ◌+◌, ◌≡◌, ◌⊎◌, ⊎_elim, inl, inr, ◌==◌, ℕ, ◌<◌, Bool, List, [], length, map, replicate, refl, sym, ◌∙◌, ap, subst, arith, if◌then◌else◌}
+use Rattle.std.proofs.Common.{All, ◌+◌, ◌≡◌, ◌⊎◌, inl, inr, ℕ, List, [], map, replicate, refl, sym, ◌∙◌, ap, subst, arith}
 use Rattle.std.proofs.lemmas.List.{ext_get_or, get_or-replicate, length-replicate}
 use Rattle.std.specs.List.{range_with_len}
 use Rattle.cs_disk.specs.Disk.{Image, State, applied, flushed, seen}

@@ -1,14 +1,13 @@
 -- What is noted of pairs, as it is read, written and flushed.
-use Rattle.std.proofs.Common.{◌≡◌, ◌⊎◌, inl, inr, ⊎_elim, ℕ, ◌+◌, ◌<◌, ◌≤◌, Bool, true, false, not, if◌then◌else◌, List, [], ◌∷◌, ◌++◌, Some, slice_get, get_or, set, take, length, map, nat_le, refl, sym, ◌∙◌, ap, subst, arith}
+use Rattle.std.proofs.Common.{◌≡◌, ℕ, ◌+◌, ◌<◌, ◌≤◌, Bool, true, false, if◌then◌else◌, List, [], ◌∷◌, ◌++◌, get_or, set, take, length, map, refl, sym, ◌∙◌, ap, subst, arith}
 use Rattle.std.proofs.lemmas.List.{map_more, take_all, take_more_set}
 use Rattle.std.proofs.lemmas.Option.{slice_get-get_or}
-use Rattle.cs_disk.specs.Disk.{Image, State, Write, applied, page, seen, written, flushed}
+use Rattle.cs_disk.specs.Disk.{Image, State, seen}
 use Rattle.cs_pair.specs.declared.findings.Finding.{Finding}
-use Rattle.cs_pair.specs.declared.notes.Notes.{Notes}
 use Rattle.cs_pair.specs.declared.pairs.Held.{Held}
 use Rattle.cs_pair.specs.declared.pairs.Pair.{Pair}
 use Rattle.cs_pair.specs.Findings.{finding_in, held_of}
-use Rattle.cs_pair.specs.Pairs.{ArePairs, AreNoOlder, Versions, half, held_in, is_turned, version_at}
+use Rattle.cs_pair.specs.Pairs.{ArePairs, Versions, half, held_in, is_turned, version_at}
 
 -- ---- reads
 

@@ -13,8 +13,11 @@ pub mod Tearing
 pub mod Unpaired
 pub mod Becoming
 pub mod Mending
+pub mod MendingAll
 pub mod Telling
 pub mod Mounting
 pub mod Lowering
+pub mod Sealing
+pub mod Aging
 pub mod Blank
 pub mod Refinding

@@ -1,5 +1,5 @@
 -- A half that is damaged is written anew, with what the other holds.
-use Rattle.std.proofs.Common.{◌≡◌, ◌≢◌, ◌⊎◌, inl, inr, ⊎_elim, if◌then◌else◌, ◌==◌, ◌&&◌, ℕ, zero, suc, ◌+◌, ◌<◌, ◌≤◌, Bool, true, false, not, List, [], ◌∷◌, ◌++◌, Option, Some, None, IfSome, slice_get, get_or, set, length, map, nat_le, nat_lt, Result, Ok, Err, OnErr, OnOk, refl, sym, ◌∙◌, ap, subst, arith}
+use Rattle.std.proofs.Common.{◌≡◌, ◌⊎◌, inl, inr, ⊎_elim, if◌then◌else◌, ◌==◌, ◌&&◌, ℕ, zero, suc, ◌+◌, ◌<◌, ◌≤◌, Bool, true, false, not, List, [], ◌∷◌, ◌++◌, Option, Some, None, IfSome, slice_get, get_or, set, length, nat_le, nat_lt, Result, Ok, Err, OnErr, OnOk, refl, sym, ◌∙◌, ap, subst, arith}
 use Rattle.std.proofs.lemmas.Bool.{and_parts}
 use Rattle.std.proofs.lemmas.Bool.Decides.{nat_tests}
 use Rattle.std.proofs.lemmas.List.{length_push, set-get_or}
@@ -17,14 +17,14 @@ use Rattle.cs_pair.specs.declared.pairs.Held.{Held}
 use Rattle.cs_pair.specs.declared.pairs.Pair.{Pair}
 use Rattle.cs_pair.specs.Findings.{finding_in, held_of, is_damaged, is_halved, mended, other_half, passed_over}
 use Rattle.cs_pair.specs.Noted.{AreRight}
-use Rattle.cs_pair.specs.Pairs.{ArePairs, AreNoOlder, IsNoOlder, Versions, half, is_turned, shown, shown_page, shown_state, shown_write, shows_as, version_at}
+use Rattle.cs_pair.specs.Pairs.{ArePairs, AreNoOlder, IsNoOlder, Versions, half, is_turned, left_shown, shown, shown_state, shows_as, version_at}
 use Rattle.cs_pair.specs.Reads.{OnlyReads}
 use Rattle.cs_pair.proofs.Holding.{held_found}
 use Rattle.cs_pair.proofs.Leaving.{are_on, seen_shown, shows_left}
 use Rattle.cs_pair.proofs.Opening.{reads_alone}
 use Rattle.cs_pair.proofs.Right.{pushed_at}
 use Rattle.cs_pair.proofs.Roles.{shown_page-own, shows_as-half}
-use Rattle.cs_pair.proofs.Shown.{Newer, by_halves, length-shown, page-shown, shown-applied}
+use Rattle.cs_pair.proofs.Shown.{Newer, by_halves, page-shown, shown-applied}
 
 -- ---- which half it is
 
@@ -33,7 +33,7 @@ pub record IsMended (V : Versions) (image : Image) (x : Pair) (p : ℕ) : Type 0
   pub other : p ≡ half x (not (is_turned V image x))
   pub is : mended V image x ≡ set image p (page image (half x (is_turned V image x)))
 
-damaged_half : (V : Versions) (image : Image) (x : Pair) (p : ℕ) → Some p ≡ passed_over (finding_in V image x) → IsMended V image x p
+pub damaged_half : (V : Versions) (image : Image) (x : Pair) (p : ℕ) → Some p ≡ passed_over (finding_in V image x) → IsMended V image x p
 damaged_half V image x p is = by_test (is_halved (finding_in V image x)) refl is
   where
     by_test : (b : Bool) → is_halved (finding_in V image x) ≡ b → Some p ≡ (if b then Some (half x (not (is_turned V image x))) else None) → IsMended V image x p
@@ -358,6 +358,15 @@ module _ (V : Versions) (pairs : List Pair) (n : ℕ) (s : State) (are : ArePair
       leaves_then disks.moment disks.left_since old mid new (λ c. MayLeave (shown_state V pairs s) (shown V pairs c)) first
       (leaves_more disks.moment disks.left_since mid new (λ c. shown V pairs c ≡ shown V pairs (disks.state mid).durable) (λ c. MayLeave (shown_state V pairs s) (shown V pairs c))
       (λ c same. shows_seen c (same ∙ ap (λ (z : State). shown V pairs z.durable) flush)) more)
+
+-- of the disk as it shows
+pub leaves_as_shown : {D : Type 0} (disks : PageDisk D) (V : Versions) (pairs : List Pair) (old new : D) (P : Image → Type 0) → LeavesOnly disks.moment disks.left_since old new (λ c. P (shown V pairs c))
+    → LeavesOnly disks.moment (λ d. left_shown V pairs (disks.left_since d)) old new P
+leaves_as_shown disks V pairs old new P only = record {
+  later = only.later;
+  each = λ c left. subst P (sym left.2) (only.each left.0 left.1);
+  before = λ t c le left. ⊎_elim (λ (was : disks.left_since old t left.0). inl (left.0, was, left.2)) (λ (has : P (shown V pairs left.0)). inr (subst P (sym left.2) has)) (only.before t left.0 le left.1);
+}
 
 -- what a call that succeeded left has no page that is passed over
 pub none_left_ok : {T E : Type 0} (result : Result T E) (V : Versions) (pairs : List Pair) (n : ℕ) (s now : State) (k : ℕ) (x : Pair) → ArePairs pairs n → length s.durable ≡ n → slice_get pairs k ≡ Some x

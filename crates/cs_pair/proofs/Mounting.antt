@@ -1,5 +1,5 @@
 -- What a disk in pairs shows as it is made and as it is opened.
-use Rattle.std.proofs.Common.{◌≡◌, ◌∙◌, ◌⊎◌, ⊎_elim, ℕ, ◌≤◌, List, [], Option, Result, Ok, Err, IfOk, MatchResult, sym, ap, subst}
+use Rattle.std.proofs.Common.{◌≡◌, ◌∙◌, ⊎_elim, ℕ, ◌≤◌, List, [], Option, Result, Ok, Err, IfOk, MatchResult, ap, subst}
 use Rattle.cs_disk.specs.Disk.{Image, LeavesOnly, MayLeave, State, flushed, seen}
 use Rattle.cs_disk.proofs.Crashes.{MayLeave-flushed, seen_MayLeave}
 use Rattle.cs_pair.specs.declared.pairs.Pair.{Pair}

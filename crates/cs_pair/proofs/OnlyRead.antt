@@ -1,8 +1,8 @@
 -- Reads one after another, and a call behind them.
-use Rattle.std.proofs.Common.{◌≡◌, ◌∙◌, ◌⊎◌, ℕ, ◌+◌, ◌≤◌, List, sym, ap, subst, inl, inr, ⊎_elim, arith, Result}
+use Rattle.std.proofs.Common.{◌∙◌, ℕ, ◌≤◌, sym, subst, inl, inr, ⊎_elim, arith, Result}
 use Rattle.cs_disk.specs.declared.disk.PageDisk.{Ghosts as PageDisk}
 use Rattle.cs_disk.specs.declared.fault.DiskFault.{DiskFault}
-use Rattle.cs_disk.specs.Disk.{Elapses, GoesOn, HasCause, Image, MayLeave, Rises, State}
+use Rattle.cs_disk.specs.Disk.{GoesOn, HasCause, Image, MayLeave, State}
 use Rattle.cs_pair.specs.Reads.{OnlyReads}
 
 -- what was refused after some more calls

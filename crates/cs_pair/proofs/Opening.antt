@@ -1,5 +1,5 @@
 -- What an opening finds.
-use Rattle.std.proofs.Common.{◌≡◌, ◌⊎◌, inl, inr, ⊎_elim, ℕ, ◌≤◌, List, map, Result, Ok, Err, MatchResult, sym, ◌∙◌, ap, subst, arith}
+use Rattle.std.proofs.Common.{◌≡◌, inl, inr, ⊎_elim, ℕ, ◌≤◌, List, map, Result, Ok, Err, MatchResult, sym, ◌∙◌, ap, subst, arith}
 use Rattle.cs_disk.specs.declared.disk.PageDisk.{Ghosts as PageDisk}
 use Rattle.cs_disk.specs.Disk.{Elapses, Image, LeavesOnly, MayLeave, State, flushed, seen}
 use Rattle.cs_disk.proofs.Crashes.{Leaves-flushed}

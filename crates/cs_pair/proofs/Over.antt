@@ -1,11 +1,11 @@
 -- A disk in pairs, over the disk below.
-use Rattle.std.proofs.Common.{◌≡◌, ◌⊎◌, inl, inr, ℕ, ◌<◌, Bool, List, [], Some, Result, Ok, Err, OnOk, slice_get, length, map, sym, ◌∙◌, ap, subst, arith}
-use Rattle.cs_disk.specs.Disk.{Elapses, Image, IsWhole, LeavesOnly, MayLeave, State, Write, applied, crashed, flushed, kept, page, seen, written}
+use Rattle.std.proofs.Common.{◌≡◌, ◌⊎◌, inl, inr, ℕ, ◌<◌, Bool, List, [], Some, Result, Ok, Err, OnOk, slice_get, length, sym, ◌∙◌, ap, subst, arith}
+use Rattle.cs_disk.specs.Disk.{Elapses, Image, IsWhole, LeavesOnly, MayLeave, State, crashed, flushed, page, seen, written}
 use Rattle.cs_disk.proofs.Images.{length-applied}
-use Rattle.cs_disk.proofs.Moments.{IsSafe, flushes, started}
+use Rattle.cs_disk.proofs.Moments.{flushes, started}
 use Rattle.cs_pair.specs.declared.pairs.Pair.{Pair}
 use Rattle.cs_pair.specs.Laws.{ShowsKept}
-use Rattle.cs_pair.specs.Pairs.{ArePairs, AreNoOlder, Versions, blank, half, is_turned, left_shown, shown, shown_page, shown_state}
+use Rattle.cs_pair.specs.Pairs.{ArePairs, AreNoOlder, Versions, blank, half, is_turned, left_shown, shown_page, shown_state}
 use Rattle.cs_pair.proofs.Leaving.{are_on, elapses_shown, seen_shown, shown_kept, whole_shown}
 use Rattle.cs_pair.proofs.Roles.{IsOwn, shown_page-none, shown_page-own, shown_page-twin, shows_as-none}
 use Rattle.cs_pair.proofs.Shown.{page-shown}

@@ -1,8 +1,8 @@
 -- From what a crash leaves the dimensions of a store are found again.
-use Rattle.std.proofs.Common.{◌≡◌, ◌≢◌, ◌⊎◌, inl, inr, ⊎_elim, if◌then◌else◌, ◌==◌, ℕ, suc, ◌+◌, ◌-◌, ◌<◌, ◌≤◌, Bool, true, false, List, [], Option, Some, None, slice_get, length, map, nat_le, refl, sym, ◌∙◌, ap, subst, arith, eq-eqb}
+use Rattle.std.proofs.Common.{◌≡◌, ◌≢◌, ◌⊎◌, inl, inr, ⊎_elim, if◌then◌else◌, ℕ, suc, ◌+◌, ◌-◌, ◌<◌, Bool, true, false, List, [], Option, Some, None, slice_get, length, map, nat_le, refl, sym, ◌∙◌, ap, subst, arith, eq-eqb}
 use Rattle.std.proofs.lemmas.Bool.Decides.{nat_tests}
 use Rattle.std.specs.List.{range_with_len}
-use Rattle.cs_disk.specs.Disk.{Image, State, Write, applied, kept, latest, page}
+use Rattle.cs_disk.specs.Disk.{Image, State, Write, kept, latest, page}
 use Rattle.cs_disk.proofs.Images.{page-applied}
 use Rattle.cs_frame.specs.FirstFormat.{page_zero_fault}
 use Rattle.cs_frame.specs.Geometries.{Dimensions, IsGeometry}

@@ -1,15 +1,13 @@
 -- What is noted stays right.
-use Rattle.std.proofs.Common.{◌≡◌, ◌≢◌, ◌⊎◌, inl, inr, ⊎_elim, ℕ, zero, suc, ◌+◌, ◌<◌, ◌≤◌, Bool, true, false, not, List, [], ◌∷◌, ◌++◌, Some, slice_get, get_or, set, length, map, refl, sym, ◌∙◌, ap, subst, arith}
+use Rattle.std.proofs.Common.{◌≡◌, ◌⊎◌, inl, inr, ⊎_elim, ℕ, zero, suc, ◌<◌, List, [], ◌∷◌, ◌++◌, Some, slice_get, length, map, refl, sym, ◌∙◌, ap, subst}
 use Rattle.std.proofs.lemmas.Option.{same_Some}
 use Rattle.cs_disk.proofs.Images.{applied_push, page-applied, page_other}
-use Rattle.cs_disk.specs.Disk.{Image, State, Write, applied, flushed, page, seen, written}
+use Rattle.cs_disk.specs.Disk.{Image, State, Write, flushed, page, seen, written}
 use Rattle.cs_pair.specs.declared.notes.Notes.{Notes}
-use Rattle.cs_pair.specs.declared.notes.Trust.{Trust}
-use Rattle.cs_pair.specs.declared.notes.Trust.TheVariants.{Doubted, Read, Unread}
-use Rattle.cs_pair.specs.declared.pairs.Held.{Held}
+use Rattle.cs_pair.specs.declared.notes.Trust.TheVariants.{Read, Unread}
 use Rattle.cs_pair.specs.declared.pairs.Pair.{Pair}
 use Rattle.cs_pair.specs.Noted.{AreNotes, AreRight, NoneIsWritten}
-use Rattle.cs_pair.specs.Pairs.{ArePairs, AreNoOlder, Versions, half, held_in}
+use Rattle.cs_pair.specs.Pairs.{ArePairs, Versions, half, held_in}
 use Rattle.cs_pair.proofs.Roles.{IsOwn}
 use Rattle.cs_pair.proofs.Shown.{held_same, latest_none}
 

@@ -1,15 +1,15 @@
 -- What a crash leaves of a disk shows as what a crash might leave of the disk as it shows.
-use Rattle.std.proofs.Common.{◌≡◌, ◌≢◌, ◌⊎◌, inl, inr, ⊎_elim, if◌then◌else◌, ◌==◌, ℕ, zero, suc, ◌+◌, ◌<◌, ◌≤◌, Bool, true, false, not, List, [], ◌∷◌, Some, slice_get, length, map, nat_le, refl, sym, ◌∙◌, ap, subst, arith}
+use Rattle.std.proofs.Common.{◌≡◌, ◌≢◌, ◌⊎◌, inl, inr, ⊎_elim, if◌then◌else◌, ◌==◌, ℕ, zero, suc, ◌<◌, ◌≤◌, Bool, true, false, not, List, [], ◌∷◌, Some, slice_get, length, map, nat_le, refl, sym, ◌∙◌, ap, subst, arith}
 use Rattle.std.proofs.lemmas.Bool.{cases_eq, cases_lt}
 use Rattle.std.proofs.lemmas.Bool.Decides.{nat_tests}
 use Rattle.std.proofs.lemmas.List.{ext_get_or}
 use Rattle.std.proofs.lemmas.List.FromFn.{get_or-map-range_with_len, length-map-range_with_len}
 use Rattle.std.proofs.lemmas.Option.{same_Some}
-use Rattle.cs_disk.specs.Disk.{Image, State, Write, applied, kept, latest, page}
+use Rattle.cs_disk.specs.Disk.{Image, Write, applied, latest, page}
 use Rattle.cs_disk.proofs.Images.{length-applied, page-applied}
 use Rattle.cs_pair.specs.declared.pairs.Held.{Held}
 use Rattle.cs_pair.specs.declared.pairs.Pair.{Pair}
-use Rattle.cs_pair.specs.Pairs.{ArePairs, AreNoOlder, IsNoOlder, Versions, blank, half, held_in, is_turned, shown, shown_page, shown_write, shows_as, version_at}
+use Rattle.cs_pair.specs.Pairs.{ArePairs, IsNoOlder, Versions, half, held_in, is_turned, shown, shown_page, shown_write, shows_as, version_at}
 use Rattle.cs_pair.proofs.Roles.{IsHalf, IsOwn, half_of, if_other, if_same, role, shown_page-none, shown_page-own, shown_page-twin, shows_as-half, shows_as-none}
 
 -- ---- the last of some writes to a page

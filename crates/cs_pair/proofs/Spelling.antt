@@ -1,5 +1,5 @@
 -- What decoders tell of the pages of a store.
-use Rattle.std.proofs.Common.{◌≡◌, ◌≢◌, ◌⊎◌, inl, inr, ◌==◌, ◌&&◌, ◌+◌, ℕ, Bool, true, false, List, Option, Some, None, Result, Ok, Err, IfOk, if◌then◌else◌, slice_index, refl, sym, ◌∙◌, ap, arith, eq-eqb}
+use Rattle.std.proofs.Common.{◌≡◌, ◌≢◌, inl, inr, ◌==◌, ◌&&◌, ◌+◌, ℕ, Bool, true, false, List, Option, Some, None, Result, Ok, Err, IfOk, if◌then◌else◌, slice_index, refl, sym, ◌∙◌, ap, arith, eq-eqb}
 use Rattle.std.proofs.lemmas.Bool.{ne_eqb}
 use Rattle.cs_disk.specs.declared.fault.DiskFault.{DiskFault}
 use Rattle.cs_frame.specs.Bytes.{number}
@@ -9,7 +9,7 @@ use Rattle.cs_frame.specs.declared.locators.Locator.{Locator}
 use Rattle.cs_frame.specs.Faults.{HasFault}
 use Rattle.cs_frame.specs.FirstFormat.{SpellsPageZero, page_zero_fault}
 use Rattle.cs_frame.specs.Geometries.{Dimensions, IsKnown}
-use Rattle.cs_frame.specs.Roots.{SpellsRoot, root_fault}
+use Rattle.cs_frame.specs.Roots.{SpellsRoot}
 use Rattle.cs_frame.specs.Superblocks.{SpellsSuperblock, superblock_fault}
 use Rattle.cs_frame.proofs.FirstFormatLaws as zeros
 use Rattle.cs_frame.proofs.RootLaws as roots

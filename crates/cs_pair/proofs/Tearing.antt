@@ -7,7 +7,7 @@ use Rattle.cs_disk.specs.Disk.{Image, MayLeave, State, Write, applied, kept, lat
 use Rattle.cs_disk.proofs.Images.{length-applied, page-applied}
 use Rattle.cs_pair.specs.declared.pairs.Held.{Held}
 use Rattle.cs_pair.specs.declared.pairs.Pair.{Pair}
-use Rattle.cs_pair.specs.Pairs.{ArePairs, AreNoOlder, Versions, half, held_in, is_turned, shown, shown_page, shown_state, shown_write, shows_as, version_at}
+use Rattle.cs_pair.specs.Pairs.{ArePairs, AreNoOlder, Versions, half, is_turned, shown, shown_page, shown_state, shown_write, shows_as, version_at}
 use Rattle.cs_pair.specs.Tears.{HasWaitingWrite, IsLeft, IsNotWhole, IsTornBeside, MayTear}
 use Rattle.cs_pair.proofs.Leaving.{kept_newer, shows_left}
 use Rattle.cs_pair.proofs.Roles.{IsHalf, IsOwn, if_other, role, shown_page-none, shown_page-own, shown_page-twin, shows_as-none}

@@ -1,5 +1,5 @@
 -- The geometry is told by whichever page of the first section is whole.
-use Rattle.std.proofs.Common.{◌≡◌, ◌≢◌, inr, ◌==◌, ◌&&◌, ◌+◌, ◌-◌, ◌<◌, ℕ, Bool, true, false, List, Option, Some, None, if◌then◌else◌, slice_index, refl, sym, ◌∙◌, ap, arith, eq-eqb}
+use Rattle.std.proofs.Common.{◌≡◌, ◌≢◌, inr, ◌==◌, ◌&&◌, ◌-◌, ◌<◌, ℕ, Bool, true, false, List, Option, Some, None, if◌then◌else◌, slice_index, refl, sym, ◌∙◌, ap, arith, eq-eqb}
 use Rattle.std.proofs.lemmas.Bool.{and_parts, eqb-true}
 use Rattle.cs_disk.specs.Disk.{Image, page}
 use Rattle.cs_frame.specs.Bytes.{number}

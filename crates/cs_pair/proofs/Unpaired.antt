@@ -1,14 +1,14 @@
 -- A page of a store's device that is no half of a pair is one of frames.
-use Rattle.std.proofs.Common.{◌≡◌, ◌≢◌, ◌⊎◌, inl, inr, ⊎_elim, if◌then◌else◌, ◌==◌, ℕ, zero, suc, ◌+◌, ◌-◌, ◌*◌, ◌<◌, ◌≤◌, Bool, true, false, List, [], ◌∷◌, Some, length, slice_get, map, nat_lt, refl, sym, ◌∙◌, ap, subst, arith, eq-eqb}
-use Rattle.std.proofs.lemmas.Bool.{cases_eq, cases_lt}
+use Rattle.std.proofs.Common.{◌≡◌, ◌≢◌, inl, inr, ⊎_elim, if◌then◌else◌, ◌==◌, ℕ, zero, suc, ◌+◌, ◌-◌, ◌*◌, ◌<◌, ◌≤◌, Bool, true, false, List, [], Some, length, slice_get, map, nat_lt, sym, ◌∙◌, ap, subst, arith, eq-eqb}
+use Rattle.std.proofs.lemmas.Bool.{cases_lt}
 use Rattle.std.proofs.lemmas.Bool.Decides.{nat_tests}
 use Rattle.std.specs.List.{range_with_len}
 use Rattle.cs_disk.specs.Disk.{Image, MayLeave, State, kept}
 use Rattle.cs_disk.proofs.Images.{length-applied}
 use Rattle.cs_frame.specs.Geometries.{Dimensions, IsGeometry}
-use Rattle.cs_model.specs.Device.{FramePage, PageKind, RootPage, SectionPage}
+use Rattle.cs_model.specs.Device.{FramePage, RootPage, SectionPage}
 use Rattle.cs_pair.specs.declared.pairs.Pair.{Pair}
-use Rattle.cs_pair.specs.Pairs.{ArePairs, AreNoOlder, Versions, half, shown, shown_state}
+use Rattle.cs_pair.specs.Pairs.{ArePairs, AreNoOlder, Versions, shown, shown_state}
 use Rattle.cs_pair.specs.Stores.{pages_of, store_pair, store_pairs, store_shape}
 use Rattle.cs_pair.specs.Tears.{IsTornBeside, IsTornFrom, IsUnpaired, MayTear}
 use Rattle.cs_pair.proofs.Shown.{length-shown}

@@ -1,19 +1,19 @@
 -- A write to a pair.
-use Rattle.std.proofs.Common.{◌≡◌, ◌≢◌, ◌⊎◌, inl, inr, ⊎_elim, if◌then◌else◌, ◌==◌, ℕ, zero, suc, ◌+◌, ◌<◌, ◌≤◌, Bool, true, false, not, List, [], ◌∷◌, ◌++◌, Some, slice_get, get_or, set, length, map, nat_le, refl, Result, Ok, Err, OnOk, sym, ◌∙◌, ap, subst, arith}
+use Rattle.std.proofs.Common.{◌≡◌, ◌⊎◌, inl, inr, ⊎_elim, if◌then◌else◌, ◌==◌, ℕ, zero, suc, ◌<◌, ◌≤◌, Bool, true, false, not, List, [], ◌∷◌, ◌++◌, Some, slice_get, get_or, set, length, map, nat_le, refl, Result, Ok, Err, OnOk, sym, ◌∙◌, ap, subst, arith}
 use Rattle.std.proofs.lemmas.Bool.Decides.{leb_tells}
 use Rattle.std.proofs.lemmas.List.{get_or-map, map_push}
 use Rattle.std.proofs.lemmas.Option.{get_or_from_slice_get, same_Some, slice_get-get_or, slice_get_within}
-use Rattle.cs_disk.specs.Disk.{Image, State, Write, applied, latest, page, seen, written}
+use Rattle.cs_disk.specs.Disk.{Image, State, Write, latest, page, seen, written}
 use Rattle.cs_disk.proofs.Images.{applied_push, page_other}
 use Rattle.cs_pair.specs.declared.notes.Notes.{Notes}
-use Rattle.cs_pair.specs.declared.notes.Trust.TheVariants.{Doubted, Read, Unread}
+use Rattle.cs_pair.specs.declared.notes.Trust.TheVariants.{Doubted, Read}
 use Rattle.cs_pair.specs.declared.pairs.Held.{Held}
 use Rattle.cs_pair.specs.declared.pairs.Pair.{Pair}
 use Rattle.cs_pair.specs.Noted.{AreRight}
 use Rattle.cs_pair.specs.Pairs.{ArePairs, AreNoOlder, IsNoOlder, Versions, half, held_in, is_turned, shown_state, shown_write, shows_as, version_at}
 use Rattle.cs_pair.proofs.Right.{pushed_at, same_map}
 use Rattle.cs_pair.proofs.Roles.{if_same, shows_as-half}
-use Rattle.cs_pair.proofs.Shown.{IsLast, held_same, newest_stays, turned_held}
+use Rattle.cs_pair.proofs.Shown.{held_same, newest_stays, turned_held}
 
 -- ---- lists
 

@@ -1,6 +1,6 @@
 -- What the halves of pairs were found to hold.
-use Rattle.std.specs.Prelude.{◌==◌, ◌&&◌, ℕ, Bool, true, false, not, List, Option, Some, None, if◌then◌else◌, nat_le, nat_lt, slice_set}
-use Rattle.std.specs.List.{list_all}
+use Rattle.std.specs.Prelude.{◌≡◌, ◌≢◌, ◌==◌, ◌&&◌, ℕ, Bool, true, false, not, List, Option, Some, None, if◌then◌else◌, nat_le, nat_lt, slice_set}
+use Rattle.std.specs.List.{AllByRecursion, list_all}
 use Rattle.cs_disk.specs.Disk.{Image, page}
 use Rattle.cs_pair.specs.declared.findings.Finding.{Finding}
 use Rattle.cs_pair.specs.declared.findings.Half.{Half}
@@ -43,3 +43,9 @@ passed_over it = if is_halved it then Some (half it.pair (not (held_of it).turne
 -- an image with that page written anew, with what the newest half holds
 abbrev pub mended : Versions → Image → Pair → Image
 mended V image x = if is_halved (finding_in V image x) then slice_set image (half x (not (is_turned V image x))) (page image (half x (is_turned V image x))) else image
+
+-- Of these pairs none has a page any more that is passed over: each that was has what the newest half of its pair held, and every other page has what it had.
+pub record AreMended (V : Versions) (pairs : List Pair) (before now : Image) : Type 0 where
+  pub whole : AllByRecursion (λ x. passed_over (finding_in V now x) ≡ None) pairs
+  pub copied : AllByRecursion (λ x. (number : ℕ) → passed_over (finding_in V before x) ≡ Some number → page now number ≡ page before (half x (is_turned V before x))) pairs
+  pub untouched : (number : ℕ) → AllByRecursion (λ x. passed_over (finding_in V before x) ≢ Some number) pairs → page now number ≡ page before number

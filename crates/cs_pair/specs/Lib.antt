@@ -9,3 +9,4 @@ pub mod TearDisks
 pub mod Laws
 pub mod Showing
 pub mod Older
+pub mod OlderDisks

@@ -1,8 +1,7 @@
 -- What clauses see of a disk in pairs.
-use Rattle.std.specs.Prelude.{ℕ, List, ◌+◌, ◌-◌, ◌^◌, min}
+use Rattle.std.specs.Prelude.{ℕ, List}
 use Rattle.cs_disk.specs.declared.disk.PageDisk.{Ghosts as PageDisk}
 use Rattle.cs_disk.specs.Disk.{Image, State}
-use Rattle.cs_pair.specs.declared.notes.Notes.{Notes}
 use Rattle.cs_pair.specs.declared.paired.Paired.{Paired}
 use Rattle.cs_pair.specs.declared.pairs.Pair.{Pair}
 use Rattle.cs_pair.specs.declared.pairs.PageRules.{Ghosts as PageRules}

@@ -1,5 +1,5 @@
 -- The pairs of a store: which pages they are, and when one of them is whole.
-use Rattle.std.specs.Prelude.{◌≡◌, ◌==◌, ◌&&◌, ◌+◌, ◌-◌, ◌*◌, ℕ, Bool, List, [], Option, Some, None, if◌then◌else◌, map, nat_lt, slice_index}
+use Rattle.std.specs.Prelude.{◌==◌, ◌&&◌, ◌+◌, ◌-◌, ◌*◌, ℕ, Bool, List, [], Option, Some, None, if◌then◌else◌, map, nat_lt, slice_index}
 use Rattle.std.specs.List.{range_with_len}
 use Rattle.cs_disk.specs.Disk.{Image, page}
 use Rattle.cs_frame.specs.Bytes.{number}

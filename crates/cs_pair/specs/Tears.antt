@@ -1,5 +1,5 @@
 -- What a crash may leave of a disk that tears the pages that were being written.
-use Rattle.std.specs.Prelude.{◌≡◌, ◌⊎◌, ◌<◌, ◌++◌, ℕ, Bool, List, [], ◌∷◌, Some, length, slice_get, slice_set, take, drop}
+use Rattle.std.specs.Prelude.{◌≡◌, ◌⊎◌, ◌<◌, ◌++◌, ℕ, Bool, List, ◌∷◌, Some, length, slice_get, slice_set, take, drop}
 use Rattle.cs_disk.specs.Disk.{Image, State, Write, applied, kept, page}
 use Rattle.cs_model.specs.Device.{FramePage, Shape}
 use Rattle.cs_pair.specs.declared.pairs.Pair.{Pair}

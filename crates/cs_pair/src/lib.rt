@@ -23,5 +23,6 @@ pub use laws::{
 pub use older::AsOf;
 pub use paired::Paired;
 pub use pairs::{Held, PageRules, Pair};
+pub use readings::read_findings;
 pub use stores::{StoreRules, find_geometry, open_store, pairs_of_store};
 pub use tears::TearDisk;

@@ -33,7 +33,7 @@ impl Notes {
     ghost use Rattle.std.specs.Prelude.{◌≡◌, ◌<◌, ◌+◌, ◌-◌, ◌^◌, ◌↔◌, ◌⊎◌, [], Some, IfOk, IsErrOf, OnErr, OnOk, length, min, not, slice_get};
     ghost use Rattle.cs_disk.specs.Disk.{Counts, GoesOn, HasCause, LeavesOnly, MayLeave, flushed, page, seen, written};
     ghost use Rattle.cs_pair.specs.declared.pairs.Pair.{Pair};
-    ghost use Rattle.cs_pair.specs.Findings.{finding_in, mended, passed_over};
+    ghost use Rattle.cs_pair.specs.Findings.{AreMended, finding_in, mended, passed_over};
     ghost use Rattle.cs_pair.specs.Noted.{AreNotes, AreRight, failed};
     ghost use Rattle.cs_pair.specs.Pairs.{ArePairs, half, is_turned, shown, shown_state};
     ghost use Rattle.cs_pair.specs.Reads.{OnlyReads};
@@ -314,5 +314,60 @@ impl Notes {
             Ok(()) => self.rewrite(disk, rules, pairs, k),
             Err(fault) => Err(fault),
         }
+    }
+
+    /// Writes the half of each pair anew that is damaged, where the other is whole, with what that one holds, and flushes after each of them.
+    fn rewrite_all<D: PageDisk, R: PageRules>(
+        &mut self,
+        disk: &mut D,
+        rules: &R,
+        pairs: &[Pair],
+    ) -> Result<(), DiskFault>
+        requires pairs { ArePairs pairs.now (D.page_count disk.old) }
+        requires notes { AreNotes pairs.now self.old }
+        requires right { D.honest disk.old → AreRight (R.version rules.now) pairs.now self.old (D.state disk.old) }
+        requires settled { D.honest disk.old → (D.state disk.old).volatile ≡ [] }
+        ensures mended { D.honest disk.old → OnOk result (AreMended (R.version rules.now) pairs.now (D.state disk.old).durable (D.state disk.new).durable) }
+        ensures settled { D.honest disk.old → OnOk result ((D.state disk.new).volatile ≡ []) }
+        ensures shown { D.honest disk.old → shown (R.version rules.now) pairs.now (seen (D.state disk.new)) ≡ shown (R.version rules.now) pairs.now (D.state disk.old).durable }
+        ensures crash { D.honest disk.old → LeavesOnly D.moment D.left_since disk.old disk.new (λ left. shown (R.version rules.now) pairs.now left ≡ shown (R.version rules.now) pairs.now (D.state disk.old).durable) }
+        ensures honest { D.honest disk.old ↔ D.honest disk.new }
+        ensures pages { D.page_count disk.new ≡ D.page_count disk.old }
+        ensures notes { AreNotes pairs.now self.new }
+        ensures right { D.honest disk.new → AreRight (R.version rules.now) pairs.now self.new (D.state disk.new) }
+        ensures cause { HasCause (failed (D.failure_count disk.old) self.old) (failed (D.failure_count disk.new) self.new) result }
+    {
+        for k in 0..pairs.len() {
+            match self.rewrite(disk, rules, pairs, k) {
+                Ok(_) => {}
+                Err(fault) => return Err(fault),
+            }
+        }
+        Ok(())
+    }
+
+    /// Flushes the disk, and writes the half of each pair anew that is damaged, where the other is whole, with what that one holds. Refused where a write is
+    /// in doubt.
+    pub fn repair_all<D: PageDisk, R: PageRules>(
+        &mut self,
+        disk: &mut D,
+        rules: &R,
+        pairs: &[Pair],
+    ) -> Result<(), DiskFault>
+        requires pairs { ArePairs pairs.now (D.page_count disk.old) }
+        requires notes { AreNotes pairs.now self.old }
+        requires right { D.honest disk.old → AreRight (R.version rules.now) pairs.now self.old (D.state disk.old) }
+        ensures mended { D.honest disk.old → OnOk result (AreMended (R.version rules.now) pairs.now (seen (D.state disk.old)) (seen (D.state disk.new))) }
+        ensures settled { D.honest disk.old → OnOk result ((D.state disk.new).volatile ≡ []) }
+        ensures shown { D.honest disk.old → seen (shown_state (R.version rules.now) pairs.now (D.state disk.new)) ≡ seen (shown_state (R.version rules.now) pairs.now (D.state disk.old)) }
+        ensures crash { D.honest disk.old → LeavesOnly D.moment D.left_since disk.old disk.new (λ left. MayLeave (shown_state (R.version rules.now) pairs.now (D.state disk.old)) (shown (R.version rules.now) pairs.now left)) }
+        ensures honest { D.honest disk.old ↔ D.honest disk.new }
+        ensures pages { D.page_count disk.new ≡ D.page_count disk.old }
+        ensures notes { AreNotes pairs.now self.new }
+        ensures right { D.honest disk.new → AreRight (R.version rules.now) pairs.now self.new (D.state disk.new) }
+        ensures cause { HasCause (failed (D.failure_count disk.old) self.old) (failed (D.failure_count disk.new) self.new) result }
+    {
+        self.flush(disk, rules, pairs)?;
+        self.rewrite_all(disk, rules, pairs)
     }
 }

@@ -1,5 +1,7 @@
 // A disk that shows a store as of an older root.
-ghost use Rattle.std.specs.Prelude.{◌≡◌, ◌+◌, ◌-◌, ◌^◌, [], IsOkUnless, min};
+ghost use Rattle.std.specs.Prelude.{◌≡◌, ◌≢◌, ◌+◌, ◌-◌, ◌^◌, IsOkUnless, OnOk, min};
+ghost use Rattle.cs_disk.specs.Disk.{IsWhole};
+ghost use Rattle.cs_pair.specs.Older.{LowersKept, is_of_section, left_lowered, lowered_at, lowered_page, lowered_state};
 
 use cs_disk::{CrashDisk, DiskFault, PageDisk};
 use cs_frame::{FormatFault, Geometry, Superblock, decode_section, encode_superblock};
@@ -8,7 +10,8 @@ use std::alloc::Global;
 /// A disk over which a store of format 3 opens, though a newer root was persistent than is whole: it shows each section of the superblock as if that root hadn't been
 /// persistent as it was written. Nothing is written by way of it: a write is refused 1 DeviceFault, and counted.
 ///
-/// Nothing is claimed of it, as what it shows was never all there at once: what that root names may have been written over since.
+/// It is honest where the disk below is. That is said of its calls alone: what it shows was maybe never all there at once, as what that root names may have been
+/// written over since.
 #[derive(Drop)]
 pub struct AsOf<D: PageDisk> {
     alloc: Global,
@@ -16,14 +19,19 @@ pub struct AsOf<D: PageDisk> {
     geometry: Geometry,
     root: u64,
     refused: u64,
+    // What the trait's laws are told.
+    ghost lowers: { LowersKept geometry root (D.state disk) },
+    ghost whole: { D.honest disk → IsWhole (lowered_state geometry root (D.state disk)) },
 }
 
 impl<D: PageDisk> AsOf<D> {
-    ghost use Rattle.cs_pair.specs.Older.{shown_below};
+    ghost use Rattle.cs_pair.specs.OlderDisks.{dimensions_of, root_of, shown_below};
 
     /// The disk of a store of this geometry, as of the root of this version.
     pub fn new(alloc: Global, disk: D, geometry: Geometry, root: u64) -> Self
-        ensures { shown_below result ≡ disk }
+        ensures below { shown_below result ≡ disk }
+        ensures geometry { dimensions_of result ≡ geometry }
+        ensures root { root_of result ≡ root }
     {
         AsOf {
             alloc,
@@ -36,7 +44,9 @@ impl<D: PageDisk> AsOf<D> {
 }
 
 /// Whether this page has a section of the superblock of such a store: its twins aren't counted.
-fn is_of_section(geometry: Geometry, number: u64) -> bool {
+fn is_of_section(geometry: Geometry, number: u64) -> bool
+    ensures { result ≡ is_of_section geometry number }
+{
     let frames = u64::from(geometry.extents()) * u64::from(geometry.pages());
     number == 0 || number > frames + 1
 }
@@ -50,18 +60,36 @@ fn lowered(superblock: Superblock, root: u64) -> Superblock
     superblock
 }
 
+/// Bytes with this fault spell no section; refused where memory ran out.
+fn unless_memory(fault: FormatFault) -> Result<(), DiskFault>
+    ensures other { OnOk result (fault ≢ FormatFault.OutOfMemory) }
+    ensures memory { IsOkUnless result DiskFault.OutOfMemory }
+{
+    match fault {
+        FormatFault::OutOfMemory => Err(DiskFault::OutOfMemory),
+        FormatFault::BadGeometry
+        | FormatFault::BadMagic
+        | FormatFault::BadDigest
+        | FormatFault::BadLength
+        | FormatFault::BadPadding
+        | FormatFault::BadVersion
+        | FormatFault::OutOfOrder
+        | FormatFault::Misplaced => Ok(()),
+    }
+}
+
 /// Spells a section anew where it records a later root than this one, as if this one had been persistent. Bytes that spell no section stay. Refused 9 OutOfMemory
 /// alone.
 fn lower(alloc: Global, root: u64, bytes: &mut [u8; 4096]) -> Result<(), DiskFault>
-    ensures { IsOkUnless result DiskFault.OutOfMemory }
+    ensures lowered { OnOk result (bytes.new ≡ lowered_page root bytes.old) }
+    ensures memory { IsOkUnless result DiskFault.OutOfMemory }
 {
     match decode_section(alloc, bytes, 3) {
         Ok(superblock) => {
             *bytes = encode_superblock(&lowered(superblock, root));
             Ok(())
         }
-        Err(FormatFault::OutOfMemory) => Err(DiskFault::OutOfMemory),
-        Err(_) => Ok(()),
+        Err(fault) => unless_memory(fault),
     }
 }
 
@@ -73,7 +101,8 @@ fn lower_page(
     number: u64,
     bytes: &mut [u8; 4096],
 ) -> Result<(), DiskFault>
-    ensures { IsOkUnless result DiskFault.OutOfMemory }
+    ensures lowered { OnOk result (bytes.new ≡ lowered_at geometry root number bytes.old) }
+    ensures memory { IsOkUnless result DiskFault.OutOfMemory }
 {
     if is_of_section(geometry, number) {
         lower(alloc, root, bytes)
@@ -83,17 +112,20 @@ fn lower_page(
 }
 
 impl<D: PageDisk> PageDisk for AsOf<D> {
-    ghost honest = { λ _. ⊥ };
+    ghost use Rattle.std.proofs.Common.{◌∙◌};
+    ghost use Rattle.cs_pair.specs.Older.{counts_lowered, only_lowered, sized_lowered};
 
-    ghost state = { λ _. record { durable = []; volatile = [] } };
+    ghost honest = { λ d. D.honest d.disk };
+
+    ghost state = { λ d. lowered_state d.geometry d.root (D.state d.disk) };
 
     ghost page_count = { λ d. D.page_count d.disk };
 
     ghost failure_count = { λ d. min (D.failure_count d.disk + d.refused) (2 ^ 64 - 1) };
 
-    ghost moment = { λ _. 0 };
+    ghost moment = { λ d. D.moment d.disk };
 
-    ghost left_since = { λ _ _ _. ⊥ };
+    ghost left_since = { λ d. left_lowered d.geometry d.root (D.left_since d.disk) };
 
     fn pages(&self) -> u64 {
         self.disk.pages()
@@ -115,18 +147,18 @@ impl<D: PageDisk> PageDisk for AsOf<D> {
         Err(DiskFault::DeviceFault)
     }
 
-    /// Does nothing, as nothing was written.
+    /// Flushes the disk below, though nothing was written by way of this one.
     fn flush(&mut self) -> Result<(), DiskFault> {
-        Ok(())
+        self.disk.flush()
     }
 
-    ghost sized = { λ d h. absurd h };
+    ghost sized = { λ d h. sized_lowered d.geometry d.root (D.state d.disk).durable ∙ D.sized d.disk h };
 
-    ghost whole = { λ d h. absurd h };
+    ghost whole = { λ d h. d.whole h };
 
-    ghost counts_now = { λ d t c h le now. absurd h };
+    ghost counts_now = { λ d t c h le now. counts_lowered d.geometry d.root (D.state d.disk) d.lowers (D.left_since d.disk) t (λ image is. D.counts_now d.disk t image h le is) c now };
 
-    ghost only_now = { λ d c h left. absurd h };
+    ghost only_now = { λ d c h left. only_lowered d.geometry d.root (D.state d.disk) d.lowers (D.left_since d.disk) (D.moment d.disk) (λ image is. D.only_now d.disk image h is) c left };
 }
 
 impl<D: PageDisk> CrashDisk for AsOf<D> {
@@ -146,5 +178,5 @@ impl<D: PageDisk> CrashDisk for AsOf<D> {
         self
     }
 
-    ghost counted = { λ d h can. absurd h };
+    ghost counted = { λ d h can. absurd can };
 }

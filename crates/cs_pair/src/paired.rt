@@ -37,12 +37,13 @@ pub struct Paired<D: PageDisk, R: PageRules> {
 }
 
 impl<D: PageDisk, R: PageRules> Paired<D, R> {
-    ghost use Rattle.std.specs.Prelude.{◌↔◌, ◌⊎◌, ◌<◌, ◌≤◌, [], ℕ, None, Some, IfErr, IfOk, MatchResult, OnOk, length, map, slice_get};
-    ghost use Rattle.cs_disk.specs.Disk.{HasCause, LeavesOnly, MayLeave, Rises, flushed, seen};
+    ghost use Rattle.std.specs.Prelude.{◌↔◌, ◌≢◌, ◌⊎◌, ◌<◌, ◌≤◌, [], ℕ, None, Some, IfErr, IfOk, MatchResult, OnOk, length, map, slice_get};
+    ghost use Rattle.std.specs.List.{AllByRecursion};
+    ghost use Rattle.cs_disk.specs.Disk.{HasCause, LeavesOnly, MayLeave, Rises, flushed, page, seen};
     ghost use Rattle.cs_pair.specs.declared.pairs.Pair.{Pair};
     ghost use Rattle.cs_pair.specs.Findings.{finding_in, mended, passed_over};
     ghost use Rattle.cs_pair.specs.Paired.{disk_below, failures_of, left_as_shown, moment_of, pairs_of, rules_of, state_shown, versions_of};
-    ghost use Rattle.cs_pair.specs.Pairs.{AreNoOlder};
+    ghost use Rattle.cs_pair.specs.Pairs.{AreNoOlder, half, is_turned};
     ghost use Rattle.cs_pair.specs.Reads.{OnlyReads};
 
     /// A disk in these pairs: it flushes the disk below. What lies in the pairs is read later.
@@ -107,6 +108,31 @@ impl<D: PageDisk, R: PageRules> Paired<D, R> {
     {
         self.notes
             .repair(&mut self.disk, &self.rules, &self.pairs, place)
+    }
+
+    /// Writes the damaged half of each pair anew whose other half is whole, pair by pair, as `repair` does. What shows stays as it is, and a crash meanwhile
+    /// leaves what one before might have left.
+    ///
+    /// It flushes first, reads both halves of each pair, and for each damaged one reads the other once more, writes a page, and flushes. After an Err the
+    /// first of the damaged halves may be written anew and the rest not, so it can be called again, but where the disk below refused it with a page written
+    /// and not flushed: the pairs are then neither read nor written, and nothing is flushed, until the disk is opened anew.
+    pub fn repair_all(&mut self) -> Result<(), DiskFault>
+        // No page is passed over any more.
+        ensures whole { D.honest (disk_below self.old) → OnOk result (AllByRecursion (λ x. passed_over (finding_in (versions_of self.old) (seen (D.state (disk_below self.new))) x) ≡ None) (pairs_of self.old)) }
+        // What was passed over is written with what the newest half holds, and no other page is.
+        ensures copied { D.honest (disk_below self.old) → OnOk result (AllByRecursion (λ x. (number : ℕ) → passed_over (finding_in (versions_of self.old) (seen (D.state (disk_below self.old))) x) ≡ Some number → page (seen (D.state (disk_below self.new))) number ≡ page (seen (D.state (disk_below self.old))) (half x (is_turned (versions_of self.old) (seen (D.state (disk_below self.old))) x))) (pairs_of self.old)) }
+        ensures untouched { D.honest (disk_below self.old) → OnOk result ((number : ℕ) → AllByRecursion (λ x. passed_over (finding_in (versions_of self.old) (seen (D.state (disk_below self.old))) x) ≢ Some number) (pairs_of self.old) → page (seen (D.state (disk_below self.new))) number ≡ page (seen (D.state (disk_below self.old))) number) }
+        ensures durable { D.honest (disk_below self.old) → OnOk result ((D.state (disk_below self.new)).volatile ≡ []) }
+        ensures shown { D.honest (disk_below self.old) → seen (state_shown self.new) ≡ seen (state_shown self.old) }
+        ensures crash { D.honest (disk_below self.old) → LeavesOnly moment_of left_as_shown self.old self.new (MayLeave (state_shown self.old)) }
+        ensures honest { D.honest (disk_below self.old) ↔ D.honest (disk_below self.new) }
+        ensures pages { D.page_count (disk_below self.new) ≡ D.page_count (disk_below self.old) }
+        ensures pairs { pairs_of self.new ≡ pairs_of self.old }
+        ensures rules { rules_of self.new ≡ rules_of self.old }
+        ensures cause { HasCause (failures_of self.old) (failures_of self.new) result }
+    {
+        self.notes
+            .repair_all(&mut self.disk, &self.rules, &self.pairs)
     }
 
     /// A disk in these pairs, and what their halves hold: it flushes the disk below, and reads the pairs. A pair neither half of which is whole shows its twin.

@@ -74,7 +74,9 @@ pub fn read_pair<D: PageDisk, R: PageRules>(
     }
 }
 
-/// Reads both halves of each pair.
+/// Reads both halves of each pair, and tells what they hold, in the order of the pairs. Nothing is flushed or written.
+///
+/// Refused 1 DeviceFault, and 9 OutOfMemory.
 pub fn read_findings<D: PageDisk, R: PageRules>(
     alloc: Global,
     disk: &mut D,

@@ -38,7 +38,7 @@ pub fn look_in_file<R: Files<File = File>>(
     path: &str,
 ) -> Result<Vec<Finding>, Refusal> {
     match FileDisk::open(rt, alloc, path) {
-        Ok(disk) => look(alloc, disk),
+        Ok(mut disk) => look(alloc, &mut disk),
         Err(fault) => Err(refusal_of(fault)),
     }
 }

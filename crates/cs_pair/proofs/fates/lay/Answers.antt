@@ -1,5 +1,4 @@
 use Rattle.std.proofs.Common.{ap, arith}
-use Rattle.cs_disk.specs.declared.memory.MemoryDisk.{MemoryDisk}
 use Rattle.cs_disk.specs.Memory.{memory_state}
 use Rattle.cs_pair.proofs.Becoming.{laid_kept, laid_past, laid_torn}
 use Rattle.cs_pair.proofs.fates.lay.Goals as goal

@@ -1,7 +1,6 @@
 use Rattle.std.proofs.Common.{[]}
 use Rattle.cs_disk.specs.Disk.{seen}
 use Rattle.cs_disk.specs.Memory.{memory_state}
-use Rattle.cs_pair.specs.declared.fates.Fate.TheVariants.{Lost}
 use Rattle.cs_pair.proofs.Becoming.{left_more}
 use Rattle.cs_pair.proofs.fates.lay_all.Goals as goal
 

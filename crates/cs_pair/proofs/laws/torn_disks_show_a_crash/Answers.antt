@@ -1,7 +1,4 @@
-use Rattle.std.proofs.Common.{List, subst, ◌∙◌}
-use Rattle.cs_pair.specs.declared.pairs.Pair.{Pair}
-use Rattle.cs_pair.specs.Pairs.{AreNoOlder}
-use Rattle.cs_pair.specs.Stores.{store_shape}
+use Rattle.std.proofs.Common.{◌∙◌}
 use Rattle.cs_pair.proofs.Unpaired.{torn_pairs_show}
 use Rattle.cs_pair.proofs.laws.torn_disks_show_a_crash.Goals as goal
 

@@ -1,7 +1,4 @@
 use Rattle.std.proofs.Common.{◌∙◌}
-use Rattle.cs_frame.specs.declared.superblocks.Superblock.{Superblock}
-use Rattle.cs_frame.specs.Faults.{HasFault}
-use Rattle.cs_frame.specs.Superblocks.{SpellsSuperblock, superblock_fault}
 use Rattle.cs_pair.proofs.Spelling.{last_faulty, last_reads}
 use Rattle.cs_pair.proofs.stores.last_says.Goals as goal
 

@@ -1,5 +1,5 @@
 use Rattle.std.proofs.Common.{arith, ◌∙◌, ◌≡◌, ◌+◌, sym}
-use Rattle.cs_pair.proofs.Twins.{listed, listed_apart, pairs_more, unlisted, unlisted_apart}
+use Rattle.cs_pair.proofs.Twins.{listed_apart, pairs_more}
 use Rattle.cs_pair.proofs.stores.pairs_of_store.Goals as goal
 
 pub loop-k-preserved : goal.loop-k-preserved

@@ -1,7 +1,5 @@
 use Rattle.cs_frame.specs.Bytes.{number}
-use Rattle.cs_frame.specs.declared.roots.Root.{Root}
-use Rattle.cs_frame.specs.Faults.{HasFault}
-use Rattle.cs_frame.specs.Roots.{SpellsRoot, root_fault}
+use Rattle.cs_frame.specs.Roots.{root_fault}
 use Rattle.cs_pair.specs.Stores.{root_version}
 use Rattle.cs_pair.proofs.Spelling.{faulty, none_is, root_read}
 use Rattle.cs_pair.proofs.stores.root_version.Goals as goal

@@ -1,8 +1,6 @@
 use Rattle.std.proofs.Common.{ap, ◌∙◌}
 use Rattle.cs_frame.specs.Bytes.{number}
-use Rattle.cs_frame.specs.declared.superblocks.Superblock.{Superblock}
-use Rattle.cs_frame.specs.Faults.{HasFault}
-use Rattle.cs_frame.specs.Superblocks.{SpellsSuperblock, superblock_fault}
+use Rattle.cs_frame.specs.Superblocks.{superblock_fault}
 use Rattle.cs_pair.specs.Stores.{section_version, without_fault}
 use Rattle.cs_pair.proofs.Spelling.{another_read, faulty, no_section, none_is, section_read}
 use Rattle.cs_pair.proofs.stores.section_version.Goals as goal

@@ -1,7 +1,4 @@
 use Rattle.std.proofs.Common.{Option, Some, ap, ◌∙◌}
-use Rattle.cs_frame.specs.declared.superblocks.Superblock.{Superblock}
-use Rattle.cs_frame.specs.Faults.{HasFault}
-use Rattle.cs_frame.specs.FirstFormat.{SpellsPageZero, page_zero_fault}
 use Rattle.cs_frame.specs.Geometries.{Dimensions}
 use Rattle.cs_frame.proofs.FirstFormatLaws as zeros
 use Rattle.cs_pair.proofs.Spelling.{zero_faulty, zero_reads}

@@ -1,4 +1,4 @@
-use Rattle.cs_pair.proofs.Right.{flushed_right, right_on, still_right}
+use Rattle.cs_pair.proofs.Right.{still_right}
 use Rattle.cs_pair.proofs.notes.Notes.flush.Goals as goal
 
 pub returns-in-Doubted-clause-right : goal.returns-in-Doubted-clause-right

@@ -1,6 +1,6 @@
 use Rattle.std.proofs.Common.{refl, ◌∙◌}
 use Rattle.std.proofs.lemmas.List.{with_items_is}
-use Rattle.cs_pair.proofs.Right.{read_right, right_on, still_right}
+use Rattle.cs_pair.proofs.Right.{read_right, still_right}
 use Rattle.cs_pair.proofs.notes.Notes.refresh.Goals as goal
 
 pub returns-in-Doubted-clause-right : goal.returns-in-Doubted-clause-right

@@ -1,6 +1,6 @@
 use Rattle.std.proofs.Common.{refl}
 use Rattle.cs_pair.proofs.Right.{still_right}
-use Rattle.cs_pair.proofs.Writing.{doubted_at, goes_to, went_to, written_at}
+use Rattle.cs_pair.proofs.Writing.{doubted_at, went_to, written_at}
 use Rattle.cs_pair.proofs.notes.Notes.write_half.Goals as goal
 
 pub returns-then-version-index-clause-right : goal.returns-then-version-index-clause-right

@@ -1,10 +1,9 @@
-use Rattle.std.proofs.Common.{List, ap, inl, inr, slice_get, subst, sym, ⊎_elim, ◌∙◌}
-use Rattle.cs_disk.specs.Disk.{Image, LeavesOnly, MayLeave, State, seen}
+use Rattle.std.proofs.Common.{List, ap, slice_get, subst, sym, ◌∙◌}
+use Rattle.cs_disk.specs.Disk.{LeavesOnly, MayLeave}
 use Rattle.cs_pair.specs.declared.pairs.Pair.{Pair}
 use Rattle.cs_pair.specs.Noted.{AreNotes, AreRight}
-use Rattle.cs_pair.specs.Findings.{mended}
 use Rattle.cs_pair.specs.Pairs.{ArePairs, shown, shown_state}
-use Rattle.cs_pair.proofs.Mending.{none_left_ok}
+use Rattle.cs_pair.proofs.Mending.{leaves_as_shown, none_left_ok}
 use Rattle.cs_pair.proofs.Over.{shows_here, whole_here}
 use Rattle.cs_pair.proofs.paired.Paired.repair.Goals as goal
 
@@ -38,11 +37,5 @@ returns-clause-crash g c = λ h.
     let pairs = self.pairs.items in
     let s = D.state self.disk in
     let only = subst (λ (ps : List Pair). LeavesOnly D.moment D.left_since self.disk c.repair.new.disk (λ left. MayLeave (shown_state V ps s) (shown V ps left))) c.deref.ensures.value (c.repair.ensures.crash h) in
-    record {
-      later = only.later;
-      each = λ i left. subst (λ (image : Image). MayLeave (shown_state V pairs s) image) (sym left.2) (only.each left.0 left.1);
-      before = λ t i le left. ⊎_elim
-          (λ (was : D.left_since self.disk t left.0). inl (left.0, was, left.2))
-          (λ (has : MayLeave (shown_state V pairs s) (shown V pairs left.0)). inr (subst (λ (image : Image). MayLeave (shown_state V pairs s) image) (sym left.2) has))
-          (only.before t left.0 le left.1);
-    }
+    let shows = leaves_as_shown D V pairs self.disk c.repair.new.disk (MayLeave (shown_state V pairs s)) only in
+    record { later = shows.later; each = shows.each; before = shows.before }

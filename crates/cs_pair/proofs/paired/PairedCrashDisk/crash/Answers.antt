@@ -1,4 +1,4 @@
-use Rattle.std.proofs.Common.{ap, subst, sym, ◌∙◌}
+use Rattle.std.proofs.Common.{ap, subst, sym}
 use Rattle.cs_disk.specs.Disk.{State}
 use Rattle.cs_pair.specs.declared.notes.Notes.{Notes}
 use Rattle.cs_pair.specs.Noted.{AreNotes}

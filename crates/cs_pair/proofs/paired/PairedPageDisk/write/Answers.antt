@@ -1,8 +1,7 @@
-use Rattle.std.proofs.Common.{◌<◌, ◌≡◌, ◌∙◌, List, ap, length, slice_get, subst, sym}
+use Rattle.std.proofs.Common.{◌∙◌, List, subst, sym}
 use Rattle.std.proofs.lemmas.Option.{slice_get_within}
-use Rattle.cs_disk.specs.Disk.{written}
 use Rattle.cs_pair.specs.declared.pairs.Pair.{Pair}
-use Rattle.cs_pair.specs.declared.places.Place.TheVariants.{OfPair, OfTwin, Own}
+use Rattle.cs_pair.specs.declared.places.Place.TheVariants.{OfPair, Own}
 use Rattle.cs_pair.specs.Noted.{AreNotes, AreRight, IsPlace}
 use Rattle.cs_pair.specs.Pairs.{ArePairs}
 use Rattle.cs_pair.proofs.Over.{own_either, own_ok, pair_either, shows_here, time_here, whole_here}

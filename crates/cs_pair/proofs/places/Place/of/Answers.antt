@@ -1,4 +1,3 @@
-use Rattle.cs_pair.proofs.Leaving.{are_on}
 use Rattle.cs_pair.proofs.Roles.{own_more}
 use Rattle.cs_pair.proofs.places.Place.of.Goals as goal
 

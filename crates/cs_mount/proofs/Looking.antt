@@ -1,0 +1,60 @@
+-- What stands against making a store, as it is found.
+use Rattle.std.proofs.Common.{◌≡◌, ◌∙◌, ◌↔◌, ◌<◌, inr, ⊎_elim, ℕ, Bool, true, false, Option, None, List, Contains, IsTrue, ap, subst, sym, map, length, nat_lt, get_or, arith}
+use Rattle.std.specs.List.{list_any}
+use Rattle.std.proofs.lemmas.Bool.{lt-ltb, ltb-true}
+use Rattle.std.proofs.lemmas.List.{get_or-map, length-map}
+use Rattle.std.proofs.lemmas.List.Elements.{Contains-get_or}
+use Rattle.std.proofs.lemmas.List.Folds.{Any-from_list_any, list_any_at}
+use Rattle.cs_disk.specs.Disk.{Image, State, seen}
+use Rattle.cs_frame.specs.Geometries.{Dimensions}
+use Rattle.cs_pair.specs.declared.findings.Finding.{Finding}
+use Rattle.cs_pair.specs.declared.pairs.Held.{Held}
+use Rattle.cs_pair.specs.declared.pairs.Pair.{Pair}
+use Rattle.cs_pair.specs.Findings.{finding_in}
+use Rattle.cs_pair.specs.Pairs.{Versions, held_in}
+use Rattle.cs_pair.specs.Showing.{findings_on}
+use Rattle.cs_pair.specs.Stores.{dimensions_on}
+use Rattle.cs_pair.proofs.Holding.{held_found}
+use Rattle.cs_mount.specs.Looks.{IsTaken, is_whole}
+
+-- a pair that was found with a whole half has one
+whole_held : (V : Versions) (image : Image) (x : Pair) → is_whole (finding_in V image x) ≡ nat_lt 0 (held_in V image x).version
+whole_held V image x = ap (λ (h : Held). nat_lt 0 h.version) (held_found V image x)
+
+-- what was found after some reads was there before them
+pub found_before : (pages pages_then : ℕ) (s after : State) (found : List Finding) → pages_then ≡ pages → after ≡ s → found ≡ findings_on pages_then (seen after) → found ≡ findings_on pages (seen s)
+found_before pages pages_then s after found same_pages same is = is ∙ ap (λ n. findings_on n (seen after)) same_pages ∙ ap (λ (z : State). findings_on pages (seen z)) same
+
+module _ (pages : ℕ) (image : Image) (V : Versions) (pairs : List Pair) where
+  -- one of the pairs has a whole half
+  any_held : (found : List Finding) → found ≡ map (finding_in V image) pairs → list_any is_whole found ≡ true → (x : Pair) × Contains pairs x × (0 < (held_in V image x).version)
+  any_held found are test =
+      let any = Any-from_list_any is_whole (map (finding_in V image) pairs) (subst (λ (l : List Finding). list_any is_whole l ≡ true) are test) in
+      let it = any.1 in
+      let x = get_or pairs any.0 it.pair in
+      let long = length-map pairs (finding_in V image) in
+      let inside : any.0 < length pairs = omega (arith, any.2, long) in
+      let same : finding_in V image x ≡ it = sym (get_or-map (finding_in V image) pairs any.0 it.pair it inside) ∙ any.3 in
+      (x, Contains-get_or pairs any.0 it.pair inside, ltb-true 0 (held_in V image x).version (sym (whole_held V image x) ∙ ap is_whole same ∙ any.4))
+
+  held_any : (found : List Finding) (x : Pair) → found ≡ map (finding_in V image) pairs → Contains pairs x → 0 < (held_in V image x).version → list_any is_whole found ≡ true
+  held_any found x are has some =
+      let long = length-map pairs (finding_in V image) in
+      let inside : has.0 < length (map (finding_in V image) pairs) = omega (arith, has.1, long) in
+      ap (list_any is_whole) are ∙ list_any_at is_whole (map (finding_in V image) pairs) has.0 (finding_in V image x) inside
+      (ap is_whole (get_or-map (finding_in V image) pairs has.0 x (finding_in V image x) has.1 ∙ ap (finding_in V image) has.2) ∙ whole_held V image x ∙ lt-ltb 0 (held_in V image x).version some)
+
+  -- no store was found, and the pairs were looked at
+  pub pairs_taken : (store : Option Dimensions) (found : List Finding) (b : Bool) → store ≡ dimensions_on pages image → store ≡ None → found ≡ map (finding_in V image) pairs → b ≡ list_any is_whole found
+      → IsTrue b ↔ IsTaken pages image V pairs
+  pairs_taken store found b is nothing are test = (
+    (λ true_is. inr (any_held found are (sym test ∙ true_is))),
+    (λ taken. test ∙ ⊎_elim (λ some. absurd (some (sym is ∙ nothing))) (λ held. held_any found held.0 are held.1 held.2) taken),
+  )
+
+  -- nothing stands against it
+  pub free : (b : Bool) → b ≡ false → IsTrue b ↔ IsTaken pages image V pairs → IsTaken pages image V pairs → ⊥
+  free b false_is is taken = both (is.1 taken)
+    where
+      both : b ≡ true → ⊥
+      both true_is = cc

@@ -1,0 +1,16 @@
+-- What stands against making a store on a device.
+use Rattle.std.specs.Prelude.{◌≢◌, ◌⊎◌, ◌<◌, ℕ, Bool, List, Contains, None, nat_lt}
+use Rattle.cs_disk.specs.Disk.{Image}
+use Rattle.cs_pair.specs.declared.findings.Finding.{Finding}
+use Rattle.cs_pair.specs.declared.pairs.Pair.{Pair}
+use Rattle.cs_pair.specs.Findings.{held_of}
+use Rattle.cs_pair.specs.Pairs.{Versions, held_in}
+use Rattle.cs_pair.specs.Stores.{dimensions_on}
+
+-- one of the halves that were found is whole
+abbrev pub is_whole : Finding → Bool
+is_whole it = nat_lt 0 (held_of it).version
+
+-- A store of format 3 is on a device of so many pages, or a half of one of these pairs is whole.
+abbrev pub IsTaken : (pages : ℕ) → Image → Versions → List Pair → Type 0
+IsTaken pages image V pairs = (dimensions_on pages image ≢ None) ⊎ ((x : Pair) × Contains pairs x × (0 < (held_in V image x).version))

@@ -1,0 +1,31 @@
+-- What a disk shows as of the newest root that is whole.
+use Rattle.std.specs.Prelude.{ℕ, List, Option, Some, None, slice_get}
+use Rattle.cs_disk.specs.Disk.{Image, page}
+use Rattle.cs_frame.specs.Geometries.{Dimensions}
+use Rattle.cs_pair.specs.declared.findings.Finding.{Finding}
+use Rattle.cs_pair.specs.Findings.{held_of}
+use Rattle.cs_pair.specs.Older.{lowered}
+use Rattle.cs_pair.specs.Showing.{shown_on}
+use Rattle.cs_pair.specs.Stores.{dimensions_on, root_version}
+
+-- an image as of a root, where it has a store of these dimensions
+abbrev pub as_of : Option Dimensions → (root : ℕ) → Image → Image
+as_of None root image = image
+as_of (Some d) root image = lowered d root image
+
+-- the version of the newest root of format 3 that is whole, which is that on page 1 as the image shows: 0 where none is
+abbrev pub newest_root : (pages : ℕ) → Image → ℕ
+newest_root pages image = root_version 3 (page (shown_on pages image) 1)
+
+-- an image as it shows, as of that root
+abbrev pub older_on : (pages : ℕ) → Image → Image
+older_on pages image = as_of (dimensions_on pages image) (newest_root pages image) (shown_on pages image)
+
+-- the version that was found of a pair, 0 where there is none
+abbrev pub version_found : Option Finding → ℕ
+version_found None = 0
+version_found (Some it) = (held_of it).version
+
+-- the version of the newest root that is whole, 0 where none is: that of the second pair
+abbrev pub root_found : List Finding → ℕ
+root_found found = version_found (slice_get found 1)

@@ -1,0 +1,45 @@
+// Opened stores whose damaged pages are written anew.
+ghost use Rattle.std.specs.Prelude.{◌≡◌, ◌≢◌, ◌⊎◌, ◌↔◌, [], ℕ, IfErr, IfOk, MatchResult, None, Some};
+ghost use Rattle.std.specs.List.{AllByRecursion};
+ghost use Rattle.cs_disk.specs.Disk.{LeavesOnly, MayLeave, page, seen};
+ghost use Rattle.cs_pair.specs.Findings.{finding_in, passed_over};
+ghost use Rattle.cs_pair.specs.Paired.{disk_below, left_as_shown, moment_of, pairs_of, rules_of, state_shown, versions_of};
+ghost use Rattle.cs_pair.specs.Pairs.{half, is_turned};
+
+use crate::mounts::Mounted;
+use cs_chunk::refusal_of_disk;
+use cs_core::Core;
+use cs_deps::Refusal;
+use cs_disk::PageDisk;
+
+/// Closes an opened store, and writes each page anew that it has twice and of which one is damaged, with what the other holds, and makes that durable. What shows
+/// stays as it is, and the disk comes back: `Core::open` over it opens the store again. What the store had staged and not made persistent ends with it.
+///
+/// It takes an opened store, so that nothing is written over which an opening would be refused without: a damaged page may have held a newer root or section than the
+/// whole one. An opening is refused 27 RootLost where a section records a later root than the newest that is whole, 43 NotAStore where an older section doesn't show a place
+/// that the root names, and by the number of its fault where neither page of a pair is whole; the pages stay as they are then, for a reader by hand or `open_older_store`.
+/// Where an opening can't tell, as of a root that no section records yet, the store was opened as of the older one, and that is what is written.
+///
+/// Refused 1 DeviceFault, and 9 OutOfMemory, with the disk: some of the damaged pages may be written anew then and the rest not, and what shows is the same, so the
+/// store can be opened from the device and this be done again. Up to format 2 a store has no page twice, and the disk is flushed alone.
+pub fn mend<D: PageDisk + Drop>(core: Core<Mounted<D>>) -> Result<Mounted<D>, (Refusal, Mounted<D>)>
+    // No page is passed over any more.
+    ensures whole { D.honest (disk_below core.disk) → IfOk result (λ disk. AllByRecursion (λ x. passed_over (finding_in (versions_of core.disk) (seen (D.state (disk_below disk))) x) ≡ None) (pairs_of core.disk)) }
+    // What was passed over is written with what the newest page holds, and no other page is.
+    ensures copied { D.honest (disk_below core.disk) → IfOk result (λ disk. AllByRecursion (λ x. (number : ℕ) → passed_over (finding_in (versions_of core.disk) (seen (D.state (disk_below core.disk))) x) ≡ Some number → page (seen (D.state (disk_below disk))) number ≡ page (seen (D.state (disk_below core.disk))) (half x (is_turned (versions_of core.disk) (seen (D.state (disk_below core.disk))) x))) (pairs_of core.disk)) }
+    ensures untouched { D.honest (disk_below core.disk) → IfOk result (λ disk. (number : ℕ) → AllByRecursion (λ x. passed_over (finding_in (versions_of core.disk) (seen (D.state (disk_below core.disk))) x) ≢ Some number) (pairs_of core.disk) → page (seen (D.state (disk_below disk))) number ≡ page (seen (D.state (disk_below core.disk))) number) }
+    ensures durable { D.honest (disk_below core.disk) → IfOk result (λ disk. (D.state (disk_below disk)).volatile ≡ []) }
+    ensures shown { D.honest (disk_below core.disk) → MatchResult result (λ disk. seen (state_shown disk) ≡ seen (state_shown core.disk)) (λ refused. seen (state_shown refused.1) ≡ seen (state_shown core.disk)) }
+    ensures crash { D.honest (disk_below core.disk) → MatchResult result (λ disk. LeavesOnly moment_of left_as_shown core.disk disk (MayLeave (state_shown core.disk))) (λ refused. LeavesOnly moment_of left_as_shown core.disk refused.1 (MayLeave (state_shown core.disk))) }
+    ensures honest { MatchResult result (λ disk. D.honest (disk_below core.disk) ↔ D.honest (disk_below disk)) (λ refused. D.honest (disk_below core.disk) ↔ D.honest (disk_below refused.1)) }
+    ensures pages { MatchResult result (λ disk. D.page_count (disk_below disk) ≡ D.page_count (disk_below core.disk)) (λ refused. D.page_count (disk_below refused.1) ≡ D.page_count (disk_below core.disk)) }
+    ensures pairs { MatchResult result (λ disk. pairs_of disk ≡ pairs_of core.disk) (λ refused. pairs_of refused.1 ≡ pairs_of core.disk) }
+    ensures rules { MatchResult result (λ disk. rules_of disk ≡ rules_of core.disk) (λ refused. rules_of refused.1 ≡ rules_of core.disk) }
+    ensures refusals { IfErr result (λ refused. (refused.0 ≡ Refusal.DeviceFault) ⊎ (refused.0 ≡ Refusal.OutOfMemory)) }
+{
+    let mut disk = core.into_disk();
+    match disk.repair_all() {
+        Ok(()) => Ok(disk),
+        Err(fault) => Err((refusal_of_disk(fault), disk)),
+    }
+}
