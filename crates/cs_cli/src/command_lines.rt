@@ -1,7 +1,7 @@
 //! The command line.
 ghost use Rattle.std.specs.Prelude.{◌≤◌};
 
-use crate::progress::{takes_time, tell_ended, tell_format, tell_making};
+use crate::progress::{takes_time, tell_ended, tell_making};
 use crate::tools::run_tool;
 use crate::warnings::{warn_of, warn_of_file, warn_of_older};
 use clap::ArgMatches;
@@ -175,7 +175,6 @@ fn in_file<R: AllocGlobal + Files<File = File> + Eprint>(
         return in_old_file(rt, path);
     }
     let geometry = geometry_of(options)?;
-    tell_format(rt, geometry.format());
     let tells = terminal && takes_time(geometry.device_pages());
     if tells {
         tell_making(rt, path, geometry.device_pages());

@@ -4,6 +4,7 @@
 mod benches;
 mod command_lines;
 mod progress;
+mod salvages;
 mod tools;
 mod warnings;
 

@@ -10,13 +10,6 @@ pub fn takes_time(pages: u64) -> bool {
     pages >= LARGE
 }
 
-/// Tells of the format of a new file, where it isn't final.
-pub fn tell_format<R: Eprint>(rt: &R, format: u8) {
-    if format == 3 {
-        let _ = eprintln!(rt; "format 3 is not final: a later program may not open this file");
-    }
-}
-
 /// Tells that a file of so many pages of 4,096 bytes is being made.
 pub fn tell_making<R: Eprint>(rt: &R, path: &str, pages: u64) {
     let _ = eprintln!(rt; "making {path}: {} MiB", pages / 256);

@@ -3,6 +3,7 @@ ghost use Rattle.std.specs.Prelude.{◌≤◌};
 
 use crate::benches::bench_in_file;
 use crate::progress::Told;
+use crate::salvages::{is_salvage, mended_in_file, salvage_over_file};
 use crate::warnings::{warn_of, warn_of_file, warn_of_older};
 use clap::ArgMatches;
 use cs_core::Core;
@@ -29,6 +30,8 @@ enum Query {
     List(Listing),
     Stat(Style),
     Scrub(Style),
+    /// A scrub of a store whose damaged pages were written anew.
+    Repair(Style),
     Reclaim(Style),
     Export,
 }
@@ -79,7 +82,13 @@ where
     R::Reader: Drop,
     ensures { result ≤ 5 }
 {
+    if is_salvage(name, options) {
+        return salvage_over_file(rt, name, path, options, terminal);
+    }
     let older = is_as_of(name, options);
+    if older && is_repair(name, options) {
+        return tell_no_repair(rt);
+    }
     if let Some(query) = query_of(name, options) {
         let outcome = ask_buffered(rt, path, older, query, terminal);
         return explain_of(rt, path, outcome);
@@ -91,7 +100,7 @@ where
 }
 
 /// Tells why a command over the store in a file ended as it did, and where there is no store, which pages aren't whole; and gives the exit status.
-fn explain_of<R: AllocGlobal + Files<File = File> + Eprint>(
+pub fn explain_of<R: AllocGlobal + Files<File = File> + Eprint>(
     rt: &R,
     path: &str,
     outcome: Outcome,
@@ -110,8 +119,23 @@ fn is_as_of(name: &str, options: &ArgMatches) -> bool {
     !writes && options.get_flag("as-of")
 }
 
+/// Whether the command of this name is to write damaged pages anew.
+fn is_repair(name: &str, options: &ArgMatches) -> bool {
+    name == "scrub" && options.get_flag("repair")
+}
+
+/// Tells that nothing is written by way of an older root, and gives the exit status.
+fn tell_no_repair<R: Eprint>(rt: &R) -> u8
+    ensures { result ≤ 5 }
+{
+    let _ = eprintln!(rt;
+        "error: --repair writes to the file, and with --as-of nothing is written"
+    );
+    statuses::COMMAND_LINE
+}
+
 /// Tells that a word is no identifier, and gives the exit status.
-fn tell_no_id<R: Eprint>(rt: &R) -> u8
+pub fn tell_no_id<R: Eprint>(rt: &R) -> u8
     ensures { result ≤ 5 }
 {
     let _ = eprintln!(rt;
@@ -127,13 +151,23 @@ fn query_of(name: &str, options: &ArgMatches) -> Option<Query> {
     } else if name == "stat" {
         Some(Query::Stat(style_of(options.get_flag("json"))))
     } else if name == "scrub" {
-        Some(Query::Scrub(style_of(options.get_flag("json"))))
+        Some(scrub_of(options))
     } else if name == "reclaim" {
         Some(Query::Reclaim(style_of(options.get_flag("json"))))
     } else if name == "export" {
         Some(Query::Export)
     } else {
         None
+    }
+}
+
+/// Which scrub the options ask for.
+fn scrub_of(options: &ArgMatches) -> Query {
+    let style = style_of(options.get_flag("json"));
+    if is_repair("scrub", options) {
+        Query::Repair(style)
+    } else {
+        Query::Scrub(style)
     }
 }
 
@@ -189,13 +223,11 @@ fn ask_file<R: AllocGlobal + Files<File = File> + Eprint, W: Write>(
     terminal: bool,
     writer: &mut W,
 ) -> Outcome {
-    ask_opened(
-        rt,
-        open_in_file(rt, rt.alloc(), path),
-        query,
-        terminal,
-        writer,
-    )
+    let store = match query {
+        Query::Repair(_) => mended_in_file(rt, path),
+        _ => open_in_file(rt, rt.alloc(), path),
+    };
+    ask_opened(rt, store, query, terminal, writer)
 }
 
 /// The same of the store as of the newest root that is whole.
@@ -225,16 +257,17 @@ fn ask_opened<D: PageDisk + Drop, R: AllocGlobal + Eprint, W: Write>(
         Ok((mut core, findings)) => {
             warn_of(rt, &findings);
             let told = Told::new(rt, terminal);
-            ask(rt.alloc(), &mut core, query, &told, writer)
+            ask(rt.alloc(), &mut core, &findings, query, &told, writer)
         }
         Err(refusal) => Outcome::NoStore(refusal),
     }
 }
 
-/// Asks a store.
+/// Asks a store of whose pages this was found.
 fn ask<D: PageDisk, P: Progress, W: Write>(
     alloc: Global,
     core: &mut Core<D>,
+    findings: &[Finding],
     query: Query,
     progress: &P,
     writer: &mut W,
@@ -242,7 +275,8 @@ fn ask<D: PageDisk, P: Progress, W: Write>(
     match query {
         Query::List(listing) => list_of(alloc, core, listing, writer),
         Query::Stat(style) => stat(alloc, core, style, writer),
-        Query::Scrub(style) => scrub(alloc, core, progress, style, writer),
+        Query::Scrub(style) => scrub(alloc, core, findings, false, progress, style, writer),
+        Query::Repair(style) => scrub(alloc, core, findings, true, progress, style, writer),
         Query::Reclaim(style) => reclaim(alloc, core, style, writer),
         Query::Export => export(alloc, core, progress, writer),
     }

@@ -35,6 +35,7 @@ const RUN_EXAMPLES: &str = "Examples:
   cs_cli run --extents 64 --pages 8 < script             a store in memory, gone at the end
   cs_cli run --file s.store --new --extents 64 < script  a new store of 130 pages in a file
   cs_cli run --file s.store < script                     the store that is there, as it is there
+  cs_cli run --file s.store --new --format 3 --extents 64 --pages 256 < /dev/null
 
 With --file alone the geometry is the store's own. Without --file, --new has no effect.";
 
@@ -42,7 +43,7 @@ With --file alone the geometry is the store's own. Without --file, --new has no 
 const GET_EXAMPLES: &str = "Example:
   cs_cli get 00000000-0000-0000-0000-00000000000a --file s.store > shard
 
-Exit status: 0 found, 1 nothing under it, 5 it can't be read.";
+Exit status: 0 found, 1 nothing under it, 5 it can't be read, or with --salvage it isn't known.";
 
 /// What help says after the options of `put`.
 const PUT_EXAMPLES: &str = "Example:
@@ -66,7 +67,8 @@ const LIST_EXAMPLES: &str = "Examples:
 const EXPORT_EXAMPLES: &str = "Example, a copy in another geometry:
   cs_cli export --file a.store | cs_cli run --file b.store --new --extents 128 --pages 64
 
-A shard that can't be read is a remark in the script, `# ID refused N Name`, and the exit status is 5 then.";
+A shard that can't be read is a remark in the script, `# ID refused N Name`, and the exit status is 5 then. With --salvage shards that were deleted since,
+or never acknowledged, may be in the script.";
 
 /// What help says after the options of `stat`.
 const STAT_EXAMPLES: &str = "Example:
@@ -79,7 +81,8 @@ deleted. Empty extents have no line.";
 const SCRUB_EXAMPLES: &str = "Example:
   cs_cli scrub --file s.store || echo damaged
 
-Exit status: 0 all can be read, 5 something can't: each has a line, with the number and the name of what is wrong.";
+Exit status: 0 all can be read, 5 something can't: each has a line, with the number and the name of what is wrong. A page of the superblock or of the
+root that isn't whole has a line too; its other copy is taken.";
 
 /// What help says after the options of `reclaim`.
 const RECLAIM_EXAMPLES: &str = "Example:
@@ -136,6 +139,27 @@ const AS_OF: Choice = Choice {
     help: "Opens it as of the newest root that is whole, where it is refused 27 RootLost; nothing is written",
 };
 
+/// The option for a store that is damaged.
+const SALVAGE: Choice = Choice {
+    name: "salvage",
+    takes: Takes::Nothing,
+    help: "Goes on where a run of the index can't be read, by the newer ones, or where a newer root is lost; nothing is written",
+};
+
+/// The same of an export, which asks no index.
+const SALVAGE_FRAMES: Choice = Choice {
+    name: "salvage",
+    takes: Takes::Nothing,
+    help: "Prints the newest whole shard of each identifier that frames in the file spell, whatever the index names",
+};
+
+/// The option for pages that aren't whole.
+const REPAIR: Choice = Choice {
+    name: "repair",
+    takes: Takes::Nothing,
+    help: "Writes each page of the superblock and of the root anew first that isn't whole, from its other copy",
+};
+
 /// The commands.
 pub const FORMS: &[Form] = &[
     Form {
@@ -146,7 +170,7 @@ pub const FORMS: &[Form] = &[
             Choice {
                 name: "format",
                 takes: Takes::Number("2"),
-                help: "Which format a new store has: 2, or 3, which is not final",
+                help: "Which format a new store has: 2, or 3, which has more room and survives more damage",
             },
             Choice {
                 name: "extents",
@@ -180,7 +204,7 @@ pub const FORMS: &[Form] = &[
         name: "get",
         about: "Writes out the bytes of a shard",
         after: Some(GET_EXAMPLES),
-        options: &[ID, STORE, AS_OF],
+        options: &[ID, STORE, AS_OF, SALVAGE],
     },
     Form {
         name: "put",
@@ -212,13 +236,14 @@ pub const FORMS: &[Form] = &[
             },
             JSON,
             AS_OF,
+            SALVAGE,
         ],
     },
     Form {
         name: "export",
         about: "Prints a script that puts all shards",
         after: Some(EXPORT_EXAMPLES),
-        options: &[STORE, AS_OF],
+        options: &[STORE, AS_OF, SALVAGE_FRAMES],
     },
     Form {
         name: "stat",
@@ -230,7 +255,7 @@ pub const FORMS: &[Form] = &[
         name: "scrub",
         about: "Reads all that a store keeps, and prints what can't be read",
         after: Some(SCRUB_EXAMPLES),
-        options: &[STORE, JSON, AS_OF],
+        options: &[STORE, JSON, AS_OF, REPAIR],
     },
     Form {
         name: "reclaim",
@@ -267,8 +292,8 @@ pub const FORMS: &[Form] = &[
             },
             Choice {
                 name: "format",
-                takes: Takes::Number("2"),
-                help: "Which format the store has: 2, or 3, which is not final",
+                takes: Takes::Number("3"),
+                help: "Which format the store has: 3, or 2",
             },
             Choice {
                 name: "extents",

@@ -11,24 +11,24 @@ pub const LIMITS: Limits = Limits { history: 65_536 };
 /// `Store::make`.
 #[derive(Clone, Copy, Debug, PartialEq, Eq)]
 pub struct Options {
-    /// Its format: 2, or 3, which isn't final, so that a later program may not open the store.
+    /// Its format: 3, or 2, in which a store can run out of room for good, and a torn page of its superblock or its root loses it.
     pub format: u64,
-    /// How many extents it has, 4 to 2,048, in format 3 from 5 to 7,680.
+    /// How many extents it has, 5 to 7,680, in format 2 from 4 to 2,048.
     pub extents: u64,
-    /// How many pages of 4,096 bytes each of them has, 2 to 256, in format 3 to 65,535. They bound how many identifiers there may be, and how large a shard.
+    /// How many pages of 4,096 bytes each of them has, 2 to 65,535, in format 2 to 256. They bound how many identifiers there may be, and how large a shard.
     pub pages: u64,
     /// How many events it may keep.
     pub limits: Limits,
 }
 
 impl Default for Options {
-    ghost is_default = { λ options. (options.format ≡ 2) × (options.extents ≡ 64) × (options.pages ≡ 256) × (options.limits.history ≡ 65536) };
+    ghost is_default = { λ options. (options.format ≡ 3) × (options.extents ≡ 64) × (options.pages ≡ 256) × (options.limits.history ≡ 65536) };
 
-    /// 64 extents of 256 pages, which are 64 MiB of memory or of a file: room for 12,944 identifiers, the most that any store of format 2 names, for shards of 8,388,280
-    /// bytes at most, and for some 16 MiB of them in all.
+    /// Format 3, and 64 extents of 256 pages, which are 64 MiB of memory or of a file: room for 31,773 identifiers whose shards have one chunk each, for shards of
+    /// 8,388,072 bytes at most, and for some 30 MiB of them in all.
     fn default() -> Self {
         Options {
-            format: 2,
+            format: 3,
             extents: 64,
             pages: 256,
             limits: LIMITS,

@@ -1,6 +1,7 @@
 pub mod Appended
 pub mod Changing
 pub mod Continued
+pub mod Counting
 pub mod Drawing
 pub mod Exported
 pub mod Exporting
@@ -10,7 +11,10 @@ pub mod Payloads
 pub mod Putting
 pub mod Quiet
 pub mod Reading
+pub mod Rescuing
 pub mod Resting
+pub mod Retelling
+pub mod Salvaging
 pub mod Scrubbing
 pub mod Still
 pub mod Tidying

@@ -1,5 +1,5 @@
 -- What a reclaim that ends well leaves.
-use Rattle.std.proofs.Common.{◌≡◌, ◌≢◌, ◌∙◌, ◌⊎◌, ℕ, ◌<◌, ◌≤◌, List, [], ◌∷◌, false, true, Ok, Err, refl, sym, ap, subst, inl, inr, arith}
+use Rattle.std.proofs.Common.{◌≡◌, ◌≢◌, ◌∙◌, ◌⊎◌, ℕ, ◌<◌, List, [], ◌∷◌, false, true, Ok, Err, refl, sym, ap, subst, inl, inr, arith}
 use Rattle.std.specs.Prelude.{IsOk, OnOk, Result}
 use Rattle.cs_chunk.specs.Reads.{OnlyReads}
 use Rattle.cs_core.specs.declared.events.Event.{Event}

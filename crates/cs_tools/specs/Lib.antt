@@ -4,6 +4,9 @@ pub mod Gets
 pub mod Graphs
 pub mod Outcomes
 pub mod Outputs
+pub mod Pages
 pub mod Reclaims
+pub mod Rescues
+pub mod Salvages
 pub mod Scrubs
 pub mod Stats

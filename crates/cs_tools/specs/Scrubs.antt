@@ -1,22 +1,25 @@
 -- How the command `scrub` ends.
-use Rattle.std.specs.Prelude.{◌≡◌, ◌≢◌, ℕ, List, []}
+use Rattle.std.specs.Prelude.{◌≡◌, ◌≢◌, ◌⊎◌, ℕ, List, []}
 use Rattle.cs_deps.specs.declared.refusals.Refusal.TheVariants.{OutOfMemory}
 use Rattle.cs_extent.specs.State.{State as ExtentsState}
 use Rattle.cs_index.specs.State.{State as Index}
+use Rattle.cs_pair.specs.declared.findings.Finding.{Finding}
 use Rattle.cs_scrub.specs.Scrubs.{AreCaused, IsScrubbed, device_faults}
 use Rattle.cs_survey.specs.Failures.{RisesBy}
 use Rattle.cs_scrub.specs.declared.damages.Scrubbed.{Scrubbed}
+use Rattle.cs_tools.specs.Pages.{AreWhole}
 use Rattle.cs_tools.specs.declared.outcomes.Outcome.{Outcome}
 use Rattle.cs_tools.specs.declared.outcomes.Outcome.TheVariants.{Absent, Damaged, Done, Failed, NoStore, Refused, Unread}
 
 -- All that the index names was gone through, with these counts of the disk's failures before and after, and nothing is named that can't be read, or
--- something is, with 1 only where that count rose or stood at its end, and of no more frames than it rose by; or memory ran out, or the writer failed.
-abbrev pub Scrubs : ExtentsState → (view : ℕ → List ℕ) → Index → (before after : ℕ) → Outcome → Type 0
-Scrubs x view index before after Done = (found : Scrubbed) × IsScrubbed x view index found × (found.damages.items ≡ [])
-Scrubs x view index before after Damaged = (found : Scrubbed) × IsScrubbed x view index found × AreCaused before after found.damages.items
-    × RisesBy (device_faults found.damages.items) before after × (found.damages.items ≢ [])
-Scrubs x view index before after (Refused r) = r ≡ OutOfMemory
-Scrubs x view index before after Failed = Unit {0}
-Scrubs x view index before after Absent = ⊥
-Scrubs x view index before after (NoStore r) = ⊥
-Scrubs x view index before after (Unread r) = ⊥
+-- something is, with 1 only where that count rose or stood at its end, and of no more frames than it rose by; or memory ran out, or the writer failed. Pages that the store has twice
+-- are damages too, as these findings tell them.
+abbrev pub Scrubs : ExtentsState → (view : ℕ → List ℕ) → Index → List Finding → (before after : ℕ) → Outcome → Type 0
+Scrubs x view index findings before after Done = (found : Scrubbed) × IsScrubbed x view index found × (found.damages.items ≡ []) × AreWhole findings
+Scrubs x view index findings before after Damaged = (found : Scrubbed) × IsScrubbed x view index found × AreCaused before after found.damages.items
+    × RisesBy (device_faults found.damages.items) before after × ((found.damages.items ≢ []) ⊎ (¬ AreWhole findings))
+Scrubs x view index findings before after (Refused r) = r ≡ OutOfMemory
+Scrubs x view index findings before after Failed = Unit {0}
+Scrubs x view index findings before after Absent = ⊥
+Scrubs x view index findings before after (NoStore r) = ⊥
+Scrubs x view index findings before after (Unread r) = ⊥

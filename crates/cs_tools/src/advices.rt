@@ -9,15 +9,15 @@ const DEVICE: &str =
 
 /// Of a page that is damaged.
 const DAMAGED: &str =
-    "A page is damaged. A shard: put it again or delete it, others aren't affected; where the store can't be opened: restore the file from a copy. `scrub` lists what is damaged.";
+    "A page is damaged. A shard: put it again or delete it, others aren't affected; where the store can't be opened: restore the file from a copy, or read what is left by `--salvage`. `scrub` lists what is damaged.";
 
 /// Of a whole frame that isn't the one that its place means.
 const MISPLACED: &str =
-    "A write went to a wrong page, or was lost: look to the device, and to what copies the file. A shard: put it again or delete it, others aren't affected; where the store can't be opened: restore the file from a copy. `scrub` lists what is misplaced.";
+    "A write went to a wrong page, or was lost: look to the device, and to what copies the file. A shard: put it again or delete it, others aren't affected; where the store can't be opened: restore the file from a copy, or read what is left by `--salvage`. `scrub` lists what is misplaced.";
 
 /// Of a root that is older than one that was persistent.
 const ROOT_LOST: &str =
-    "The root is older than one that was persistent, so commands that were acknowledged would be lost: look to the device, and to what copies the file, and restore the file from a copy.";
+    "The root is older than one that was persistent, so commands that were acknowledged would be lost: look to the device, and to what copies the file, and restore the file from a copy. `--as-of` reads what is left.";
 
 /// What whoever meets this refusal does about it, in a sentence. Of the same number each command says the same.
 pub fn advice(refusal: Refusal) -> &'static str

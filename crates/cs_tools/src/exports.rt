@@ -26,7 +26,7 @@ use std::io;
 use std::io::Write;
 
 /// How many lines are between two syncs.
-const LINES: usize = 1_000;
+pub const LINES: usize = 1_000;
 
 /// Prints a script that puts all shards that are there, by rising identifiers, with a sync behind each 1,000 of them and at the end. A shard that
 /// can't be read has a remark in its place.
@@ -130,7 +130,7 @@ fn print_shard<D: PageDisk, W: Write>(
 }
 
 /// `put`, the identifier and the bytes.
-fn print_put<W: Write>(writer: &mut W, id: ShardId, bytes: &[u8]) -> io::Result<()>
+pub fn print_put<W: Write>(writer: &mut W, id: ShardId, bytes: &[u8]) -> io::Result<()>
     ensures { OnOk result (Appends (W.contents writer.old) (W.contents writer.new) (put_line id bytes.now)) }
 {
     write!(writer, "put ")?;
@@ -141,7 +141,7 @@ fn print_put<W: Write>(writer: &mut W, id: ShardId, bytes: &[u8]) -> io::Result<
 }
 
 /// A remark, with the identifier and why the shard can't be read.
-fn print_remark<W: Write>(writer: &mut W, id: ShardId, refusal: Refusal) -> io::Result<()>
+pub fn print_remark<W: Write>(writer: &mut W, id: ShardId, refusal: Refusal) -> io::Result<()>
     ensures { OnOk result (Appends (W.contents writer.old) (W.contents writer.new) (remark_line id refusal)) }
 {
     write!(writer, "# ")?;

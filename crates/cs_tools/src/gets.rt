@@ -36,7 +36,7 @@ pub fn get<D: PageDisk, W: Write>(store: &mut Store<D>, id: ShardId, writer: &mu
 }
 
 /// Writes these bytes out.
-fn write_out<W: Write>(writer: &mut W, bytes: &[u8]) -> Outcome
+pub fn write_out<W: Write>(writer: &mut W, bytes: &[u8]) -> Outcome
     ensures { ((result ≡ Done) × Appends (W.contents writer.old) (W.contents writer.new) bytes.now) ⊎ (result ≡ Failed) }
 {
     match write_and_flush(writer, bytes) {

@@ -11,8 +11,11 @@ mod graphs;
 mod lists;
 mod outcomes;
 mod outputs;
+mod pages;
 mod puts;
 mod reclaims;
+mod rescues;
+mod salvages;
 mod scrubs;
 mod stats;
 mod timings;
@@ -28,8 +31,11 @@ pub use outcomes::{Outcome, explain};
 pub use outputs::Style;
 pub use puts::put;
 pub use reclaims::reclaim;
+pub use rescues::{Got, explain_got, get_rescued, list_rescued, open_rescue};
+pub use salvages::{Salvaged, export_salvaged, salvage};
 pub use scrubs::scrub;
 pub use stats::stat;
 
 // What callers need of the crate below.
+pub use cs_salvage::Missing;
 pub use cs_scrub::Progress;

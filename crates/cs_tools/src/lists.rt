@@ -46,7 +46,7 @@ pub fn list<D: PageDisk, W: Write>(
 }
 
 /// Prints identifiers, one a line.
-fn print_ids<W: Write>(writer: &mut W, ids: &[ShardId], style: Style) -> io::Result<()>
+pub fn print_ids<W: Write>(writer: &mut W, ids: &[ShardId], style: Style) -> io::Result<()>
     ensures { OnOk result (Appends (W.contents writer.old) (W.contents writer.new) (flat_map (id_line style) ids.now)) }
 {
     for id in ids {

@@ -3,57 +3,88 @@ ghost use Rattle.std.specs.Prelude.{◌≡◌, ◌≢◌, ◌⊎◌, ℕ, List, 
 ghost use Rattle.cs_chunk.specs.Newest.{AreNewest};
 ghost use Rattle.cs_chunk.specs.Reads.{OnlyReads};
 ghost use Rattle.cs_disk.specs.Disk.{seen};
+ghost use Rattle.cs_tools.specs.Pages.{AreWhole, left_damaged};
 ghost use Rattle.cs_tools.specs.Scrubs.{Scrubs};
 ghost use Rattle.cs_tools.specs.declared.outcomes.Outcome.TheVariants.{Damaged, Done, Failed};
 
 use crate::outcomes::Outcome;
 use crate::outputs::{Style, print_id, print_refusal};
+use crate::pages::{count_left, print_pages};
 use cs_core::Core;
 use cs_deps::Refusal;
 use cs_disk::PageDisk;
 use cs_frame::{Locator, ShardId};
+use cs_mount::Finding;
 use cs_scrub::{Damage, Progress, Scrubbed, scrub as find_damages};
 use std::alloc::Global;
 use std::io;
 use std::io::Write;
 
-/// Reads each frame that the index names, prints those that can't be read, one a line, and then how many were read.
+/// Reads each frame that the index names, prints those that can't be read, one a line, and then how many were read. Before them it prints the pages that were found
+/// not to be whole, of those that the store has twice: where they were written anew they aren't damages any more.
 pub fn scrub<D: PageDisk, P: Progress, W: Write>(
     alloc: Global,
     core: &mut Core<D>,
+    findings: &[Finding],
+    mended: bool,
     progress: &P,
     style: Style,
     writer: &mut W,
 ) -> Outcome
     ensures found { D.honest core.old.disk → (view : ℕ → List ℕ) → AreNewest core.old.store.graph (seen (D.state core.old.disk)) view
-        → Scrubs core.old.store.extents view core.old.store.index (D.failure_count core.old.disk) (D.failure_count core.new.disk) result }
+        → Scrubs core.old.store.extents view core.old.store.index (left_damaged mended findings.now) (D.failure_count core.old.disk) (D.failure_count core.new.disk) result }
     ensures same { core.new ≡ record core.old { disk = core.new.disk } }
     ensures disk { OnlyReads D.PageDisk core.old.disk core.new.disk }
 {
     match find_damages(alloc, core, progress) {
-        Ok(found) => report(&found, style, writer),
+        Ok(found) => report(&found, findings, mended, style, writer),
         Err(_) => Outcome::Refused(Refusal::OutOfMemory),
     }
 }
 
 /// Prints what was found.
-fn report<W: Write>(found: &Scrubbed, style: Style, writer: &mut W) -> Outcome
-    ensures { ((result ≡ Done) × (found.now.damages.items ≡ [])) ⊎ ((result ≡ Damaged) × (found.now.damages.items ≢ [])) ⊎ (result ≡ Failed) }
+fn report<W: Write>(
+    found: &Scrubbed,
+    findings: &[Finding],
+    mended: bool,
+    style: Style,
+    writer: &mut W,
+) -> Outcome
+    ensures { ((result ≡ Done) × (found.now.damages.items ≡ []) × AreWhole (left_damaged mended findings.now)) ⊎ ((result ≡ Damaged) × ((found.now.damages.items ≢ []) ⊎ (¬ AreWhole (left_damaged mended findings.now)))) ⊎ (result ≡ Failed) }
 {
-    match print_found(found, style, writer) {
-        Ok(()) if found.damages.is_empty() => Outcome::Done,
+    let pages = count_left(findings, mended);
+    match print_all(found, findings, mended, pages, style, writer) {
+        Ok(()) if found.damages.is_empty() && pages == 0 => Outcome::Done,
         Ok(()) => Outcome::Damaged,
         Err(_) => Outcome::Failed,
     }
 }
 
-/// The same, with the writer's error.
-fn print_found<W: Write>(found: &Scrubbed, style: Style, writer: &mut W) -> io::Result<()> {
+/// Prints the pages that aren't whole, and then what was found, with the writer's error.
+fn print_all<W: Write>(
+    found: &Scrubbed,
+    findings: &[Finding],
+    mended: bool,
+    pages: usize,
+    style: Style,
+    writer: &mut W,
+) -> io::Result<()> {
+    print_pages(writer, findings, mended, style)?;
+    print_found(found, pages, style, writer)
+}
+
+/// Prints what was found, with the writer's error. So many pages that aren't whole were printed.
+fn print_found<W: Write>(
+    found: &Scrubbed,
+    pages: usize,
+    style: Style,
+    writer: &mut W,
+) -> io::Result<()> {
     for damage in &found.damages {
         print_damage(writer, *damage, style)?;
     }
     let Scrubbed { chunks, runs, .. } = found;
-    let damaged = found.damages.len();
+    let damaged = found.damages.len().saturating_add(pages);
     match style {
         Style::Text => writeln!(
             writer,

@@ -61,8 +61,8 @@ const GEOMETRIES: &[(&[&str], u64)] = &[
         ],
         503_308_832,
     ),
-    (&["cs_cli", "bench", "--file=f"], 16_386),
-    (&["cs_cli", "bench", "--file=f", "--format=3"], 16_388),
+    (&["cs_cli", "bench", "--file=f"], 16_388),
+    (&["cs_cli", "bench", "--file=f", "--format=2"], 16_386),
 ];
 
 /// Words that ask for one that there isn't.
@@ -155,6 +155,27 @@ fn a_check_has_no_options(rt: HostRuntime) -> Result<(), Fail> {
     Ok(())
 }
 
+/// Words that ask for what is left of a damaged store, or to mend it, and the flag that tells.
+const DAMAGES: &[(&[&str], &str)] = &[
+    (
+        &["cs_cli", "get", "an id", "--file", "f", "--salvage"],
+        "salvage",
+    ),
+    (&["cs_cli", "list", "--file", "f", "--salvage"], "salvage"),
+    (&["cs_cli", "export", "--salvage", "--file", "f"], "salvage"),
+    (&["cs_cli", "scrub", "--file", "f", "--repair"], "repair"),
+];
+
+#[test]
+fn the_flags_of_damaged_stores(rt: HostRuntime) -> Result<(), Fail> {
+    for (words, flag) in DAMAGES {
+        let matches = read(rt.alloc(), words)?.expect(&rt, "read");
+        let (_, options) = matches.subcommand().expect(&rt, "a command");
+        assert!(&rt; options.get_flag(flag));
+    }
+    Ok(())
+}
+
 /// Words that are at fault, and how.
 const FAULTS: &[(&[&str], ErrorKind)] = &[
     (
@@ -165,6 +186,14 @@ const FAULTS: &[(&[&str], ErrorKind)] = &[
     (&["cs_cli", "runs"], ErrorKind::InvalidSubcommand),
     (&["cs_cli", "run", "race"], ErrorKind::UnknownArgument),
     (&["cs_cli", "run", "--step"], ErrorKind::UnknownArgument),
+    (
+        &["cs_cli", "stat", "--file", "f", "--salvage"],
+        ErrorKind::UnknownArgument,
+    ),
+    (
+        &["cs_cli", "export", "--file", "f", "--repair"],
+        ErrorKind::UnknownArgument,
+    ),
     (
         &["cs_cli", "run", "--extents", "x"],
         ErrorKind::ValueValidation,

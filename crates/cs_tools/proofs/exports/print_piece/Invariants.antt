@@ -6,6 +6,7 @@ use Rattle.cs_index.specs.State.{id_number, index_of}
 use Rattle.cs_model.specs.Index.{live_at}
 use Rattle.cs_model.specs.State.{State, map_now}
 use Rattle.cs_tools.proofs.Exporting.{ArePrinted}
+use Rattle.cs_tools.proofs.Retelling.{IsTold}
 use Rattle.cs_tools.proofs.exports.print_piece.Given as goal
 
 abbrev pub invariant-loop-id : goal.invariant-loop-id
@@ -14,5 +15,5 @@ invariant-loop-id g l = record {
   disk : OnlyReads g.D.PageDisk l.fn.core.disk l.core.disk;
   lines : (s : State) → IsIn g.D.PageDisk.state l.fn.core s → g.D.PageDisk.honest l.fn.core.disk
       → AllByRecursion (λ id. live_at (index_of l.fn.core.store.index) (id_number id) ≢ []) l.ids
-      → ArePrinted (map_now s) (g.D.PageDisk.failure_count l.fn.core.disk) (g.D.PageDisk.failure_count l.core.disk) (take l.id-index l.ids) l.whole (g.W.Write.contents l.fn.writer) (g.W.Write.contents l.writer);
+      → ArePrinted (IsTold (map_now s) (g.D.PageDisk.failure_count l.fn.core.disk) (g.D.PageDisk.failure_count l.core.disk)) (take l.id-index l.ids) l.whole (g.W.Write.contents l.fn.writer) (g.W.Write.contents l.writer);
 }

@@ -5,6 +5,7 @@ use Rattle.cs_core.proofs.SectionReads.{reads_none}
 use Rattle.cs_frame.specs.declared.identifiers.ShardId.{ShardId}
 use Rattle.cs_model.specs.State.{map_now}
 use Rattle.cs_tools.proofs.Exporting.{IsPrintedUpTo, all_printed, nothing_printed, piece_of, piece_printed}
+use Rattle.cs_tools.proofs.Retelling.{IsTold, piece_told, script_read, told_around}
 use Rattle.cs_tools.proofs.Still.{same_live, same_on, stays_in}
 use Rattle.cs_tools.proofs.exports.print_shards.Goals as goal
 
@@ -18,7 +19,7 @@ loop-piece-init g c =
       size = ap (λ (items : Chunks ShardId). items.size) same ∙ c.chunks-piece-items.ensures.size;
       same = refl;
       disk = reads_none g.D.PageDisk c.args.core.now.disk;
-      lines = λ s is honest live. subst (λ (ids : List ShardId). IsPrintedUpTo (map_now s) failed failed c.args.ids.now ids true contents contents) (sym rest) (nothing_printed (map_now s) failed c.args.ids.now contents);
+      lines = λ s is honest live. subst (λ (ids : List ShardId). IsPrintedUpTo (IsTold (map_now s) failed failed) c.args.ids.now ids true contents contents) (sym rest) (nothing_printed (IsTold (map_now s) failed failed) c.args.ids.now contents);
     }
 
 pub loop-piece-preserved : goal.loop-piece-preserved
@@ -40,14 +41,18 @@ loop-piece-preserved g c =
       disk = reads_on disks first.disk now.disk c.print_piece.new.core.disk was.disk c.in_ok-read.ensures.disk;
       lines = λ s is honest live.
           let so_far = was.lines s is honest live in
-          piece_printed (map_now s) (failures first.disk) (failures now.disk) (failures c.print_piece.new.core.disk) c.loop-piece.piece-iterator.size ids rest piece left c.loop-piece.whole c.in_ok-read.read (contents c.args.writer.now) (contents c.loop-piece.writer) (contents c.print_piece.new.writer)
+          piece_printed (IsTold (map_now s)) (told_around (map_now s)) (failures first.disk) (failures now.disk) (failures c.print_piece.new.core.disk) c.loop-piece.piece-iterator.size ids rest piece left c.loop-piece.whole c.in_ok-read.read (contents c.args.writer.now) (contents c.loop-piece.writer) (contents c.print_piece.new.writer)
           was.disk.failures c.in_ok-read.ensures.disk.failures was.size so_far step.1.0 step.1.1 step.1.2
+          (piece_told (map_now s) (failures now.disk) (failures c.print_piece.new.core.disk) piece c.in_ok-read.read (contents c.loop-piece.writer) (contents c.print_piece.new.writer)
           (c.in_ok-read.ensures.lines s (stays_in disks first now was.same was.disk honest s is) (was.disk.honesty.0 honest)
-          (same_live disks first now was.same was.disk piece (piece_of _ (map_now s) (failures first.disk) (failures now.disk) ids rest piece left c.loop-piece.whole (contents c.args.writer.now) (contents c.loop-piece.writer) so_far step.1.0 live)));
+          (same_live disks first now was.same was.disk piece (piece_of _ (IsTold (map_now s) (failures first.disk) (failures now.disk)) ids rest piece left c.loop-piece.whole (contents c.args.writer.now) (contents c.loop-piece.writer) so_far step.1.0 live))));
     }
 
 pub returns-clause-script : goal.returns-clause-script
 returns-clause-script g c s is honest live =
     let contents = g.W.Write.contents in
-    all_printed (map_now s) (g.D.PageDisk.failure_count c.args.core.now.disk) (g.D.PageDisk.failure_count c.loop-piece.core.disk) c.args.ids.now c.loop-piece.piece-iterator.rest.now c.loop-piece.whole (contents c.args.writer.now) (contents c.loop-piece.writer) (contents c.flush.new.self)
-    (c.loop-piece.invariant.lines s is honest live) c.in-None.ensures.steps.1.0 c.in_ok-flush.ensures.bytes
+    let x = g.D.PageDisk.failure_count c.args.core.now.disk in
+    let y = g.D.PageDisk.failure_count c.loop-piece.core.disk in
+    script_read (map_now s) x y c.args.ids.now c.loop-piece.whole (contents c.args.writer.now) (contents c.flush.new.self)
+    (all_printed (IsTold (map_now s) x y) c.args.ids.now c.loop-piece.piece-iterator.rest.now c.loop-piece.whole (contents c.args.writer.now) (contents c.loop-piece.writer) (contents c.flush.new.self)
+    (c.loop-piece.invariant.lines s is honest live) c.in-None.ensures.steps.1.0 c.in_ok-flush.ensures.bytes)

@@ -6,6 +6,7 @@ use Rattle.cs_index.specs.State.{id_number, index_of}
 use Rattle.cs_model.specs.Index.{live_at}
 use Rattle.cs_model.specs.State.{State, map_now}
 use Rattle.cs_tools.proofs.Exporting.{IsPrintedUpTo}
+use Rattle.cs_tools.proofs.Retelling.{IsTold}
 use Rattle.cs_tools.proofs.exports.print_shards.Given as goal
 
 abbrev pub invariant-loop-piece : goal.invariant-loop-piece
@@ -15,5 +16,5 @@ invariant-loop-piece g l = record {
   disk : OnlyReads g.D.PageDisk l.fn.core.disk l.core.disk;
   lines : (s : State) → IsIn g.D.PageDisk.state l.fn.core s → g.D.PageDisk.honest l.fn.core.disk
       → AllByRecursion (λ id. live_at (index_of l.fn.core.store.index) (id_number id) ≢ []) l.ids
-      → IsPrintedUpTo (map_now s) (g.D.PageDisk.failure_count l.fn.core.disk) (g.D.PageDisk.failure_count l.core.disk) l.ids l.piece-iterator.rest.now l.whole (g.W.Write.contents l.fn.writer) (g.W.Write.contents l.writer);
+      → IsPrintedUpTo (IsTold (map_now s) (g.D.PageDisk.failure_count l.fn.core.disk) (g.D.PageDisk.failure_count l.core.disk)) l.ids l.piece-iterator.rest.now l.whole (g.W.Write.contents l.fn.writer) (g.W.Write.contents l.writer);
 }

@@ -1,0 +1,52 @@
+-- How many pages were passed over.
+use Rattle.std.proofs.Common.{◌≡◌, ◌≢◌, ◌⊎◌, ◌==◌, ◌<◌, ◌≤◌, ◌+◌, ◌-◌, ◌^◌, ℕ, Bool, true, false, zero, suc, List, [], ◌∷◌, None, eqb-true, get_or, length, take, inl, inr, refl, sym, subst, arith}
+use Rattle.std.specs.Prelude.{MatchBool, min}
+use Rattle.std.proofs.lemmas.List.{take_all}
+use Rattle.cs_pair.specs.Findings.{passed_over}
+use Rattle.cs_pair.specs.declared.findings.Finding.{Finding}
+use Rattle.cs_tools.specs.Pages.{AreWhole}
+
+-- so many of these were passed over that none were, or some
+abbrev pub IsCountOf : List Finding → ℕ → Type 0
+IsCountOf findings n = ((n ≡ 0) × AreWhole findings) ⊎ ((0 < n) × (¬ AreWhole findings))
+
+whole_more : (findings : List Finding) (i : ℕ) (d : Finding) → i < length findings → AreWhole (take i findings) → passed_over (get_or findings i d) ≡ None → AreWhole (take (suc i) findings)
+whole_more [] i d lt all is = absurd (omega (arith, lt))
+whole_more (f ∷ fs) zero d lt all is = (is, tt)
+whole_more (f ∷ fs) (suc i) d lt all is = (all.0, whole_more fs i d (omega (arith, lt)) all.1 is)
+
+whole_less : (findings : List Finding) (i : ℕ) → AreWhole (take (suc i) findings) → AreWhole (take i findings)
+whole_less [] zero all = tt
+whole_less [] (suc i) all = tt
+whole_less (f ∷ fs) zero all = tt
+whole_less (f ∷ fs) (suc i) all = (all.0, whole_less fs i all.1)
+
+whole_last : (findings : List Finding) (i : ℕ) (d : Finding) → i < length findings → AreWhole (take (suc i) findings) → passed_over (get_or findings i d) ≡ None
+whole_last [] i d lt all = absurd (omega (arith, lt))
+whole_last (f ∷ fs) zero d lt all = all.0
+whole_last (f ∷ fs) (suc i) d lt all = whole_last fs i d (omega (arith, lt)) all.1
+
+-- one finding more
+count_more : (findings : List Finding) (i : ℕ) (d : Finding) (n one m : ℕ) → i < length findings → IsCountOf (take i findings) n
+    → ((one ≡ 0) × (passed_over (get_or findings i d) ≡ None)) ⊎ ((one ≡ 1) × (passed_over (get_or findings i d) ≢ None)) → m ≡ min (n + one) (2 ^ 64 - 1) → IsCountOf (take (suc i) findings) m
+count_more findings i d n one m lt (inl so_far) (inl is) sum = inl (omega (arith, sum, so_far.0, is.0), whole_more findings i d lt so_far.1 is.1)
+count_more findings i d n one m lt (inl so_far) (inr is) sum = inr (omega (arith, sum, so_far.0, is.0), λ all. is.1 (whole_last findings i d lt all))
+count_more findings i d n one m lt (inr so_far) is sum = inr (omega (arith, sum, so_far.0), λ all. so_far.1 (whole_less findings i all))
+
+pub counted : (findings : List Finding) (i : ℕ) (d : Finding) (n one m : ℕ) → i < length findings → IsCountOf (take i findings) n
+    → ((one ≡ 0) × (passed_over (get_or findings i d) ≡ None)) ⊎ ((one ≡ 1) × (passed_over (get_or findings i d) ≢ None)) → m ≡ min (n + one) (2 ^ 64 - 1) → IsCountOf (take (i + 1) findings) m
+counted findings i d n one m lt so_far is sum =
+    let next : suc i ≡ i + 1 = omega arith in
+    subst (λ (k : ℕ). IsCountOf (take k findings) m) next (count_more findings i d n one m lt so_far is sum)
+
+-- whether there are none
+none_or_some : (findings : List Finding) (n : ℕ) → IsCountOf findings n → MatchBool (n == 0) (AreWhole findings) (¬ AreWhole findings)
+none_or_some findings n (inl is) = subst (λ (k : ℕ). MatchBool (k == 0) (AreWhole findings) (¬ AreWhole findings)) (sym is.0) is.1
+none_or_some findings n (inr is) = go (n == 0) refl
+  where
+    go : (b : Bool) → (n == 0) ≡ b → MatchBool b (AreWhole findings) (¬ AreWhole findings)
+    go true none = let no : n ≡ 0 = eqb-true n 0 none in absurd (omega (arith, no, is.0))
+    go false some = is.1
+
+pub all_counted : (findings : List Finding) (i n : ℕ) → length findings ≤ i → IsCountOf (take i findings) n → MatchBool (n == 0) (AreWhole findings) (¬ AreWhole findings)
+all_counted findings i n le is = none_or_some findings n (subst (λ (l : List Finding). IsCountOf l n) (take_all i findings le) is)

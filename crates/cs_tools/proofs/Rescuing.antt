@@ -1,0 +1,45 @@
+-- What was read of a store that is read for what can be got of it, by another fact that says that the disk is honest.
+use Rattle.std.proofs.Common.{ℕ, List, Some, None}
+use Rattle.std.specs.Prelude.{Option}
+use Rattle.cs_extent.specs.State.{State as ExtentsState}
+use Rattle.cs_frame.specs.declared.locators.Locator.{Locator}
+use Rattle.cs_rescue.specs.Founds.{Found}
+use Rattle.cs_rescue.specs.Rescued.{IsOfNewest, IsRescued}
+use Rattle.cs_rescue.specs.Runs.{IsEndOf}
+use Rattle.cs_rescue.specs.declared.runs.DamagedRun.{DamagedRun}
+
+module _ (honest other : Type 0) (says : other → honest) where
+  end_by : (x : ExtentsState) (view : ℕ → List ℕ) (places : List Locator) (left : ℕ) (damaged : Option DamagedRun) → IsEndOf honest x view places left damaged → IsEndOf other x view places left damaged
+  end_by x view places left None is = is
+  end_by x view places left (Some damaged) is = record { some = is.some; last = is.last; answered = is.answered; why = λ h. is.why (says h) }
+
+  newest_by : (view : ℕ → List ℕ) (f : Found) → IsOfNewest honest view f → IsOfNewest other view f
+  newest_by view f is = record {
+    runs = is.runs;
+    newest = record {
+      left = is.newest.left;
+      no_more = is.newest.no_more;
+      listed = is.newest.listed;
+      each = λ h. is.newest.each (says h);
+      end = end_by f.extents view f.places is.newest.left f.damaged is.newest.end;
+    };
+    index = is.index;
+  }
+
+  pub rescued_by : (count : ℕ) (view : ℕ → List ℕ) (f : Found) → IsRescued honest count view f → IsRescued other count view f
+  rescued_by count view f (format, versions, records, pages, written, is) = (
+    format,
+    versions,
+    records,
+    pages,
+    written,
+    record {
+      sized = is.sized;
+      geometry = is.geometry;
+      extents = is.extents;
+      sections = λ h. is.sections (says h);
+      root = λ h. is.root (says h);
+      lost = is.lost;
+      runs = newest_by view f is.runs;
+    },
+  )

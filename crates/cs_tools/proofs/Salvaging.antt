@@ -1,0 +1,97 @@
+-- What is salvaged of a device, and what is told of it.
+use Rattle.std.proofs.Common.{◌≡◌, ◌≢◌, ◌⊎◌, ◌&&◌, ◌<◌, ◌≤◌, ◌+◌, ℕ, Bool, true, false, List, [], ◌∷◌, ◌++◌, get_or, length, suc, take, inl, inr, sym, subst, arith}
+use Rattle.std.specs.Prelude.{All, Contains, Err, Ok, Option, Result, min}
+use Rattle.std.specs.Io.KnownBytes.{Appends}
+use Rattle.std.specs.List.{AllByRecursion, AllZip, list_all}
+use Rattle.cs_deps.specs.Refusals.{number_of}
+use Rattle.cs_deps.specs.declared.refusals.Refusal.{Refusal}
+use Rattle.cs_deps.specs.declared.refusals.Refusal.TheVariants as refusal
+use Rattle.cs_disk.specs.Disk.{HasCause, Image, Rises, State, seen}
+use Rattle.cs_disk.specs.Faults.{disk_fault_number}
+use Rattle.cs_disk.specs.declared.disk.PageDisk.{Ghosts as PageDisk}
+use Rattle.cs_disk.specs.declared.fault.DiskFault.{DiskFault}
+use Rattle.cs_disk.specs.declared.fault.DiskFault.TheVariants as fault
+use Rattle.cs_frame.specs.Geometries.{Dimensions}
+use Rattle.cs_pair.specs.Reads.{OnlyReads as OnlyReadsPairs}
+use Rattle.cs_salvage.specs.Parts.{AreParts, IsPart}
+use Rattle.cs_salvage.specs.Reads.{OnlyReads}
+use Rattle.cs_salvage.specs.Shards.{AreAllOf}
+use Rattle.cs_salvage.specs.declared.parts.Part.{Part}
+use Rattle.cs_salvage.specs.declared.shards.WholeShard.{WholeShard}
+use Rattle.cs_tools.specs.Exports.{IsScript, Shard, is_whole, piece_lines, shard_line}
+use Rattle.cs_tools.specs.Salvages.{AreToldOf, IsSalvaged, IsToldOf, IsWrittenOut, Salvages, Stands}
+use Rattle.cs_tools.specs.declared.outcomes.Outcome.{Outcome}
+use Rattle.cs_tools.specs.declared.outcomes.Outcome.TheVariants.{Damaged, Done}
+use Rattle.cs_tools.specs.declared.salvages.Salvaged.{Salvaged}
+use Rattle.cs_tools.proofs.Exporting.{ArePrinted, IsPrintedUpTo, Widens, all_at, piece_of, piece_printed, shard_printed}
+
+-- the same reads, in the words of the crate above
+pub read_pairs : {D : Type 0} (disks : PageDisk D) (a b : D) → OnlyReadsPairs disks a b → OnlyReads disks a b
+read_pairs disks a b is = record { same = is.same; still = is.still; time = is.time; honesty = is.honesty; pages = is.pages; failures = is.failures }
+
+-- ---- the parts of what was salvaged stand on the device
+
+parts_stand : (g : Dimensions) (image : Image) (parts : List Part) → AreParts g image parts → (pieces : List Part) → All (Contains parts) pieces → (payloads : List (List ℕ)) × AllZip (IsPart g image) pieces payloads
+parts_stand g image parts all [] there = ([], tt)
+parts_stand g image parts all (p ∷ ps) there =
+    let one = all.sound p (there 0 p (omega arith)) in
+    let others = parts_stand g image parts all ps (λ i d lt. there (suc i) d (omega (arith, lt))) in
+    (one.0 ∷ others.0, (one.1, others.1))
+
+shards_stand : (g : Dimensions) (image : Image) (parts : List Part) → AreParts g image parts → (shards : List WholeShard) → All (λ (shard : WholeShard). AreAllOf parts shard.put shard.parts.items) shards → AllByRecursion (Stands g image) shards
+shards_stand g image parts all [] whole = tt
+shards_stand g image parts all (s ∷ ss) whole =
+    let one = whole 0 s (omega arith) in
+    (parts_stand g image parts all s.parts.items one.there, shards_stand g image parts all ss (λ i d lt. whole (suc i) d (omega (arith, lt))))
+
+pub all_stand : (image : Image) (found : Salvaged) → IsSalvaged image found → AllByRecursion (Stands found.geometry image) found.shards.items
+all_stand image found is = shards_stand found.geometry image is.parts is.all found.shards.items is.shards.whole
+
+-- ---- what is told of a shard
+
+-- the refusal of a fault
+is_fault : (r : Refusal) → number_of r ≡ 1 → r ≡ refusal.DeviceFault
+is_fault r is = grind arith
+
+pub why_not : {T : Type 0} (x y : ℕ) (f : DiskFault) (r : Refusal) (result : Result T DiskFault) → result ≡ Err f → number_of r ≡ disk_fault_number f → HasCause x y result → ((r ≡ refusal.DeviceFault) × Rises x y) ⊎ (r ≡ refusal.OutOfMemory)
+why_not x y fault.DeviceFault r result is number cause = inl (is_fault r number, cause.failed is)
+why_not x y fault.OutOfMemory r result is number cause = grind arith
+
+pub told_wider : (g : Dimensions) (image : Image) → Widens (IsToldOf g image)
+told_wider g image x y z u whole (id, Ok bytes) le le' told = told
+told_wider g image x y z u whole (id, Err r) le le' (is, inl (device, rise)) = (is, inl (device, omega (arith, rise, le, le')))
+told_wider g image x y z u whole (id, Err r) le le' (is, inr memory) = (is, inr memory)
+
+-- one shard more, of a disk that holds what it held
+pub shard_told : (g : Dimensions) (x y z : ℕ) (old new : State) (shards : List WholeShard) (i : ℕ) (it : WholeShard) (whole read : Bool) (a b c : Option (List ℕ)) → x ≤ y → y ≤ z → new ≡ old → i < length shards → it ≡ get_or shards i it
+    → AllByRecursion (Stands g (seen old)) shards → ArePrinted (IsToldOf g (seen old) x y) (take i shards) whole a b
+    → (Stands g (seen new) it → (told : Shard) × IsToldOf g (seen new) y z it told × (read ≡ is_whole told) × Appends b c (shard_line told))
+    → ArePrinted (IsToldOf g (seen old) x z) (take (i + 1) shards) (whole && read) a c
+shard_told g x y z old new shards i it whole read a b c le le' same lt at stand so_far line =
+    let Line = λ (s : State) (shard : WholeShard). (told : Shard) × IsToldOf g (seen s) y z shard told × (read ≡ is_whole told) × Appends b c (shard_line told) in
+    let stands : Stands g (seen old) it = subst (Stands g (seen old)) (sym at) (all_at (Stands g (seen old)) shards i it lt stand) in
+    shard_printed (IsToldOf g (seen old)) (told_wider g (seen old)) x y z shards i it whole read a b c le le' lt so_far
+    (subst (Line old) at (subst (λ (s : State). Stands g (seen s) it → Line s it) same line stands))
+
+-- and one piece more
+pub piece_told : (g : Dimensions) (x y z : ℕ) (old new : State) (size : ℕ) (shards rest piece left : List WholeShard) (whole read : Bool) (a b c : Option (List ℕ)) → x ≤ y → y ≤ z → new ≡ old → size ≡ 1000
+    → AllByRecursion (Stands g (seen old)) shards → IsPrintedUpTo (IsToldOf g (seen old) x y) shards rest whole a b → rest ≡ piece ++ left → length piece ≡ min size (length rest) → 0 < length rest
+    → (AllByRecursion (Stands g (seen new)) piece → (told : List Shard) × AreToldOf g (seen new) y z piece told × (read ≡ list_all is_whole told) × Appends b c (piece_lines told))
+    → IsPrintedUpTo (IsToldOf g (seen old) x z) shards left (whole && read) a c
+piece_told g x y z old new size shards rest piece left whole read a b c le le' same is stand so_far begins taken some lines =
+    piece_printed (IsToldOf g (seen old)) (told_wider g (seen old)) x y z size shards rest piece left whole read a b c le le' is so_far begins taken some
+    (subst (λ (s : State). AllByRecursion (Stands g (seen s)) piece → (told : List Shard) × AreToldOf g (seen s) y z piece told × (read ≡ list_all is_whole told) × Appends b c (piece_lines told)) same lines
+    (piece_of (Stands g (seen old)) (IsToldOf g (seen old) x y) shards rest piece left whole a b so_far begins stand))
+
+-- ---- how an export ends
+
+written_out : (image : Image) (found : Salvaged) (x y : ℕ) (a b : Option (List ℕ)) (whole : Bool)
+    → ((shards : List Shard) × AreToldOf found.geometry image x y found.shards.items shards × (whole ≡ list_all is_whole shards) × ((text : List ℕ) × IsScript shards text × Appends a b text)) → IsWrittenOut image found x y a b whole
+written_out image found x y a b whole h = record { shards = h.0; told = h.1; whole_is = h.2; text = h.3.0; script = h.3.1; written = h.3.2 }
+
+pub salvages : (image : Image) (found : Salvaged) (x y : ℕ) (a b : Option (List ℕ)) (whole : Bool) (o : Outcome)
+    → ((shards : List Shard) × AreToldOf found.geometry image x y found.shards.items shards × (whole ≡ list_all is_whole shards) × ((text : List ℕ) × IsScript shards text × Appends a b text))
+    → ((o ≡ Done) × (whole ≡ true) × (found.missing.items ≡ [])) ⊎ ((o ≡ Damaged) × ((whole ≡ false) ⊎ (found.missing.items ≢ []))) → Salvages image found x y a b o
+salvages image found x y a b whole o h (inl done) =
+    subst (Salvages image found x y a b) (sym done.0) (subst (IsWrittenOut image found x y a b) done.1 (written_out image found x y a b whole h), done.2)
+salvages image found x y a b whole o h (inr damaged) = subst (Salvages image found x y a b) (sym damaged.0) (whole, written_out image found x y a b whole h, damaged.1)

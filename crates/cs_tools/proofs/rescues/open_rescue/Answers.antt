@@ -1,0 +1,31 @@
+use Rattle.std.proofs.Common.{◌∙◌, ◌⊎◌, ℕ, ap, subst}
+use Rattle.cs_chunk.specs.Reads.{IsNoAnswer}
+use Rattle.cs_disk.specs.Disk.{Image, page, seen}
+use Rattle.cs_pair.specs.Paired.{disk_below, state_shown}
+use Rattle.cs_pair.specs.Showing.{shown_on}
+use Rattle.cs_rescue.specs.Rescued.{IsRescued, IsWhyNotRescued}
+use Rattle.cs_tools.proofs.Rescuing.{rescued_by}
+use Rattle.cs_tools.proofs.rescues.open_rescue.Goals as goal
+
+pub returns-in-Ok-open-clause-found : goal.returns-in-Ok-open-clause-found
+returns-in-Ok-open-clause-found g c = λ h.
+    let D = g.D.PageDisk in
+    let disk = c.args.disk in
+    let paired = c.in-Ok.paired in
+    let f = c.in-Ok-open.rescue.found in
+    let honest = D.honest disk in
+    let image = shown_on (D.page_count disk) (seen (D.state disk)) in
+    subst (λ (n : ℕ). IsRescued honest n (page image) f) c.in-Ok.ensures.pages
+    (subst (λ (i : Image). IsRescued honest (D.page_count (disk_below paired)) (page i) f) (ap seen (c.in-Ok.ensures.shown h))
+    (rescued_by (D.honest (disk_below paired)) honest c.in-Ok.ensures.honest.0 (D.page_count (disk_below paired)) (page (seen (state_shown paired))) f c.in-Ok-open.ensures.found))
+
+pub returns-in-Ok-open-clause-shown : goal.returns-in-Ok-open-clause-shown
+returns-in-Ok-open-clause-shown g c = λ h. c.in-Ok-open.ensures.disk.same (c.in-Ok.ensures.honest.0 h) ∙ c.in-Ok.ensures.shown h
+
+pub returns-in-Ok-clause-why : goal.returns-in-Ok-clause-why
+returns-in-Ok-clause-why g c = λ h.
+    let D = g.D.PageDisk in
+    let disk = c.args.disk in
+    let r = c.in-Err-open.refusal in
+    subst (λ (n : ℕ). IsNoAnswer r ⊎ IsWhyNotRescued n (page (shown_on (D.page_count disk) (seen (D.state disk)))) r) c.in-Ok.ensures.pages
+    (subst (λ (i : Image). IsNoAnswer r ⊎ IsWhyNotRescued (D.page_count (disk_below c.in-Ok.paired)) (page i) r) (ap seen (c.in-Ok.ensures.shown h)) (c.in-Err-open.ensures.why (c.in-Ok.ensures.honest.0 h)))

@@ -1,0 +1,20 @@
+-- What `get` answers of a store that is read for what can be got of it.
+use Rattle.std.specs.Prelude.{◌≡◌, ℕ, List, Option}
+use Rattle.std.specs.Io.KnownBytes.{Appends}
+use Rattle.cs_rescue.specs.Answers.{AreMeantBytes, AreReadBytes, IsAbsent, IsUnknown, IsWhyNoChunks, places_of}
+use Rattle.cs_rescue.specs.Founds.{Found}
+use Rattle.cs_tools.specs.declared.outcomes.Outcome.TheVariants.{Absent, Damaged, Done, Failed, NoStore, Refused, Unread}
+use Rattle.cs_tools.specs.declared.rescues.Got.{Got}
+use Rattle.cs_tools.specs.declared.rescues.Got.TheVariants.{Ended, RunLost}
+
+-- On a disk that is honest and holds these pages: the bytes of chunks at the identifier's places are written out, and nothing else; or nothing is written, as the runs that were read
+-- name it as deleted, or as all were read and none names it, or as chunks can't be read at its places, or as none names it and a run couldn't be read; or the writer failed.
+abbrev pub Rescues : Found → (view : ℕ → List ℕ) → (id : ℕ) → (before after : Option (List ℕ)) → Got → Type 0
+Rescues f view id before after (Ended Done) = (bytes : List ℕ) × AreReadBytes f view id bytes × AreMeantBytes f id bytes × Appends before after bytes
+Rescues f view id before after (Ended Absent) = IsAbsent f id × (after ≡ before)
+Rescues f view id before after (Ended (Unread r)) = IsWhyNoChunks f.extents view (places_of f id) r × (after ≡ before)
+Rescues f view id before after (Ended Failed) = Unit {0}
+Rescues f view id before after (Ended Damaged) = ⊥
+Rescues f view id before after (Ended (Refused r)) = ⊥
+Rescues f view id before after (Ended (NoStore r)) = ⊥
+Rescues f view id before after RunLost = IsUnknown f id × (after ≡ before)

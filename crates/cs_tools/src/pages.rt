@@ -1,0 +1,92 @@
+//! Pages that a store has twice and of which one isn't whole.
+ghost use Rattle.std.specs.Prelude.{◌≡◌, ◌≢◌, ◌==◌, ◌⊎◌, MatchBool, None};
+ghost use Rattle.cs_pair.specs.Findings.{passed_over};
+ghost use Rattle.cs_tools.specs.Pages.{AreWhole, left_damaged};
+
+use crate::outputs::Style;
+use cs_mount::Finding;
+use std::io;
+use std::io::Write;
+
+/// 1 where a page of the pair was passed over for its damage, else 0.
+fn passed_over_of(finding: Finding) -> usize
+    ensures { ((result ≡ 0) × (passed_over finding ≡ None)) ⊎ ((result ≡ 1) × (passed_over finding ≢ None)) }
+{
+    match finding.passed_over() {
+        Some(_) => 1,
+        None => 0,
+    }
+}
+
+/// How many pages were found not to be whole, beside their other copy that is.
+fn count_passed_over(findings: &[Finding]) -> usize
+    ensures { MatchBool (result == 0) (AreWhole findings.now) (¬ AreWhole findings.now) }
+{
+    let mut count: usize = 0;
+    for finding in findings {
+        count = count.saturating_add(passed_over_of(*finding));
+    }
+    count
+}
+
+/// How many of them are so still: none where they were written anew.
+pub fn count_left(findings: &[Finding], mended: bool) -> usize
+    ensures { MatchBool (result == 0) (AreWhole (left_damaged mended findings.now)) (¬ AreWhole (left_damaged mended findings.now)) }
+{
+    if mended {
+        0
+    } else {
+        count_passed_over(findings)
+    }
+}
+
+/// Prints these pages, one a line: the page, that of its other copy, and the version that this holds; and whether it was written anew from it.
+pub fn print_pages<W: Write>(
+    writer: &mut W,
+    findings: &[Finding],
+    mended: bool,
+    style: Style,
+) -> io::Result<()> {
+    for finding in findings {
+        if let Some(page) = finding.passed_over() {
+            print_page(writer, *finding, page, mended, style)?;
+        }
+    }
+    Ok(())
+}
+
+/// The line of a page that isn't whole, of a pair that was found so.
+fn print_page<W: Write>(
+    writer: &mut W,
+    finding: Finding,
+    page: u64,
+    mended: bool,
+    style: Style,
+) -> io::Result<()> {
+    let held = finding.held();
+    let other = if held.turned {
+        finding.pair.twin
+    } else {
+        finding.pair.page
+    };
+    let version = held.version;
+    match style {
+        Style::Text => {
+            if mended {
+                writeln!(
+                    writer,
+                    "page {page} written anew from page {other} version {version}"
+                )
+            } else {
+                writeln!(
+                    writer,
+                    "page {page} not whole, page {other} has version {version}"
+                )
+            }
+        }
+        Style::Json => writeln!(
+            writer,
+            "{{\"page\":{page},\"other\":{other},\"version\":{version},\"mended\":{mended}}}"
+        ),
+    }
+}

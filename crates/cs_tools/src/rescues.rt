@@ -1,0 +1,145 @@
+//! The commands `get` and `list` over a store that is read for what can be got of it.
+ghost use Rattle.std.specs.Prelude.{◌≡◌, ◌≢◌, ◌⊎◌, ◌↔◌, ◌<◌, ◌≤◌, [], Err, IfErr, IfOk, List, None, flat_map, map};
+ghost use Rattle.std.specs.Io.KnownBytes.{Appends};
+ghost use Rattle.cs_chunk.specs.Reads.{IsNoAnswer, OnlyReads};
+ghost use Rattle.cs_core.specs.Openings.{IsOpeningRefusal};
+ghost use Rattle.cs_deps.specs.declared.refusals.Refusal.{Refusal as Why};
+ghost use Rattle.cs_disk.specs.Disk.{page, seen};
+ghost use Rattle.cs_frame.specs.declared.identifiers.ShardId.{ShardId as Id};
+ghost use Rattle.cs_index.specs.State.{id_number, index_of};
+ghost use Rattle.cs_model.specs.Index.{live_at};
+ghost use Rattle.cs_pair.specs.Paired.{disk_below, state_shown};
+ghost use Rattle.cs_pair.specs.Showing.{findings_on, shown_on};
+ghost use Rattle.cs_rescue.specs.Answers.{IsAbsent, IsUnknown};
+ghost use Rattle.cs_rescue.specs.Rescued.{IsRescued, IsWhyNotRescued};
+ghost use Rattle.cs_survey.specs.Listings.{AreFirst};
+ghost use Rattle.cs_tools.specs.Outputs.{id_line};
+ghost use Rattle.cs_tools.specs.Rescues.{Rescues};
+ghost use Rattle.cs_tools.specs.declared.outcomes.Outcome.TheVariants.{Absent, Damaged, Done, Failed, Refused};
+ghost use Rattle.cs_tools.specs.declared.rescues.Got.TheVariants.{Ended, RunLost};
+
+use crate::gets::write_out;
+use crate::lists::print_ids;
+use crate::outcomes::{Outcome, explain};
+use crate::outputs::Style;
+use cs_chunk::refusal_of_disk;
+use cs_deps::Refusal;
+use cs_disk::PageDisk;
+use cs_frame::ShardId;
+use cs_mount::{Finding, Mounted};
+use cs_pair::open_store;
+use cs_rescue::{Rescue, RescueRefusal};
+use cs_survey::ids_from;
+use std::alloc::Global;
+use std::io::Write;
+
+/// What to do where it isn't known whether there is a shard.
+const RUN_LOST: &str =
+    "No run of the index that can be read names it, and older ones can't be read: `export --salvage` reads the frames themselves. Restore the file from a copy.";
+
+/// How a get ended.
+#[derive(Clone, Copy)]
+pub enum Got {
+    /// As other commands do.
+    Ended(Outcome),
+    /// No run that was read names it, and there is one that couldn't be read. Status 5.
+    RunLost,
+}
+
+/// Reads the store on a disk for what can be got of it, and tells what the pages hold that it has twice. Nothing is written.
+///
+/// Refused 43 NotAStore where no store of that many pages is on it, 20 to 24 for a page of the superblock or the root that is damaged, where it has two for both of
+/// them, 1 DeviceFault, and 9 OutOfMemory.
+pub fn open_rescue<D: PageDisk + Drop>(
+    alloc: Global,
+    disk: D,
+) -> Result<(Rescue<Mounted<D>>, Vec<Finding>), Refusal>
+    // What is read is what the disk shows, and that is what shows after it.
+    ensures found { D.honest disk → IfOk result (λ opened. IsRescued (D.honest disk) (D.page_count disk) (page (shown_on (D.page_count disk) (seen (D.state disk)))) opened.0.found) }
+    ensures shown { D.honest disk → IfOk result (λ opened. state_shown opened.0.disk ≡ record { durable = shown_on (D.page_count disk) (seen (D.state disk)); volatile = [] }) }
+    ensures findings { D.honest disk → IfOk result (λ opened. opened.1.items ≡ findings_on (D.page_count disk) (seen (D.state disk))) }
+    ensures why { D.honest disk → IfErr result (λ refusal. IsNoAnswer refusal ⊎ IsWhyNotRescued (D.page_count disk) (page (shown_on (D.page_count disk) (seen (D.state disk)))) refusal) }
+    ensures small { D.page_count disk < 10 → result ≡ Err Refusal.NotAStore }
+    // Whatever the disk answers.
+    ensures number { IfErr result IsOpeningRefusal }
+    ensures honest { IfOk result (λ opened. D.honest disk ↔ D.honest (disk_below opened.0.disk)) }
+    ensures pages { IfOk result (λ opened. D.page_count (disk_below opened.0.disk) ≡ D.page_count disk) }
+{
+    if disk.pages() < 10 {
+        return Err(Refusal::NotAStore);
+    }
+    match open_store(alloc, disk) {
+        Ok((paired, found)) => match Rescue::open(alloc, paired) {
+            Ok(rescue) => Ok((rescue, found)),
+            Err((refusal, _)) => Err(refusal),
+        },
+        Err((fault, _)) => Err(refusal_of_disk(fault)),
+    }
+}
+
+/// Writes out the bytes under an identifier, as the runs have it that were read.
+pub fn get_rescued<D: PageDisk, W: Write>(
+    alloc: Global,
+    rescue: &mut Rescue<D>,
+    id: ShardId,
+    writer: &mut W,
+) -> Got
+    ensures answer { D.honest rescue.old.disk → Rescues rescue.old.found (page (seen (D.state rescue.old.disk))) (id_number id) (W.contents writer.old) (W.contents writer.new) result }
+    // Whatever the disk does.
+    ensures absent { (result ≡ Ended Absent) ↔ IsAbsent rescue.old.found (id_number id) }
+    ensures run_lost { (result ≡ RunLost) ↔ IsUnknown rescue.old.found (id_number id) }
+    ensures same { rescue.new.found ≡ rescue.old.found }
+    ensures disk { OnlyReads D.PageDisk rescue.old.disk rescue.new.disk }
+{
+    match rescue.get(alloc, id) {
+        Ok(Some(bytes)) => Got::Ended(write_out(writer, &bytes)),
+        Ok(None) => Got::Ended(Outcome::Absent),
+        Err(RescueRefusal::Refused(refusal)) => Got::Ended(Outcome::Unread(refusal)),
+        Err(RescueRefusal::RunLost) => Got::RunLost,
+    }
+}
+
+/// Prints the identifiers of the first so many shards that the runs name which were read, from one on, by rising bytes, one a line. Where there is a run that couldn't be read, there
+/// may be others.
+pub fn list_rescued<D: PageDisk, W: Write>(
+    alloc: Global,
+    rescue: &Rescue<D>,
+    from: ShardId,
+    most: usize,
+    style: Style,
+    writer: &mut W,
+) -> Outcome
+    ensures lines { (result ≡ Done) ⊎ (result ≡ Damaged) → (ids : List Id) × AreFirst (λ id. live_at (index_of rescue.now.found.index) id ≢ []) (id_number from) most (map id_number ids)
+        × Appends (W.contents writer.old) (W.contents writer.new) (flat_map (id_line style) ids) }
+    ensures done { result ≡ Done → rescue.now.found.damaged ≡ None }
+    ensures damaged { result ≡ Damaged → rescue.now.found.damaged ≢ None }
+    ensures ends { (result ≡ Done) ⊎ (result ≡ Damaged) ⊎ (result ≡ Refused Refusal.OutOfMemory) ⊎ (result ≡ Failed) }
+    // Where it is refused nothing was written.
+    ensures untouched { (r : Why) → result ≡ Refused r → writer.new ≡ writer.old }
+{
+    let Ok(ids) = ids_from(alloc, rescue.index(), from, most) else {
+        return Outcome::Refused(Refusal::OutOfMemory);
+    };
+    match print_ids(writer, &ids, style) {
+        Ok(()) if rescue.damaged().is_some() => Outcome::Damaged,
+        Ok(()) => Outcome::Done,
+        Err(_) => Outcome::Failed,
+    }
+}
+
+/// Tells on standard error why a get ended as it did, where it was refused, and what to do; and gives the exit status.
+pub fn explain_got<R: Eprint>(rt: &R, got: Got) -> u8
+    ensures { result ≤ 5 }
+{
+    match got {
+        Got::Ended(outcome) => explain(rt, outcome),
+        Got::RunLost => {
+            let refusal = RescueRefusal::RunLost;
+            let todo = RUN_LOST;
+            let number = refusal.number();
+            let name = refusal.name();
+            let _ = eprintln!(rt; "refused {number} {name}: {refusal}\n{todo}");
+            5
+        }
+    }
+}

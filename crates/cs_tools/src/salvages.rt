@@ -1,0 +1,187 @@
+//! The command `export` over the frames of a device alone.
+ghost use Rattle.std.specs.Prelude.{◌≡◌, ◌≢◌, ◌⊎◌, ◌+◌, ◌*◌, ◌≤◌, ℕ, IfErr, IfOk, List, [], Some, true, false};
+ghost use Rattle.std.specs.Io.KnownBytes.{Appends};
+ghost use Rattle.std.specs.List.{AllByRecursion, list_all};
+ghost use Rattle.cs_disk.specs.Disk.{seen};
+ghost use Rattle.cs_pair.specs.Stores.{dimensions_on};
+ghost use Rattle.cs_salvage.specs.Missing.{AreMissing};
+ghost use Rattle.cs_salvage.specs.Reads.{OnlyReads};
+ghost use Rattle.cs_salvage.specs.Shards.{AreNewest};
+ghost use Rattle.cs_tools.specs.Exports.{IsScript, Shard, is_whole, piece_lines, shard_line};
+ghost use Rattle.cs_tools.specs.Salvages.{AreToldOf, IsSalvaged, IsToldOf, Salvages, Stands};
+ghost use Rattle.cs_tools.specs.declared.outcomes.Outcome.TheVariants.{Damaged, Done, Failed};
+
+use crate::exports::{LINES, print_put, print_remark};
+use crate::outcomes::Outcome;
+use cs_chunk::refusal_of_disk;
+use cs_deps::Refusal;
+use cs_disk::PageDisk;
+use cs_frame::Geometry;
+use cs_pair::find_geometry;
+use cs_salvage::{Missing, Part, WholeShard, find_parts, missing_puts, newest_whole, read_whole};
+use cs_scrub::Progress;
+use std::alloc::{AllocError, Global};
+use std::io;
+use std::io::Write;
+
+/// What the frames on a device spell.
+#[derive(Drop)]
+pub struct Salvaged {
+    pub geometry: Geometry,
+    /// Of each identifier the newest shard that is whole.
+    pub shards: Vec<WholeShard>,
+    /// The newest puts that aren't whole.
+    pub missing: Vec<Missing>,
+}
+
+/// What these parts on a device spell.
+fn spelled_by(alloc: Global, geometry: Geometry, parts: &[Part]) -> Result<Salvaged, AllocError>
+    ensures geometry { IfOk result (λ found. found.geometry ≡ geometry) }
+    ensures shards { IfOk result (λ found. AreNewest parts.now found.shards.items) }
+    ensures missing { IfOk result (λ found. AreMissing parts.now found.missing.items) }
+{
+    let shards = newest_whole(alloc, parts)?;
+    let missing = missing_puts(alloc, parts)?;
+    Ok(Salvaged {
+        geometry,
+        shards,
+        missing,
+    })
+}
+
+/// Reads all frames on a device of a store of format 3, and tells which shards they spell. Superblock and root are read for the store's geometry alone, which one whole copy of the first section
+/// tells; runs aren't.
+///
+/// Refused 43 NotAStore where there is no store of format 3 of that many pages, 1 DeviceFault, and 9 OutOfMemory.
+pub fn salvage<D: PageDisk>(alloc: Global, disk: &mut D) -> Result<Salvaged, Refusal>
+    ensures found { D.honest disk.old → IfOk result (IsSalvaged (seen (D.state disk.old))) }
+    ensures geometry { D.honest disk.old → IfOk result (λ found. dimensions_on (D.page_count disk.old) (seen (D.state disk.old)) ≡ Some found.geometry) }
+    ensures room { IfOk result (λ found. 2 + found.geometry.extents * found.geometry.pages ≤ D.page_count disk.new) }
+    ensures refusals { IfErr result (λ r. (r ≡ Refusal.NotAStore) ⊎ (r ≡ Refusal.DeviceFault) ⊎ (r ≡ Refusal.OutOfMemory)) }
+    ensures disk { OnlyReads D.PageDisk disk.old disk.new }
+{
+    if disk.pages() < 10 {
+        return Err(Refusal::NotAStore);
+    }
+    let geometry = match find_geometry(alloc, disk) {
+        Ok(Some(geometry)) => geometry,
+        Ok(None) => return Err(Refusal::NotAStore),
+        Err(fault) => return Err(refusal_of_disk(fault)),
+    };
+    match find_parts(alloc, disk, geometry) {
+        Ok(parts) => Ok(spelled_by(alloc, geometry, &parts)?),
+        Err(fault) => Err(refusal_of_disk(fault)),
+    }
+}
+
+/// Prints a script that puts these shards, by rising identifiers, with a sync behind each 1,000 of them and at the end. A shard that can't be read has a remark in its
+/// place.
+pub fn export_salvaged<D: PageDisk, P: Progress, W: Write>(
+    alloc: Global,
+    disk: &mut D,
+    found: &Salvaged,
+    progress: &P,
+    writer: &mut W,
+) -> Outcome
+    requires { 2 + found.now.geometry.extents * found.now.geometry.pages ≤ D.page_count disk.old }
+    ensures script { D.honest disk.old → IsSalvaged (seen (D.state disk.old)) found.now → Salvages (seen (D.state disk.old)) found.now (D.failure_count disk.old) (D.failure_count disk.new) (W.contents writer.old) (W.contents writer.new) result }
+    ensures ends { (result ≡ Done) ⊎ (result ≡ Damaged) ⊎ (result ≡ Failed) }
+    ensures disk { OnlyReads D.PageDisk disk.old disk.new }
+{
+    match print_shards(alloc, disk, found, progress, writer) {
+        Ok(whole) => outcome_of(whole, &found.missing),
+        Err(_) => Outcome::Failed,
+    }
+}
+
+/// How an export ends whose lines were written: as damaged where not all could be read, or something is missing.
+fn outcome_of(whole: bool, missing: &[Missing]) -> Outcome
+    ensures { ((result ≡ Done) × (whole ≡ true) × (missing.now ≡ [])) ⊎ ((result ≡ Damaged) × ((whole ≡ false) ⊎ (missing.now ≢ []))) }
+{
+    if whole && missing.is_empty() {
+        Outcome::Done
+    } else {
+        Outcome::Damaged
+    }
+}
+
+/// Prints the lines of these shards, and tells whether all could be read.
+fn print_shards<D: PageDisk, P: Progress, W: Write>(
+    alloc: Global,
+    disk: &mut D,
+    found: &Salvaged,
+    progress: &P,
+    writer: &mut W,
+) -> io::Result<bool>
+    requires { 2 + found.now.geometry.extents * found.now.geometry.pages ≤ D.page_count disk.old }
+    ensures script { D.honest disk.old → AllByRecursion (Stands found.now.geometry (seen (D.state disk.old))) found.now.shards.items
+        → IfOk result (λ whole. (shards : List Shard) × AreToldOf found.now.geometry (seen (D.state disk.old)) (D.failure_count disk.old) (D.failure_count disk.new) found.now.shards.items shards
+        × (whole ≡ list_all is_whole shards) × ((text : List ℕ) × IsScript shards text × Appends (W.contents writer.old) (W.contents writer.new) text)) }
+    ensures disk { OnlyReads D.PageDisk disk.old disk.new }
+{
+    let mut whole = true;
+    let mut done: usize = 0;
+    for piece in found.shards.chunks(LINES) {
+        progress.tell(done, found.shards.len());
+        let read = print_piece(alloc, disk, found.geometry, piece, writer)?;
+        whole &= read;
+        done = done.saturating_add(piece.len());
+    }
+    progress.tell(done, found.shards.len());
+    writer.flush()?;
+    Ok(whole)
+}
+
+/// Prints the lines of these shards and a sync, and tells whether all could be read.
+fn print_piece<D: PageDisk, W: Write>(
+    alloc: Global,
+    disk: &mut D,
+    geometry: Geometry,
+    shards: &[WholeShard],
+    writer: &mut W,
+) -> io::Result<bool>
+    requires { 2 + geometry.extents * geometry.pages ≤ D.page_count disk.old }
+    ensures lines { D.honest disk.old → AllByRecursion (Stands geometry (seen (D.state disk.old))) shards.now
+        → IfOk result (λ whole. (told : List Shard) × AreToldOf geometry (seen (D.state disk.old)) (D.failure_count disk.old) (D.failure_count disk.new) shards.now told
+        × (whole ≡ list_all is_whole told) × Appends (W.contents writer.old) (W.contents writer.new) (piece_lines told)) }
+    ensures disk { OnlyReads D.PageDisk disk.old disk.new }
+{
+    let mut whole = true;
+    for shard in shards {
+        let read = print_shard(alloc, disk, geometry, shard, writer)?;
+        whole &= read;
+    }
+    writeln!(writer, "sync")?;
+    Ok(whole)
+}
+
+/// Prints the line of a shard, and tells whether it could be read.
+fn print_shard<D: PageDisk, W: Write>(
+    alloc: Global,
+    disk: &mut D,
+    geometry: Geometry,
+    shard: &WholeShard,
+    writer: &mut W,
+) -> io::Result<bool>
+    requires { 2 + geometry.extents * geometry.pages ≤ D.page_count disk.old }
+    ensures line { D.honest disk.old → Stands geometry (seen (D.state disk.old)) shard.now
+        → IfOk result (λ whole. (told : Shard) × IsToldOf geometry (seen (D.state disk.old)) (D.failure_count disk.old) (D.failure_count disk.new) shard.now told
+        × (whole ≡ is_whole told) × Appends (W.contents writer.old) (W.contents writer.new) (shard_line told)) }
+    ensures disk { OnlyReads D.PageDisk disk.old disk.new }
+{
+    match read_whole(alloc, disk, geometry, shard) {
+        Ok(Some(bytes)) => {
+            print_put(writer, shard.put.id, &bytes)?;
+            Ok(true)
+        }
+        // Something wrote to the device meanwhile.
+        Ok(None) => {
+            print_remark(writer, shard.put.id, Refusal::Misplaced)?;
+            Ok(false)
+        }
+        Err(fault) => {
+            print_remark(writer, shard.put.id, refusal_of_disk(fault))?;
+            Ok(false)
+        }
+    }
+}
