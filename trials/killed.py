@@ -10,13 +10,13 @@ class Killed(Exception):
 
 class KilledDisk(Disk):
     """The disk of a program that is killed behind so many page writes and flushes, None where it isn't. A round's writes come with its flush, in the order of
-    their pages on the device. Of those behind the last flush that are written, each whose bit is 0 is lost. An opening flushes once, and where there are pages that
-    lie twice once more, before."""
+    their pages on the device. Of those behind the last flush that are written, each whose bit is 0 is lost. An opening flushes twice: ahead of the
+    pairs of pages, which a store of format 2 has none of, and ahead of all else."""
 
     def __init__(self, disk, last, kept):
         super().__init__(disk.durable, disk.twins, disk.turned)
         self.last, self.kept = last, kept
-        self.made, self.lost = (1 if self.twins else 0), 0
+        self.made, self.lost = 1, 0
         self.opening = self.made + 1
 
     def flush(self):

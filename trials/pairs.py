@@ -82,6 +82,13 @@ class Opened(reader.Store):
         super().__init__(shown(image))
 
 
+def page_lines(image):
+    """What `scrub` prints of the halves that are passed over."""
+    pairs = pairs_of(image)
+    passed = pairs.passed_over()
+    return [f"page {other} not whole, page {newest} has version {pairs.version(own, newest)}" for own, newest, other in pairs.newest() if other in passed]
+
+
 def warnings(image, is_opened):
     """What is told of a store's pairs: which half is passed over, as of which root the store is opened where that is one of the root's, and which pair has no
     half that is whole."""
