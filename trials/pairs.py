@@ -1,8 +1,28 @@
 """Which of two pages counts in a store of format 3, by the second reader, written from docs/FORMATS.md alone."""
+from typing import NamedTuple
+
 import reader
 
 PAGE = reader.PAGE
 ROOT = 1
+
+
+class Passed(NamedTuple):
+    """A page that isn't whole, that of its other copy, and the version that this one has."""
+
+    page: int
+    other: int
+    version: int
+
+
+def page_of(image, number):
+    return bytes(image[number * PAGE:(number + 1) * PAGE])
+
+
+def pairs_by(extents, pages, sections):
+    """The pages of each pair of a store of format 3: those of section 0, of the root, and of the other sections."""
+    count = 2 + extents * pages + 2 * sections
+    return [(k if k < 2 else extents * pages + k, count - 1 - k) for k in range(sections + 1)]
 
 
 class Pairs:
@@ -11,10 +31,7 @@ class Pairs:
     def __init__(self, count, page):
         self.count, self.page = count, page
         self.named = self.named_by()
-        self.pairs = []
-        if self.named is not None:
-            extents, pages, sections = self.named
-            self.pairs = [(k if k < 2 else extents * pages + k, count - 1 - k) for k in range(sections + 1)]
+        self.pairs = [] if self.named is None else pairs_by(*self.named)
 
     def named_by(self):
         """The extents, their pages and the sections of the store: page 0 says them, where it is whole in whatever format, else the last page."""
@@ -47,19 +64,21 @@ class Pairs:
         for own, twin in self.pairs:
             yield (own, own, twin) if self.version(own, own) > self.version(own, twin) else (own, twin, own)
 
-    def passed_over(self):
-        """The halves that aren't whole beside one that is, but for zeros beside a first version."""
-        found = []
+    def passed(self):
+        """Of each pair the half that isn't whole beside one that is, but for zeros beside a first version."""
         for own, newest, other in self.newest():
             version = self.version(own, newest)
             if version > 0 and self.version(own, other) == 0 and (version > 1 or any(self.page(other))):
-                found.append(other)
-        return sorted(found)
+                yield Passed(other, newest, version)
+
+    def passed_over(self):
+        """The pages of these halves."""
+        return sorted(it.page for it in self.passed())
 
 
 def pairs_of(image):
     """The pairs of the store that these bytes are."""
-    return Pairs(len(image) // PAGE, lambda number: bytes(image[number * PAGE:(number + 1) * PAGE]))
+    return Pairs(len(image) // PAGE, lambda number: page_of(image, number))
 
 
 def shown(image):
@@ -84,9 +103,7 @@ class Opened(reader.Store):
 
 def page_lines(image):
     """What `scrub` prints of the halves that are passed over."""
-    pairs = pairs_of(image)
-    passed = pairs.passed_over()
-    return [f"page {other} not whole, page {newest} has version {pairs.version(own, newest)}" for own, newest, other in pairs.newest() if other in passed]
+    return [f"page {it.page} not whole, page {it.other} has version {it.version}" for it in pairs_of(image).passed()]
 
 
 def warnings(image, is_opened):
