@@ -1,5 +1,5 @@
 -- The newest root that is whole, and what a disk shows as of it.
-use Rattle.std.proofs.Common.{◌≡◌, ◌≢◌, if◌then◌else◌, ◌==◌, ◌&&◌, ◌+◌, ◌-◌, ℕ, zero, suc, ◌<◌, ◌≤◌, Bool, true, false, List, [], ◌∷◌, Option, Some, None, slice_get, slice_index, length, map, refl, sym, ◌∙◌, ap, subst, arith, eq-eqb}
+use Rattle.std.proofs.Common.{◌≡◌, ◌≢◌, if◌then◌else◌, ◌==◌, ◌&&◌, ◌+◌, ◌-◌, ℕ, zero, suc, ◌<◌, ◌≤◌, Bool, true, false, List, [], ◌∷◌, Option, Some, None, slice_get, slice_index, length, map, refl, sym, ◌∙◌, ap, arith, eq-eqb}
 use Rattle.std.proofs.lemmas.Option.{same_Some}
 use Rattle.std.specs.List.{range_with_len}
 use Rattle.cs_disk.specs.Disk.{Image, State, page, seen}
@@ -14,7 +14,7 @@ use Rattle.cs_pair.specs.declared.pairs.Held.{Held}
 use Rattle.cs_pair.specs.declared.pairs.Pair.{Pair}
 use Rattle.cs_pair.specs.Findings.{finding_in, held_of}
 use Rattle.cs_pair.specs.Older.{lowered_state}
-use Rattle.cs_pair.specs.Pairs.{half, is_turned, shown, shown_page}
+use Rattle.cs_pair.specs.Pairs.{shown}
 use Rattle.cs_pair.specs.Showing.{findings_on, shown_on}
 use Rattle.cs_pair.specs.Stores.{dimensions_on, last_says, named, named_by, or_else, pages_of, pairs_where, root_version, store_pair, store_pairs, store_version, zero_said}
 use Rattle.cs_pair.proofs.Blank.{apart_of}

@@ -2,3 +2,4 @@ pub mod Aged
 pub mod Looking
 pub mod Opened
 pub mod Torn
+pub mod Refused

@@ -1,11 +1,11 @@
 -- What stands against making a store, as it is found.
-use Rattle.std.proofs.Common.{◌≡◌, ◌∙◌, ◌↔◌, ◌<◌, inr, ⊎_elim, ℕ, Bool, true, false, Option, None, List, Contains, IsTrue, ap, subst, sym, map, length, nat_lt, get_or, arith}
+use Rattle.std.proofs.Common.{◌≡◌, ◌∙◌, ◌↔◌, ◌-◌, ◌<◌, inl, inr, Some, Result, Ok, Err, IfOk, refl, ⊎_elim, ℕ, Bool, true, false, Option, None, List, Contains, IsTrue, ap, subst, sym, map, length, nat_lt, get_or, arith}
 use Rattle.std.specs.List.{list_any}
 use Rattle.std.proofs.lemmas.Bool.{lt-ltb, ltb-true}
 use Rattle.std.proofs.lemmas.List.{get_or-map, length-map}
 use Rattle.std.proofs.lemmas.List.Elements.{Contains-get_or}
 use Rattle.std.proofs.lemmas.List.Folds.{Any-from_list_any, list_any_at}
-use Rattle.cs_disk.specs.Disk.{Image, State, seen}
+use Rattle.cs_disk.specs.Disk.{Image, State, page, seen}
 use Rattle.cs_frame.specs.Geometries.{Dimensions}
 use Rattle.cs_pair.specs.declared.findings.Finding.{Finding}
 use Rattle.cs_pair.specs.declared.pairs.Held.{Held}
@@ -13,9 +13,9 @@ use Rattle.cs_pair.specs.declared.pairs.Pair.{Pair}
 use Rattle.cs_pair.specs.Findings.{finding_in}
 use Rattle.cs_pair.specs.Pairs.{Versions, held_in}
 use Rattle.cs_pair.specs.Showing.{findings_on}
-use Rattle.cs_pair.specs.Stores.{dimensions_on}
+use Rattle.cs_pair.specs.Stores.{dimensions_on, first_says}
 use Rattle.cs_pair.proofs.Holding.{held_found}
-use Rattle.cs_mount.specs.Looks.{IsTaken, is_whole}
+use Rattle.cs_mount.specs.Looks.{IsLeftOver, IsTaken, is_whole}
 
 -- a pair that was found with a whole half has one
 whole_held : (V : Versions) (image : Image) (x : Pair) → is_whole (finding_in V image x) ≡ nat_lt 0 (held_in V image x).version
@@ -44,12 +44,27 @@ module _ (pages : ℕ) (image : Image) (V : Versions) (pairs : List Pair) where
       ap (list_any is_whole) are ∙ list_any_at is_whole (map (finding_in V image) pairs) has.0 (finding_in V image x) inside
       (ap is_whole (get_or-map (finding_in V image) pairs has.0 x (finding_in V image x) has.1 ∙ ap (finding_in V image) has.2) ∙ whole_held V image x ∙ lt-ltb 0 (held_in V image x).version some)
 
-  -- no store was found, and the pairs were looked at
-  pub pairs_taken : (store : Option Dimensions) (found : List Finding) (b : Bool) → store ≡ dimensions_on pages image → store ≡ None → found ≡ map (finding_in V image) pairs → b ≡ list_any is_whole found
-      → IsTrue b ↔ IsTaken pages image V pairs
-  pairs_taken store found b is nothing are test = (
+  -- the last page was read, and the pairs were looked at
+  pub pairs_left : (last : Option Dimensions) (found : List Finding) (b : Bool) → last ≡ first_says pages (page image (pages - 1)) → last ≡ None → found ≡ map (finding_in V image) pairs → b ≡ list_any is_whole found
+      → IsTrue b ↔ IsLeftOver pages image V pairs
+  pairs_left last found b is nothing are test = (
     (λ true_is. inr (any_held found are (sym test ∙ true_is))),
-    (λ taken. test ∙ ⊎_elim (λ some. absurd (some (sym is ∙ nothing))) (λ held. held_any found held.0 are held.1 held.2) taken),
+    (λ left. test ∙ ⊎_elim (λ some. absurd (some (sym is ∙ nothing))) (λ held. held_any found held.0 are held.1 held.2) left),
+  )
+
+  -- or the last page holds a first section
+  pub last_left : (last : Option Dimensions) (d : Dimensions) → last ≡ first_says pages (page image (pages - 1)) → last ≡ Some d → IsLeftOver pages image V pairs
+  last_left last d is some = inl (λ none. not_both last d (is ∙ none) some)
+    where
+      not_both : (o : Option Dimensions) (e : Dimensions) → o ≡ None → o ≡ Some e → ⊥
+      not_both None e none some = cc
+      not_both (Some d) e none some = cc
+
+  -- no store was found
+  pub left_taken : (store : Option Dimensions) (b : Bool) → store ≡ dimensions_on pages image → store ≡ None → IsTrue b ↔ IsLeftOver pages image V pairs → IsTrue b ↔ IsTaken pages image V pairs
+  left_taken store b is nothing left = (
+    (λ true_is. inr (left.0 true_is)),
+    (λ taken. ⊎_elim (λ some. absurd (some (sym is ∙ nothing))) (λ over. left.1 over) taken),
   )
 
   -- nothing stands against it
@@ -58,3 +73,30 @@ module _ (pages : ℕ) (image : Image) (V : Versions) (pairs : List Pair) where
     where
       both : b ≡ true → ⊥
       both true_is = cc
+
+  -- so none is found, and the last page holds none
+  pub none_found : (IsTaken pages image V pairs → ⊥) → dimensions_on pages image ≡ None
+  none_found free = by_store (dimensions_on pages image) refl
+    where
+      by_store : (o : Option Dimensions) → dimensions_on pages image ≡ o → dimensions_on pages image ≡ None
+      by_store None is = is
+      by_store (Some d) is = absurd (free (inl (λ none. not_both (dimensions_on pages image) d none is)))
+        where
+          not_both : (o : Option Dimensions) (e : Dimensions) → o ≡ None → o ≡ Some e → ⊥
+          not_both None e none some = cc
+          not_both (Some d) e none some = cc
+
+  pub none_last : (IsTaken pages image V pairs → ⊥) → first_says pages (page image (pages - 1)) ≡ None
+  none_last free = by_last (first_says pages (page image (pages - 1))) refl
+    where
+      by_last : (o : Option Dimensions) → first_says pages (page image (pages - 1)) ≡ o → first_says pages (page image (pages - 1)) ≡ None
+      by_last None is = is
+      by_last (Some d) is = absurd (free (inr (last_left (Some d) d (sym is) refl)))
+
+-- what is left over, by reads that found no store before
+pub left_behind : {E : Type 0} (r : Result Bool E) (n m : ℕ) (s after : State) (V : Versions) (pairs : List Pair) (store : Option Dimensions) → m ≡ n → after ≡ s → store ≡ dimensions_on n (seen s) → store ≡ None
+    → IfOk r (λ b. IsTrue b ↔ IsLeftOver m (seen after) V pairs) → IfOk r (λ b. IsTrue b ↔ IsTaken n (seen s) V pairs)
+left_behind (Err e) n m s after V pairs store count same is nothing left = tt
+left_behind (Ok b) n m s after V pairs store count same is nothing left =
+    left_taken n (seen s) V pairs store b is nothing
+    (subst (λ k. IsTrue b ↔ IsLeftOver k (seen s) V pairs) count (subst (λ (z : State). IsTrue b ↔ IsLeftOver m (seen z) V pairs) same left))

@@ -1,5 +1,7 @@
 -- Torn crashes of stores over disks in pairs.
-use Rattle.std.proofs.Common.{◌≡◌, inl, inr, ℕ, ◌+◌, ◌<◌, Bool, true, false, Some, List, [], ◌∷◌, length, replicate, refl, sym, ap, subst, arith, ◌==◌, ◌&&◌, eq-eqb}
+use Rattle.std.proofs.Common.{◌≡◌, inl, inr, ℕ, ◌+◌, ◌<◌, Bool, true, false, Option, Some, List, [], ◌∷◌, length, replicate, refl, sym, ◌∙◌, ap, subst, arith, ◌==◌, ◌&&◌, eq-eqb}
+use denote.Struct.Props.{props}
+use Rattle.std.proofs.Math.Logic.{∥∥₁_elim}
 use Rattle.std.proofs.lemmas.List.{length-replicate}
 use Rattle.cs_core.proofs.TornCrashes.{torn_now}
 use Rattle.cs_core.specs.Meanings.{commands_said}
@@ -15,11 +17,14 @@ use Rattle.cs_model.specs.Element.{Map}
 use Rattle.cs_model.specs.Geometry.{shape_of}
 use Rattle.cs_model.specs.Recovery.{Recovers}
 use Rattle.cs_model.specs.State.{map_after}
+use Rattle.cs_pair.specs.declared.pairs.Pair.{Pair}
+use Rattle.cs_pair.specs.Kept.{IsOfStore}
 use Rattle.cs_pair.specs.Pairs.{AreNoOlder, shown, shown_state}
 use Rattle.cs_pair.specs.Showing.{shown_on}
-use Rattle.cs_pair.specs.Stores.{pages_of, section_version, store_pairs, store_version}
+use Rattle.cs_pair.specs.Stores.{dimensions_on, pages_of, pairs_where, section_version, store_pairs, store_version}
 use Rattle.cs_pair.proofs.Refinding.{shows_again}
 use Rattle.cs_pair.proofs.Spelling.{section_read}
+use Rattle.cs_pair.proofs.Telling.{version_says}
 use Rattle.cs_pair.proofs.Unpaired.{torn_store_shows}
 use Rattle.cs_refine.specs.Crashes.{IsPrefix, IsTornFrom}
 use Rattle.cs_mount.specs.Torn.{MayTearStore, dimensions_of}
@@ -52,11 +57,11 @@ recovered_whole d image n m g three r =
 
 module _ {D : Type 0} (disks : PageDisk D) (v : View D) (core : IsCore disks v) (honest : disks.honest v.disk) (sized : length (disks.state v.disk).durable ≡ disks.page_count v.disk) (three : v.store.extents.format ≡ 3)
     (s : DiskState) (image : Image) where
-  pub torn_opened : IsGeometry v.store.extents.format (length v.store.extents.written) v.store.extents.pages v.store.extents.sections → disks.state v.disk ≡ shown_state (store_version (Some (dimensions_of v.store.extents))) (store_pairs (dimensions_of v.store.extents)) s
+  torn_in_pairs : IsGeometry v.store.extents.format (length v.store.extents.written) v.store.extents.pages v.store.extents.sections → disks.state v.disk ≡ shown_state (store_version (Some (dimensions_of v.store.extents))) (store_pairs (dimensions_of v.store.extents)) s
       → length s.durable ≡ pages_of (dimensions_of v.store.extents) → AreNoOlder (store_version (Some (dimensions_of v.store.extents))) (store_pairs (dimensions_of v.store.extents)) s → MayTearStore (dimensions_of v.store.extents) s image
-      → ((c : Image) → MayLeave (disks.state v.disk) c → IsPrefix (shape v.store.extents) (page v.opened) (commands_said v.history) v.store.frontier v.store.accepted c)
+      → dimensions_on (pages_of (dimensions_of v.store.extents)) s.durable ≡ Some (dimensions_of v.store.extents) → ((c : Image) → MayLeave (disks.state v.disk) c → IsPrefix (shape v.store.extents) (page v.opened) (commands_said v.history) v.store.frontier v.store.accepted c)
       → IsPrefix (shape v.store.extents) (page v.opened) (commands_said v.history) v.store.frontier v.store.accepted (shown_on (pages_of (dimensions_of v.store.extents)) image)
-  torn_opened g shows length_is newer tear left count start recovers undamaged =
+  torn_in_pairs g shows length_is newer tear before left count start recovers undamaged =
       let e = dimensions_of v.store.extents in
       let V = store_version (Some e) in
       let torn = torn_store_shows e g three V s image length_is newer tear.tears in
@@ -67,5 +72,25 @@ module _ {D : Type 0} (disks : PageDisk D) (v : View D) (core : IsCore disks v) 
       let durable_left = subst (λ (z : DiskState). MayLeave z (shown V (store_pairs e) s.durable)) (sym shows) (durable_MayLeave (shown_state V (store_pairs e) s)) in
       let now = left (shown V (store_pairs e) s.durable) durable_left count start recovers undamaged in
       let whole = recovered_whole e (shown V (store_pairs e) s.durable) _ _ g three now.3 in
-      let again = shows_again e s image g three length_is newer tear.tears tear.before whole tear.first in
+      let again = shows_again e s image g three length_is newer tear.tears before whole tear.first in
       (prefix.0, prefix.1, prefix.2, subst (λ (c : Image). Recovers (shape v.store.extents) (formats_of (shape v.store.extents)) (page c) (count + prefix.0) (map_after start (commands_said v.history) prefix.0)) (sym again) prefix.3)
+
+  -- the rules of the disk and its pairs are those of the store that page 0 shows, which is this one
+  pub torn_opened : IsGeometry v.store.extents.format (length v.store.extents.written) v.store.extents.pages v.store.extents.sections → (store : Option Dimensions) (pairs : List Pair) → disks.state v.disk ≡ shown_state (store_version store) pairs s
+      → length s.durable ≡ pages_of (dimensions_of v.store.extents) → AreNoOlder (store_version store) pairs s → ∥ IsOfStore store pairs (pages_of (dimensions_of v.store.extents)) s.durable ∥₁ → MayTearStore (dimensions_of v.store.extents) s image
+      → ((c : Image) → MayLeave (disks.state v.disk) c → IsPrefix (shape v.store.extents) (page v.opened) (commands_said v.history) v.store.frontier v.store.accepted c)
+      → IsPrefix (shape v.store.extents) (page v.opened) (commands_said v.history) v.store.frontier v.store.accepted (shown_on (pages_of (dimensions_of v.store.extents)) image)
+  torn_opened g store pairs shows length_is newer fits tear left count start recovers undamaged =
+      let e = dimensions_of v.store.extents in
+      let durable = shown (store_version store) pairs s.durable in
+      let durable_left = subst (λ (z : DiskState). MayLeave z durable) (sym shows) (durable_MayLeave (shown_state (store_version store) pairs s)) in
+      let now = left durable durable_left count start recovers undamaged in
+      let says = version_says e (page durable 0) three (recovered_whole e durable _ _ g three now.3) in
+      let is_its : IsProp (store ≡ Some e) = hlevel props in
+      let are_its : IsProp (pairs ≡ pairs_where store) = hlevel props in
+      let is_found : IsProp (dimensions_on (pages_of e) s.durable ≡ Some e) = hlevel props in
+      let its : store ≡ Some e = ∥∥₁_elim fits is_its (λ of. (of.found e says).0) in
+      let lie : pairs ≡ store_pairs e = ∥∥₁_elim fits are_its (λ of. of.its) ∙ ap pairs_where its in
+      let found : dimensions_on (pages_of e) s.durable ≡ Some e = ∥∥₁_elim fits is_found (λ of. (of.found e says).1) in
+      torn_in_pairs g (shows ∙ ap (λ (o : Option Dimensions). shown_state (store_version o) pairs s) its ∙ ap (λ (l : List Pair). shown_state (store_version (Some e)) l s) lie) length_is
+      (subst (λ (l : List Pair). AreNoOlder (store_version (Some e)) l s) lie (subst (λ (o : Option Dimensions). AreNoOlder (store_version o) pairs s) its newer)) tear found left count start recovers undamaged

@@ -1,16 +1,20 @@
 -- What stands against making a store on a device.
-use Rattle.std.specs.Prelude.{◌≢◌, ◌⊎◌, ◌<◌, ℕ, Bool, List, Contains, None, nat_lt}
-use Rattle.cs_disk.specs.Disk.{Image}
+use Rattle.std.specs.Prelude.{◌≢◌, ◌⊎◌, ◌-◌, ◌<◌, ℕ, Bool, List, Contains, None, nat_lt}
+use Rattle.cs_disk.specs.Disk.{Image, page}
 use Rattle.cs_pair.specs.declared.findings.Finding.{Finding}
 use Rattle.cs_pair.specs.declared.pairs.Pair.{Pair}
 use Rattle.cs_pair.specs.Findings.{held_of}
 use Rattle.cs_pair.specs.Pairs.{Versions, held_in}
-use Rattle.cs_pair.specs.Stores.{dimensions_on}
+use Rattle.cs_pair.specs.Stores.{dimensions_on, first_says}
 
 -- one of the halves that were found is whole
 abbrev pub is_whole : Finding → Bool
 is_whole it = nat_lt 0 (held_of it).version
 
--- A store of format 3 is on a device of so many pages, or a half of one of these pairs is whole.
+-- Something is left of a store of format 3: the last page of a device of so many pages holds the first section of one with as many, or a half of one of these pairs is whole.
+abbrev pub IsLeftOver : (pages : ℕ) → Image → Versions → List Pair → Type 0
+IsLeftOver pages image V pairs = (first_says pages (page image (pages - 1)) ≢ None) ⊎ ((x : Pair) × Contains pairs x × (0 < (held_in V image x).version))
+
+-- A store of format 3 is on a device of so many pages, or something is left of one.
 abbrev pub IsTaken : (pages : ℕ) → Image → Versions → List Pair → Type 0
-IsTaken pages image V pairs = (dimensions_on pages image ≢ None) ⊎ ((x : Pair) × Contains pairs x × (0 < (held_in V image x).version))
+IsTaken pages image V pairs = (dimensions_on pages image ≢ None) ⊎ IsLeftOver pages image V pairs

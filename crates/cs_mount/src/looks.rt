@@ -3,7 +3,7 @@ ghost use Rattle.std.specs.Prelude.{◌≡◌, ◌⊎◌, ◌↔◌, ◌<◌, Er
 ghost use Rattle.std.specs.List.{list_any};
 ghost use Rattle.cs_chunk.specs.Reads.{IsCaused};
 ghost use Rattle.cs_disk.specs.Disk.{HasCause, seen};
-ghost use Rattle.cs_mount.specs.Looks.{IsTaken, is_whole};
+ghost use Rattle.cs_mount.specs.Looks.{IsLeftOver, IsTaken, is_whole};
 ghost use Rattle.cs_pair.specs.Pairs.{ArePairs};
 ghost use Rattle.cs_pair.specs.Reads.{OnlyReads};
 ghost use Rattle.cs_pair.specs.Showing.{findings_on};
@@ -12,7 +12,7 @@ ghost use Rattle.cs_pair.specs.Stores.{store_version};
 use cs_chunk::refusal_of_disk;
 use cs_deps::Refusal;
 use cs_disk::{DiskFault, PageDisk};
-use cs_pair::{Finding, Pair, StoreRules, find_geometry, read_findings};
+use cs_pair::{Finding, Pair, StoreRules, find_geometry, find_last, read_findings};
 use std::alloc::Global;
 
 /// What the pairs of the store hold that is on the disk.
@@ -60,7 +60,30 @@ fn is_any_whole(found: &[Finding]) -> bool
     found.iter().any(|finding| finding.held().version > 0)
 }
 
-/// Whether there is a store of format 3 on the disk, or one of these pairs has a half that is whole. Nothing is flushed or written.
+/// Whether the last page holds the first section of a store of format 3 with the device's pages, or one of these pairs has a half that is whole.
+fn is_left<D: PageDisk>(
+    alloc: Global,
+    disk: &mut D,
+    rules: &StoreRules,
+    pairs: &[Pair],
+) -> Result<bool, DiskFault>
+    requires some { 0 < D.page_count disk.old }
+    requires pairs { ArePairs pairs.now (D.page_count disk.old) }
+    ensures left { D.honest disk.old → IfOk result (λ left. IsTrue left ↔ IsLeftOver (D.page_count disk.old) (seen (D.state disk.old)) (store_version rules.now.geometry) pairs.now) }
+    ensures disk { OnlyReads D.PageDisk disk.old disk.new }
+    ensures cause { HasCause (D.failure_count disk.old) (D.failure_count disk.new) result }
+{
+    match find_last(alloc, disk) {
+        Ok(Some(_)) => Ok(true),
+        Ok(None) => match read_findings(alloc, disk, rules, pairs) {
+            Ok(found) => Ok(is_any_whole(&found)),
+            Err(fault) => Err(fault),
+        },
+        Err(fault) => Err(fault),
+    }
+}
+
+/// Whether there is a store of format 3 on the disk, or its last page holds the first section of one, or one of these pairs has a half that is whole. Nothing is flushed or written.
 pub fn is_taken<D: PageDisk>(
     alloc: Global,
     disk: &mut D,
@@ -75,10 +98,7 @@ pub fn is_taken<D: PageDisk>(
 {
     match find_geometry(alloc, disk) {
         Ok(Some(_)) => Ok(true),
-        Ok(None) => match read_findings(alloc, disk, rules, pairs) {
-            Ok(found) => Ok(is_any_whole(&found)),
-            Err(fault) => Err(fault),
-        },
+        Ok(None) => is_left(alloc, disk, rules, pairs),
         Err(fault) => Err(fault),
     }
 }

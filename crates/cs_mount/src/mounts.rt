@@ -1,5 +1,5 @@
 // Stores over disks in pairs: how they are made and opened.
-ghost use Rattle.std.specs.Prelude.{◌≡◌, ◌≢◌, ◌⊎◌, ◌↔◌, ◌<◌, ℕ, [], Contains, Err, IfErr, IfOk, IsErr, MatchResult, None, OnOk, Some, replicate};
+ghost use Rattle.std.specs.Prelude.{◌≡◌, ◌≢◌, ◌⊎◌, ◌↔◌, ◌<◌, ℕ, [], Err, IfErr, IfOk, MatchResult, None, OnOk, Some, replicate};
 ghost use Rattle.cs_chunk.specs.Reads.{IsNoAnswer};
 ghost use Rattle.cs_core.specs.Openings.{IsOpened, IsOpeningRefusal, IsWhyNotOpened};
 ghost use Rattle.cs_core.specs.Started.{IsNewOn, new_stored};
@@ -11,9 +11,9 @@ ghost use Rattle.cs_image.specs.Counts.{HasCount};
 ghost use Rattle.cs_model.specs.Element.{Map};
 ghost use Rattle.cs_model.specs.Geometry.{shape_of};
 ghost use Rattle.cs_model.specs.Recovery.{Recovers};
+ghost use Rattle.cs_mount.specs.Looks.{IsTaken};
 ghost use Rattle.cs_pair.specs.Paired.{disk_below, left_as_shown, state_shown};
-ghost use Rattle.cs_pair.specs.declared.pairs.Pair.{Pair};
-ghost use Rattle.cs_pair.specs.Pairs.{held_in, shown_state};
+ghost use Rattle.cs_pair.specs.Pairs.{shown_state};
 ghost use Rattle.cs_pair.specs.Showing.{ShowsOn, findings_on, shown_on};
 ghost use Rattle.cs_pair.specs.Stores.{dimensions_on, store_pairs, store_version};
 
@@ -32,14 +32,15 @@ pub type Mounted<D> = Paired<D, StoreRules>;
 /// Makes a new store of this geometry on a disk that holds none of format 3: looks for one, flushes the disk, writes the superblock and the root, each of them once, and makes them
 /// durable. Over a store of an earlier format it is made as over anything else.
 ///
-/// Refused 43 NotAStore where the disk hasn't the geometry's pages; 1 DeviceFault where a store of format 3 is on the disk, of whatever dimensions, or one of the pages is whole that the
-/// new store has twice, and then nothing is written or flushed; 1 where the device refuses a call, and 9 OutOfMemory.
+/// The disk comes back where it is refused: 43 NotAStore where it hasn't the geometry's pages; 1 DeviceFault, or 9, where a store of format 3 is on the disk, of whatever dimensions
+/// that have the device's pages, or something is left of one, the first section on the last page or a whole page of those that the new store has twice, and then nothing is written or
+/// flushed; 1 where the device refuses a call, and 9 OutOfMemory, after which the superblock and the root may be there in part. That nothing else was written then is by its form.
 pub fn make_store<D: PageDisk + Drop>(
     alloc: Global,
     disk: D,
     geometry: Geometry,
     limits: Limits,
-) -> Result<Core<Mounted<D>>, Refusal>
+) -> Result<Core<Mounted<D>>, (Refusal, D)>
     ensures new { IfOk result (λ core. (core.history ≡ []) × (core.base ≡ 0) × (core.limit ≡ limits.history)) }
     ensures store { IfOk result (λ core. core.store ≡ new_stored geometry.format geometry.extents geometry.pages geometry.sections) }
     ensures found { IfOk result (λ core. core.found ≡ (0, 0)) }
@@ -48,76 +49,79 @@ pub fn make_store<D: PageDisk + Drop>(
     // So it is on pages of zeros.
     ensures zeros { D.honest disk → (D.state disk).durable ≡ replicate (device_pages geometry.format geometry.extents geometry.pages geometry.sections) (replicate 4096 0) → (D.state disk).volatile ≡ [] → IfOk result (λ core. IsNewOn geometry.format geometry.extents geometry.pages geometry.sections (record { durable = replicate (device_pages geometry.format geometry.extents geometry.pages geometry.sections) (replicate 4096 0); volatile = [] }) (state_shown core.disk)) }
     ensures pages { IfOk result (λ core. D.page_count (disk_below core.disk) ≡ D.page_count disk) }
-    ensures honest { IfOk result (λ core. D.honest disk ↔ D.honest (disk_below core.disk)) }
+    ensures honest { MatchResult result (λ core. D.honest disk ↔ D.honest (disk_below core.disk)) (λ refused. D.honest disk ↔ D.honest refused.1) }
     ensures sized { OnOk result (D.page_count disk ≡ device_pages geometry.format geometry.extents geometry.pages geometry.sections) }
-    ensures not_a_store { IfErr result (λ refusal. (refusal ≡ Refusal.NotAStore) ↔ (D.page_count disk ≢ device_pages geometry.format geometry.extents geometry.pages geometry.sections)) }
-    ensures refusals { IfErr result (λ refusal. (refusal ≡ Refusal.NotAStore) ⊎ (refusal ≡ Refusal.DeviceFault) ⊎ (refusal ≡ Refusal.OutOfMemory)) }
-    // No store is made over one of format 3, nor over a half of a pair that is whole.
-    ensures taken { D.honest disk → dimensions_on (D.page_count disk) (seen (D.state disk)) ≢ None → IsErr result }
-    ensures held { D.honest disk → (x : Pair) → Contains (store_pairs geometry) x → 0 < (held_in (store_version (Some geometry)) (seen (D.state disk)) x).version → IsErr result }
+    ensures not_a_store { IfErr result (λ refused. (refused.0 ≡ Refusal.NotAStore) ↔ (D.page_count disk ≢ device_pages geometry.format geometry.extents geometry.pages geometry.sections)) }
+    ensures refusals { IfErr result (λ refused. (refused.0 ≡ Refusal.NotAStore) ⊎ (refused.0 ≡ Refusal.DeviceFault) ⊎ (refused.0 ≡ Refusal.OutOfMemory)) }
+    ensures same { D.page_count disk ≢ device_pages geometry.format geometry.extents geometry.pages geometry.sections → result ≡ Err (Refusal.NotAStore, disk) }
+    // No store is made over one of format 3, nor over what is left of one, and it is as it was then.
+    ensures taken { D.honest disk → IsTaken (D.page_count disk) (seen (D.state disk)) (store_version (Some geometry)) (store_pairs geometry) → MatchResult result (λ core. ⊥) (λ refused. D.state refused.1 ≡ D.state disk) }
 {
     // Called for its contract alone: what every geometry keeps.
     geometry.extents();
     if disk.pages() != geometry.device_pages() {
-        return Err(Refusal::NotAStore);
+        return Err((Refusal::NotAStore, disk));
     }
     let rules = StoreRules {
         alloc,
         geometry: Some(geometry),
     };
     let Ok(pairs) = rules.pairs() else {
-        return Err(Refusal::OutOfMemory);
+        return Err((Refusal::OutOfMemory, disk));
     };
     let mut disk = disk;
     match is_taken(alloc, &mut disk, &rules, &pairs) {
         Ok(false) => {}
-        Ok(true) => return Err(Refusal::DeviceFault),
-        Err(fault) => return Err(refusal_of_disk(fault)),
+        Ok(true) => return Err((Refusal::DeviceFault, disk)),
+        Err(fault) => return Err((refusal_of_disk(fault), disk)),
     }
     match Paired::new(alloc, disk, rules, pairs) {
         Ok(paired) => match Core::format(alloc, paired, geometry, limits) {
             Ok(core) => Ok(core),
-            Err((refusal, _)) => Err(refusal),
+            Err((refusal, paired)) => Err((refusal, paired.into_disk())),
         },
-        Err((fault, _)) => Err(refusal_of_disk(fault)),
+        Err((fault, disk)) => Err((refusal_of_disk(fault), disk)),
     }
 }
 
 /// Opens the store on a disk, as it was made persistent or as a crash left it, and tells what the pages hold that it has twice: flushes, and reads the
 /// superblock, the root and the index's runs.
 ///
-/// Refused 43 NotAStore where no store of that many pages is on it, 20 to 26 for a page that is damaged, where it has two for both of them, 27 RootLost
-/// where the newest root that is whole is older than one that was persistent, 1 DeviceFault, and 9 OutOfMemory.
+/// The disk comes back where it is refused; what a store of format 3 shows is as it was then. That nothing but flushes and reads goes to the disk below, so that halves that don't show,
+/// and a device without such a store, are as they were too, is by its form. Refused 43 NotAStore where no store of that many pages is on it, 20 to 26 for a page that is damaged, where
+/// it has two for both of them, 27 RootLost where the newest root that is whole is older than one that was persistent, 1 DeviceFault, and 9 OutOfMemory.
 pub fn open_store<D: PageDisk + Drop>(
     alloc: Global,
     disk: D,
     limits: Limits,
-) -> Result<(Core<Mounted<D>>, Vec<Finding>), Refusal>
+) -> Result<(Core<Mounted<D>>, Vec<Finding>), (Refusal, D)>
     ensures new { IfOk result (λ opened. (opened.0.history ≡ []) × (opened.0.base ≡ 0) × (opened.0.limit ≡ limits.history)) }
     ensures image { D.honest disk → IfOk result (λ opened. (opened.0.opened ≡ shown_on (D.page_count disk) (seen (D.state disk))) × (state_shown opened.0.disk ≡ record { durable = shown_on (D.page_count disk) (seen (D.state disk)); volatile = [] })) }
     ensures store { IfOk result (λ opened. IsOpened (D.honest disk) opened.0.opened opened.0.found opened.0.store) }
     // Where the disk shows a store of some geometry, that store is opened.
     ensures recovers { D.honest disk → (format extents pages sections : ℕ) → IsGeometry format extents pages sections → D.page_count disk ≡ device_pages format extents pages sections → (n : ℕ) (m : Map)
         → (let S = shape_of extents pages sections (section_size extents sections) format in Recovers S (formats_of S) (page (shown_on (D.page_count disk) (seen (D.state disk)))) n m
-        → MatchResult result (λ opened. (shape opened.0.store.extents ≡ S) × (opened.0.found.0 ≡ n) × HasCount (λ id. m id ≢ None) opened.0.found.1) (λ refusal. IsNoAnswer refusal)) }
+        → MatchResult result (λ opened. (shape opened.0.store.extents ≡ S) × (opened.0.found.0 ≡ n) × HasCount (λ id. m id ≢ None) opened.0.found.1) (λ refused. IsNoAnswer refused.0)) }
     ensures findings { D.honest disk → IfOk result (λ opened. opened.1.items ≡ findings_on (D.page_count disk) (seen (D.state disk))) }
-    ensures refusals { D.honest disk → IfErr result (λ refusal. IsNoAnswer refusal ⊎ IsWhyNotOpened (D.page_count disk) (page (shown_on (D.page_count disk) (seen (D.state disk)))) refusal) }
+    ensures refusals { D.honest disk → IfErr result (λ refused. IsNoAnswer refused.0 ⊎ IsWhyNotOpened (D.page_count disk) (page (shown_on (D.page_count disk) (seen (D.state disk)))) refused.0) }
     // Whatever the disk answers.
-    ensures number { IfErr result IsOpeningRefusal }
-    ensures small { D.page_count disk < 10 → result ≡ Err Refusal.NotAStore }
+    ensures number { IfErr result (λ refused. IsOpeningRefusal refused.0) }
+    ensures small { D.page_count disk < 10 → result ≡ Err (Refusal.NotAStore, disk) }
+    // What a store of format 3 shows is as it was where it isn't opened.
+    ensures kept { D.honest disk → dimensions_on (D.page_count disk) (seen (D.state disk)) ≢ None → IfErr result (λ refused. shown_on (D.page_count disk) (seen (D.state refused.1)) ≡ shown_on (D.page_count disk) (seen (D.state disk))) }
     // A crash meanwhile leaves what shows as what one before it might have left.
     ensures crash { D.honest disk → IfOk result (λ opened. (left : Image) → left_as_shown opened.0.disk (D.moment disk) left → ShowsOn (D.page_count disk) (seen (D.state disk)) (MayLeave (D.state disk)) left) }
-    ensures honest { IfOk result (λ opened. D.honest disk ↔ D.honest (disk_below opened.0.disk)) }
-    ensures pages { IfOk result (λ opened. D.page_count (disk_below opened.0.disk) ≡ D.page_count disk) }
+    ensures honest { MatchResult result (λ opened. D.honest disk ↔ D.honest (disk_below opened.0.disk)) (λ refused. D.honest disk ↔ D.honest refused.1) }
+    ensures pages { MatchResult result (λ opened. D.page_count (disk_below opened.0.disk) ≡ D.page_count disk) (λ refused. D.page_count refused.1 ≡ D.page_count disk) }
 {
     if disk.pages() < 10 {
-        return Err(Refusal::NotAStore);
+        return Err((Refusal::NotAStore, disk));
     }
     match open_pairs(alloc, disk) {
         Ok((paired, found)) => match Core::open(alloc, paired, limits) {
             Ok(core) => Ok((core, found)),
-            Err((refusal, _)) => Err(refusal),
+            Err((refusal, paired)) => Err((refusal, paired.into_disk())),
         },
-        Err((fault, _)) => Err(refusal_of_disk(fault)),
+        Err((fault, disk)) => Err((refusal_of_disk(fault), disk)),
     }
 }

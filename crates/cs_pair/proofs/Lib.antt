@@ -21,3 +21,5 @@ pub mod Sealing
 pub mod Aging
 pub mod Blank
 pub mod Refinding
+pub mod Keeping
+pub mod Fits

@@ -152,7 +152,7 @@ module _ (V : Versions) (pairs : List Pair) (s : State) (k p : ℕ) (x : Pair) (
       subst (λ (y : Pair). (twin ≡ is_turned V s.durable y → ⊥) × (version_at V s.durable y (is_turned V s.durable y) ≤ V y.page bytes) × (V y.page bytes ≡ version_at V s.durable y (is_turned V s.durable y) → bytes ≡ page s.durable (half y (is_turned V s.durable y)))) same
       ((λ e. not_itself (is_turned V s.durable x) (sym e ∙ sym both.1)), omega (arith, version), λ e. is)
 
-  anew_no_older : AreNoOlder V pairs (written s p bytes)
+  pub anew_no_older : AreNoOlder V pairs (written s p bytes)
   anew_no_older j i z w at_j at_i = ⊎_elim
       (λ (old : slice_get s.volatile i ≡ Some w). absurd (nothing_at s i w none old))
       (λ (new : (p, bytes) ≡ w). subst (λ (v : Write). IsNoOlder V s.durable z v) new (no_older j z at_j))
@@ -293,7 +293,14 @@ module _ (V : Versions) (pairs : List Pair) (s mid : State) (n k p : ℕ) (d : P
   pub shown_there : (now : State) → now ≡ flushed (written mid p bytes) → shown V pairs (seen now) ≡ shown V pairs s.durable
   shown_there now new = flushed_shows V pairs s k p (get_or pairs k d) bytes sized_pairs at none mending.other bytes_durable now (new ∙ ap (λ (z : State). flushed (written z p bytes)) same)
 
-  before_mid : (now : State) → (now ≡ mid) ⊎ (now ≡ written mid p bytes) → (now ≡ s) ⊎ (now ≡ written s p bytes)
+  -- which half it goes to
+  pub goes_there : p ≡ half (get_or pairs k d) (not (is_turned V s.durable (get_or pairs k d)))
+  goes_there = mending.other
+
+  pub newer_there : AreNoOlder V pairs (written s p bytes)
+  newer_there = anew_no_older V pairs s k p (get_or pairs k d) bytes sized_pairs at none mending.other bytes_durable
+
+  pub before_mid : (now : State) → (now ≡ mid) ⊎ (now ≡ written mid p bytes) → (now ≡ s) ⊎ (now ≡ written s p bytes)
   before_mid now (inl still) = inl (still ∙ same)
   before_mid now (inr new) = inr (new ∙ ap (λ (z : State). written z p bytes) same)
 

@@ -19,15 +19,15 @@ use Rattle.cs_pair.proofs.Shown.{Each, IsLast, latest_none, latest_of, page-show
 use Rattle.cs_pair.proofs.Telling.{found_by_last, found_by_zero}
 
 -- The bytes are those of a volatile write that goes to this page.
-record IsWrite (s : State) (p : ℕ) (bytes : List ℕ) : Type 0 where
-  place : ℕ
-  write : Write
-  at : slice_get s.volatile place ≡ Some write
-  goes : write.0 ≡ p
-  is : bytes ≡ write.1
+pub record IsWrite (s : State) (p : ℕ) (bytes : List ℕ) : Type 0 where
+  pub place : ℕ
+  pub write : Write
+  pub at : slice_get s.volatile place ≡ Some write
+  pub goes : write.0 ≡ p
+  pub is : bytes ≡ write.1
 
 -- what some of the writes to a page leave there is what is durable, or one of them
-left_at : (s : State) (p : ℕ) (bytes : List ℕ) → p < length s.durable → IsLeft s p bytes → (bytes ≡ page s.durable p) ⊎ IsWrite s p bytes
+pub left_at : (s : State) (p : ℕ) (bytes : List ℕ) → p < length s.durable → IsLeft s p bytes → (bytes ≡ page s.durable p) ⊎ IsWrite s p bytes
 left_at s p bytes inside left = by_last (latest_of (kept left.0 s.volatile) p)
   where
     there : bytes ≡ latest (kept left.0 s.volatile) p (page s.durable p)
@@ -45,17 +45,17 @@ first_made f n =
     let is : 1 + n ≡ suc n = omega arith in
     ap (λ k. slice_get (map f (range_with_len 0 k)) 0) is
 
-first_pair : (d : Dimensions) → d.format ≡ 3 → slice_get (store_pairs d) 0 ≡ Some (store_pair d 0)
+pub first_pair : (d : Dimensions) → d.format ≡ 3 → slice_get (store_pairs d) 0 ≡ Some (store_pair d 0)
 first_pair d three =
     ap (λ (b : Bool). slice_get (if b then map (store_pair d) (range_with_len 0 (1 + d.sections)) else []) 0) (eq-eqb d.format 3 three) ∙ first_made (store_pair d) d.sections
 
 -- the dimensions are told by two pages
-told_alike : (n : ℕ) (image other : Image) → page image 0 ≡ page other 0 → page image (n - 1) ≡ page other (n - 1) → dimensions_on n image ≡ dimensions_on n other
+pub told_alike : (n : ℕ) (image other : Image) → page image 0 ≡ page other 0 → page image (n - 1) ≡ page other (n - 1) → dimensions_on n image ≡ dimensions_on n other
 told_alike n image other first last =
     ap (λ (l : List ℕ). or_else (zero_said n (page_zero_fault l) l) (last_says n (superblock_fault 3 (page image (n - 1))) (page image (n - 1)))) first
     ∙ ap (λ (l : List ℕ). or_else (zero_said n (page_zero_fault (page other 0)) (page other 0)) (last_says n (superblock_fault 3 l) l)) last
 
-older : (a b : ℕ) → nat_le a b ≡ false → b < a
+pub older : (a b : ℕ) → nat_le a b ≡ false → b < a
 older a b test = grind (arith, nat_tests)
 
 module _ (d : Dimensions) (three : d.format ≡ 3) (s : State) (c : Image) (are : ArePairs (store_pairs d) (length s.durable)) (newer : AreNoOlder (store_version (Some d)) (store_pairs d) s)
@@ -76,7 +76,7 @@ module _ (d : Dimensions) (three : d.format ≡ 3) (s : State) (c : Image) (are 
   none_goes : (twin : Bool) → is_turned V s.durable x ≡ twin → HasWaitingWrite s (half x twin) → ⊥
   none_goes twin turned waits = (newer 0 waits.0 x waits.1 at waits.2 twin waits.3).0 (sym turned)
 
-  stays : (twin : Bool) → is_turned V s.durable x ≡ twin → page c (half x twin) ≡ page s.durable (half x twin)
+  pub stays : (twin : Bool) → is_turned V s.durable x ≡ twin → page c (half x twin) ≡ page s.durable (half x twin)
   stays twin turned = ⊎_elim
       (λ (left : IsLeft s (half x twin) (page c (half x twin))). ⊎_elim
       (λ (same : page c (half x twin) ≡ page s.durable (half x twin)). same)
@@ -85,7 +85,7 @@ module _ (d : Dimensions) (three : d.format ≡ 3) (s : State) (c : Image) (are 
       (λ (torn : HasWaitingWrite s (half x twin) × IsNotWhole V (store_pairs d) (half x twin) (page c (half x twin))). absurd (none_goes twin turned torn.0))
       (tear.each (half x twin) (are.inside 0 x twin at))
 
-  by_turned : (t : Bool) → is_turned V s.durable x ≡ t → 0 < version_at V s.durable x (is_turned V s.durable x) → IsLeft s 0 (page c 0) ⊎ (page_zero_fault (page c 0) ≢ None) → dimensions_on (pages_of d) c ≡ Some d
+  pub by_turned : (t : Bool) → is_turned V s.durable x ≡ t → 0 < version_at V s.durable x (is_turned V s.durable x) → IsLeft s 0 (page c 0) ⊎ (page_zero_fault (page c 0) ≢ None) → dimensions_on (pages_of d) c ≡ Some d
   by_turned false turned some first =
       let newest = ap (λ (b : Bool). version_at V s.durable x b) turned in
       let same = ap (section_version d 0) (stays false turned) in

@@ -10,3 +10,5 @@ pub mod Laws
 pub mod Showing
 pub mod Older
 pub mod OlderDisks
+pub mod Kept
+pub mod Fitting

@@ -75,6 +75,10 @@ abbrev pub last_says : (pages : ℕ) → Option FormatFault → List ℕ → Opt
 last_says pages None bytes = named_by pages 3 bytes
 last_says pages (Some fault) bytes = None
 
+-- the dimensions of the store of format 3 whose first section these bytes spell, where the device has its pages
+abbrev pub first_says : (pages : ℕ) → List ℕ → Option Dimensions
+first_says pages bytes = last_says pages (superblock_fault 3 bytes) bytes
+
 -- the first, or else the second
 abbrev pub or_else : Option (Option Dimensions) → Option Dimensions → Option Dimensions
 or_else (Some said) other = said

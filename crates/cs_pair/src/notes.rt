@@ -30,10 +30,11 @@ pub struct Notes {
 }
 
 impl Notes {
-    ghost use Rattle.std.specs.Prelude.{◌≡◌, ◌<◌, ◌+◌, ◌-◌, ◌^◌, ◌↔◌, ◌⊎◌, [], Some, IfOk, IsErrOf, OnErr, OnOk, length, min, not, slice_get};
+    ghost use Rattle.std.specs.Prelude.{◌≡◌, ◌<◌, ◌+◌, ◌-◌, ◌^◌, ◌↔◌, ◌⊎◌, [], Bool, Some, IfOk, IsErrOf, OnErr, OnOk, length, min, not, slice_get};
     ghost use Rattle.cs_disk.specs.Disk.{Counts, GoesOn, HasCause, LeavesOnly, MayLeave, flushed, page, seen, written};
     ghost use Rattle.cs_pair.specs.declared.pairs.Pair.{Pair};
     ghost use Rattle.cs_pair.specs.Findings.{AreMended, finding_in, mended, passed_over};
+    ghost use Rattle.cs_pair.specs.Fitting.{IsFit};
     ghost use Rattle.cs_pair.specs.Noted.{AreNotes, AreRight, failed};
     ghost use Rattle.cs_pair.specs.Pairs.{ArePairs, half, is_turned, shown, shown_state};
     ghost use Rattle.cs_pair.specs.Reads.{OnlyReads};
@@ -200,6 +201,8 @@ impl Notes {
         ensures fault { D.honest disk.old → (x : Pair) → slice_get pairs.now k ≡ Some x
             → (shown_state (R.version rules.now) pairs.now (D.state disk.new) ≡ shown_state (R.version rules.now) pairs.now (D.state disk.old))
             ⊎ (shown_state (R.version rules.now) pairs.now (D.state disk.new) ≡ written (shown_state (R.version rules.now) pairs.now (D.state disk.old)) x.page bytes.now) }
+        // Below it goes to a half, or nowhere.
+        ensures below { D.honest disk.old → (x : Pair) → slice_get pairs.now k ≡ Some x → (D.state disk.new ≡ D.state disk.old) ⊎ (twin : Bool) × (D.state disk.new ≡ written (D.state disk.old) (half x twin) bytes.now) }
         ensures memory { D.honest disk.old → IsErrOf result DiskFault.OutOfMemory → D.state disk.new ≡ D.state disk.old }
         ensures count { D.honest disk.old → Counts result (D.moment disk.old) (D.moment disk.new) }
         ensures time { GoesOn D.honest D.state D.moment D.left_since disk.old disk.new }
@@ -264,12 +267,15 @@ impl Notes {
         ensures mended { D.honest disk.old → (x : Pair) → slice_get pairs.now k ≡ Some x → OnOk result (D.state disk.new ≡ record { durable = mended (R.version rules.now) (D.state disk.old).durable x; volatile = [] }) }
         ensures shown { D.honest disk.old → shown (R.version rules.now) pairs.now (seen (D.state disk.new)) ≡ shown (R.version rules.now) pairs.now (D.state disk.old).durable }
         ensures crash { D.honest disk.old → LeavesOnly D.moment D.left_since disk.old disk.new (λ left. shown (R.version rules.now) pairs.now left ≡ shown (R.version rules.now) pairs.now (D.state disk.old).durable) }
+        ensures fit { D.honest disk.old → IsFit R.PageRules rules.now pairs.now (D.page_count disk.old) (D.state disk.old) → IsFit R.PageRules rules.now pairs.now (D.page_count disk.old) (D.state disk.new) }
         ensures honest { D.honest disk.old ↔ D.honest disk.new }
         ensures pages { D.page_count disk.new ≡ D.page_count disk.old }
         ensures notes { AreNotes pairs.now self.new }
         ensures right { D.honest disk.new → AreRight (R.version rules.now) pairs.now self.new (D.state disk.new) }
         ensures cause { HasCause (failed (D.failure_count disk.old) self.old) (failed (D.failure_count disk.new) self.new) result }
     {
+        // Called for its contract alone: what is kept by a write and a flush.
+        rules.keep();
         let mut bytes = [0; 4096];
         match read_damaged(disk, rules, pairs[k], &mut bytes) {
             Ok(Some(page)) => match write_through(disk, page, &bytes) {
@@ -304,12 +310,15 @@ impl Notes {
         ensures mended { D.honest disk.old → (x : Pair) → slice_get pairs.now k ≡ Some x → OnOk result (D.state disk.new ≡ record { durable = mended (R.version rules.now) (seen (D.state disk.old)) x; volatile = [] }) }
         ensures shown { D.honest disk.old → seen (shown_state (R.version rules.now) pairs.now (D.state disk.new)) ≡ seen (shown_state (R.version rules.now) pairs.now (D.state disk.old)) }
         ensures crash { D.honest disk.old → LeavesOnly D.moment D.left_since disk.old disk.new (λ left. MayLeave (shown_state (R.version rules.now) pairs.now (D.state disk.old)) (shown (R.version rules.now) pairs.now left)) }
+        ensures fit { D.honest disk.old → IsFit R.PageRules rules.now pairs.now (D.page_count disk.old) (D.state disk.old) → IsFit R.PageRules rules.now pairs.now (D.page_count disk.old) (D.state disk.new) }
         ensures honest { D.honest disk.old ↔ D.honest disk.new }
         ensures pages { D.page_count disk.new ≡ D.page_count disk.old }
         ensures notes { AreNotes pairs.now self.new }
         ensures right { D.honest disk.new → AreRight (R.version rules.now) pairs.now self.new (D.state disk.new) }
         ensures cause { HasCause (failed (D.failure_count disk.old) self.old) (failed (D.failure_count disk.new) self.new) result }
     {
+        // Called for its contract alone: what is kept by a flush.
+        rules.keep();
         match self.flush(disk, rules, pairs) {
             Ok(()) => self.rewrite(disk, rules, pairs, k),
             Err(fault) => Err(fault),
@@ -331,6 +340,7 @@ impl Notes {
         ensures settled { D.honest disk.old → OnOk result ((D.state disk.new).volatile ≡ []) }
         ensures shown { D.honest disk.old → shown (R.version rules.now) pairs.now (seen (D.state disk.new)) ≡ shown (R.version rules.now) pairs.now (D.state disk.old).durable }
         ensures crash { D.honest disk.old → LeavesOnly D.moment D.left_since disk.old disk.new (λ left. shown (R.version rules.now) pairs.now left ≡ shown (R.version rules.now) pairs.now (D.state disk.old).durable) }
+        ensures fit { D.honest disk.old → IsFit R.PageRules rules.now pairs.now (D.page_count disk.old) (D.state disk.old) → IsFit R.PageRules rules.now pairs.now (D.page_count disk.old) (D.state disk.new) }
         ensures honest { D.honest disk.old ↔ D.honest disk.new }
         ensures pages { D.page_count disk.new ≡ D.page_count disk.old }
         ensures notes { AreNotes pairs.now self.new }
@@ -361,12 +371,15 @@ impl Notes {
         ensures settled { D.honest disk.old → OnOk result ((D.state disk.new).volatile ≡ []) }
         ensures shown { D.honest disk.old → seen (shown_state (R.version rules.now) pairs.now (D.state disk.new)) ≡ seen (shown_state (R.version rules.now) pairs.now (D.state disk.old)) }
         ensures crash { D.honest disk.old → LeavesOnly D.moment D.left_since disk.old disk.new (λ left. MayLeave (shown_state (R.version rules.now) pairs.now (D.state disk.old)) (shown (R.version rules.now) pairs.now left)) }
+        ensures fit { D.honest disk.old → IsFit R.PageRules rules.now pairs.now (D.page_count disk.old) (D.state disk.old) → IsFit R.PageRules rules.now pairs.now (D.page_count disk.old) (D.state disk.new) }
         ensures honest { D.honest disk.old ↔ D.honest disk.new }
         ensures pages { D.page_count disk.new ≡ D.page_count disk.old }
         ensures notes { AreNotes pairs.now self.new }
         ensures right { D.honest disk.new → AreRight (R.version rules.now) pairs.now self.new (D.state disk.new) }
         ensures cause { HasCause (failed (D.failure_count disk.old) self.old) (failed (D.failure_count disk.new) self.new) result }
     {
+        // Called for its contract alone: what is kept by a flush.
+        rules.keep();
         self.flush(disk, rules, pairs)?;
         self.rewrite_all(disk, rules, pairs)
     }

@@ -1,6 +1,7 @@
 // A disk in pairs.
 ghost use Rattle.std.specs.Prelude.{◌≡◌};
 ghost use Rattle.cs_disk.specs.Disk.{IsWhole};
+ghost use Rattle.cs_pair.specs.Fitting.{IsFit};
 ghost use Rattle.cs_pair.specs.Laws.{ShowsKept};
 ghost use Rattle.cs_pair.specs.Noted.{AreNotes, AreRight, failed};
 ghost use Rattle.cs_pair.specs.Pairs.{ArePairs, left_shown, shown_state};
@@ -18,7 +19,7 @@ use std::alloc::Global;
 /// flush made durable is never written over, and of a write that a crash or damage spoils the older half is left.
 ///
 /// A write to a pair is refused 1 DeviceFault, and counted, where the bytes aren't whole or their version isn't greater than that of any
-/// half; so is one to a twin. After a write to a pair that the disk below refused so, it isn't known which half is the newest: the pairs are then neither
+/// half; so is one to a twin, and one to another page of bytes that the rules don't allow there. After a write to a pair that the disk below refused so, it isn't known which half is the newest: the pairs are then neither
 /// read nor written, and nothing is flushed, until the disk is opened anew.
 ///
 /// It is honest where the disk below is. It keeps 50 bytes for each pair. The first read or write of a pair after the opening, and after a crash, reads all pairs.
@@ -31,6 +32,7 @@ pub struct Paired<D: PageDisk, R: PageRules> {
     ghost apart: { ArePairs pairs.items (D.page_count disk) },
     ghost noted: { AreNotes pairs.items notes },
     ghost right: { D.honest disk → AreRight (R.version rules) pairs.items notes (D.state disk) },
+    ghost fit: { D.honest disk → IsFit R.PageRules rules pairs.items (D.page_count disk) (D.state disk) },
     // What follows from these is said to the trait's laws.
     ghost shows: { D.honest disk → ShowsKept (R.version rules) pairs.items (D.state disk) },
     ghost whole: { D.honest disk → IsWhole (shown_state (R.version rules) pairs.items (D.state disk)) },
@@ -46,11 +48,12 @@ impl<D: PageDisk, R: PageRules> Paired<D, R> {
     ghost use Rattle.cs_pair.specs.Pairs.{AreNoOlder, half, is_turned};
     ghost use Rattle.cs_pair.specs.Reads.{OnlyReads};
 
-    /// A disk in these pairs: it flushes the disk below. What lies in the pairs is read later.
+    /// A disk in these pairs: it flushes the disk below, and has what the rules keep of it. What lies in the pairs is read later.
     pub fn new(alloc: Global, disk: D, rules: R, pairs: Vec<Pair>) -> Result<Self, (DiskFault, D)>
     where
         R: Drop,
-        requires { ArePairs pairs.items (D.page_count disk) }
+        requires pairs { ArePairs pairs.items (D.page_count disk) }
+        requires fits { D.honest disk → R.fits rules pairs.items (D.page_count disk) (seen (D.state disk)) }
         ensures pairs { IfOk result (λ p. pairs_of p ≡ pairs.items) }
         ensures rules { IfOk result (λ p. rules_of p ≡ rules) }
         ensures state { D.honest disk → MatchResult result (λ p. D.state (disk_below p) ≡ flushed (D.state disk)) (λ refused. D.state refused.1 ≡ D.state disk) }
@@ -145,7 +148,8 @@ impl<D: PageDisk, R: PageRules> Paired<D, R> {
     ) -> Result<(Self, Vec<Finding>), (DiskFault, D)>
     where
         R: Drop,
-        requires { ArePairs pairs.items (D.page_count disk) }
+        requires pairs { ArePairs pairs.items (D.page_count disk) }
+        requires fits { D.honest disk → R.fits rules pairs.items (D.page_count disk) (seen (D.state disk)) }
         ensures pairs { IfOk result (λ opened. pairs_of opened.0 ≡ pairs.items) }
         ensures rules { IfOk result (λ opened. rules_of opened.0 ≡ rules) }
         ensures findings { D.honest disk → IfOk result (λ opened. opened.1.items ≡ map (finding_in (R.version rules) (seen (D.state disk))) pairs.items) }
@@ -232,7 +236,13 @@ impl<D: PageDisk, R: PageRules> PageDisk for Paired<D, R> {
 
     fn write(&mut self, number: u64, bytes: &[u8; 4096]) -> Result<(), DiskFault> {
         match Place::of(&self.pairs, number) {
-            Place::Own => self.disk.write(number, bytes),
+            Place::Own => {
+                if self.rules.allows(number, bytes) {
+                    self.disk.write(number, bytes)
+                } else {
+                    self.notes.refuse()
+                }
+            }
             Place::OfTwin => self.notes.refuse(),
             Place::OfPair(k) => {
                 self.notes
@@ -242,6 +252,8 @@ impl<D: PageDisk, R: PageRules> PageDisk for Paired<D, R> {
     }
 
     fn flush(&mut self) -> Result<(), DiskFault> {
+        // Called for its contract alone: what is kept by a flush.
+        self.rules.keep();
         self.notes.flush(&mut self.disk, &self.rules, &self.pairs)
     }
 
@@ -282,6 +294,8 @@ impl<D: CrashDisk, R: PageRules> CrashDisk for Paired<D, R> {
             mut notes,
         } = self;
         notes.forget();
+        // Called for its contract alone: what is kept by a crash.
+        rules.keep();
         Paired {
             disk: disk.crash(mask),
             rules,

@@ -4,11 +4,12 @@ ghost use Rattle.cs_disk.specs.Disk.{HasCause, Image, LeavesOnly, MayLeave, Rise
 ghost use Rattle.cs_frame.specs.FirstFormat.{page_zero_fault};
 ghost use Rattle.cs_frame.specs.Geometries.{IsGeometry, IsKnown};
 ghost use Rattle.cs_frame.specs.Superblocks.{superblock_fault};
+ghost use Rattle.cs_pair.specs.Kept.{IsOfStore, is_allowed};
 ghost use Rattle.cs_pair.specs.Pairs.{ArePairs};
 ghost use Rattle.cs_pair.specs.Paired.{disk_below, left_as_shown, pairs_of, rules_of, state_shown};
 ghost use Rattle.cs_pair.specs.Reads.{OnlyReads};
 ghost use Rattle.cs_pair.specs.Showing.{ShowsOn, findings_on, shown_on};
-ghost use Rattle.cs_pair.specs.Stores.{dimensions_on, last_says, named, pages_of, pairs_where, root_version, section_at, section_version, store_pair, store_pairs, store_version, zero_said};
+ghost use Rattle.cs_pair.specs.Stores.{dimensions_on, first_says, last_says, named, pages_of, pairs_where, root_version, section_at, section_version, store_pair, store_pairs, store_version, zero_said};
 
 use crate::findings::Finding;
 use crate::paired::Paired;
@@ -114,6 +115,10 @@ impl StoreRules {
 impl PageRules for StoreRules {
     ghost version = { λ r. store_version r.geometry };
 
+    ghost fits = { λ r. IsOfStore r.geometry };
+
+    ghost allowed = { λ r. is_allowed };
+
     fn version_of(&self, number: u64, bytes: &[u8; 4096]) -> Result<u64, DiskFault> {
         match self.geometry {
             None => Ok(0),
@@ -126,6 +131,12 @@ impl PageRules for StoreRules {
             }
         }
     }
+
+    fn allows(&self, number: u64, bytes: &[u8; 4096]) -> bool {
+        !(number == 0 && bytes[3] == b'3')
+    }
+
+    fn keep(&self) {}
 }
 
 /// A pair of a store of format 3, from 0 on: that of section 0, that of the root, those of the other sections.
@@ -252,6 +263,17 @@ fn read_zero<D: PageDisk>(
         Ok(()) => zero_said(alloc, pages, &buffer),
         Err(fault) => Err(fault),
     }
+}
+
+/// The geometry of the store of format 3 whose first section the last page holds, whatever is on page 0; nothing where it holds none of a store with the device's pages.
+pub fn find_last<D: PageDisk>(alloc: Global, disk: &mut D) -> Result<Option<Geometry>, DiskFault>
+    requires { 0 < D.page_count disk.old }
+    ensures found { D.honest disk.old → IfOk result (λ found. found ≡ first_says (D.page_count disk.old) (page (seen (D.state disk.old)) (D.page_count disk.old - 1))) }
+    ensures disk { OnlyReads D.PageDisk disk.old disk.new }
+    ensures cause { HasCause (D.failure_count disk.old) (D.failure_count disk.new) result }
+{
+    let pages = disk.pages();
+    read_last(alloc, disk, pages)
 }
 
 /// The geometry of the store on a device whose pages lie in pairs, where there is one, of format 3: that which page 0 says where it is whole,

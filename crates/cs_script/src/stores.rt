@@ -78,13 +78,16 @@ pub fn new_in_file<R: Files<File = File>>(
         Ok(disk) => disk,
         Err(_) => return Err(Refusal::DeviceFault),
     };
-    make_store(alloc, disk, geometry, limits())
+    match make_store(alloc, disk, geometry, limits()) {
+        Ok(core) => Ok(core),
+        Err((refusal, _)) => Err(refusal),
+    }
 }
 
 /// The store that is in a file, with the geometry that its superblock has, and what the pages hold that it has twice.
 ///
 /// Refused 1 DeviceFault where the operating system refuses a call, as where there is no such file; 6 OddLength where its length
-/// is no multiple of 4,096; and as `Core::open` where it holds no store, or a damaged one. The file is as it was then.
+/// is no multiple of 4,096; and as `Core::open` where it holds no store, or a damaged one. Nothing but flushes and reads is done to the file then, by the form of `open_store` of cs_mount.
 pub fn open_in_file<R: Files<File = File>>(
     rt: &R,
     alloc: Global,
@@ -97,7 +100,10 @@ pub fn open_in_file<R: Files<File = File>>(
         Ok(disk) => disk,
         Err(fault) => return Err(refusal_of(fault)),
     };
-    open_store(alloc, disk, limits())
+    match open_store(alloc, disk, limits()) {
+        Ok(opened) => Ok(opened),
+        Err((refusal, _)) => Err(refusal),
+    }
 }
 
 /// How much may be recorded.

@@ -47,7 +47,7 @@ impl Store<Mounted<FileDisk>> {
         };
         match Store::make_mounted(alloc, disk, geometry, options.limits) {
             Ok(store) => Ok(store),
-            Err(refusal) => Err(OpenError::of(refusal)),
+            Err((refusal, _)) => Err(OpenError::of(refusal)),
         }
     }
 
@@ -74,7 +74,7 @@ impl Store<Mounted<FileDisk>> {
         };
         match Store::open_mounted(alloc, disk, limits) {
             Ok(store) => Ok(store),
-            Err(refusal) => Err(OpenError::of(refusal)),
+            Err((refusal, _)) => Err(OpenError::of(refusal)),
         }
     }
 }

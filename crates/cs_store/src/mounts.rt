@@ -11,10 +11,11 @@ ghost use Rattle.cs_image.specs.Counts.{HasCount};
 ghost use Rattle.cs_model.specs.Element.{Map};
 ghost use Rattle.cs_model.specs.Geometry.{shape_of};
 ghost use Rattle.cs_model.specs.Recovery.{Recovers};
+ghost use Rattle.cs_mount.specs.Looks.{IsTaken};
 ghost use Rattle.cs_pair.specs.Paired.{disk_below, left_as_shown, state_shown};
 ghost use Rattle.cs_pair.specs.Pairs.{shown_state};
 ghost use Rattle.cs_pair.specs.Showing.{ShowsOn, shown_on};
-ghost use Rattle.cs_pair.specs.Stores.{store_pairs, store_version};
+ghost use Rattle.cs_pair.specs.Stores.{dimensions_on, store_pairs, store_version};
 ghost use Rattle.cs_store.specs.Maps.{HasMap};
 
 use crate::stores::Store;
@@ -29,13 +30,14 @@ impl<D: PageDisk + Drop> Store<Mounted<D>> {
     /// Makes a new store of this geometry on a disk: flushes it, writes its superblock and its root, and makes them durable. In format 3 each section and the
     /// root have two pages; one of each is written.
     ///
-    /// Refused 43 NotAStore where the disk hasn't the geometry's pages, 1 DeviceFault, and 9 OutOfMemory.
+    /// The disk comes back where it is refused: 43 NotAStore where it hasn't the geometry's pages; 1 DeviceFault, or 9, where a store of format 3 is on it, or something is
+    /// left of one (`make_store` of cs_mount), and then nothing is written or flushed; 1 where it refuses a call; and 9 OutOfMemory.
     pub fn make_mounted(
         alloc: Global,
         disk: D,
         geometry: Geometry,
         limits: Limits,
-    ) -> Result<Self, Refusal>
+    ) -> Result<Self, (Refusal, D)>
         ensures new { IfOk result (λ made. (made.history ≡ []) × (made.base ≡ 0) × (made.limit ≡ limits.history)) }
         ensures store { IfOk result (λ made. made.store ≡ new_stored geometry.format geometry.extents geometry.pages geometry.sections) }
         ensures found { IfOk result (λ made. made.found ≡ (0, 0)) }
@@ -44,11 +46,14 @@ impl<D: PageDisk + Drop> Store<Mounted<D>> {
         ensures written { D.honest disk → IfOk result (λ made. IsNewOn geometry.format geometry.extents geometry.pages geometry.sections (shown_state (store_version (Some geometry)) (store_pairs geometry) (flushed (D.state disk))) (state_shown made.disk)) }
         // So it is on pages of zeros.
         ensures zeros { D.honest disk → (D.state disk).durable ≡ replicate (device_pages geometry.format geometry.extents geometry.pages geometry.sections) (replicate 4096 0) → (D.state disk).volatile ≡ [] → IfOk result (λ made. IsNewOn geometry.format geometry.extents geometry.pages geometry.sections (record { durable = replicate (device_pages geometry.format geometry.extents geometry.pages geometry.sections) (replicate 4096 0); volatile = [] }) (state_shown made.disk)) }
-        ensures not_a_store { IfErr result (λ refusal. (refusal ≡ Refusal.NotAStore) ↔ (D.page_count disk ≢ device_pages geometry.format geometry.extents geometry.pages geometry.sections)) }
+        ensures not_a_store { IfErr result (λ refused. (refused.0 ≡ Refusal.NotAStore) ↔ (D.page_count disk ≢ device_pages geometry.format geometry.extents geometry.pages geometry.sections)) }
         ensures pages { IfOk result (λ made. D.page_count (disk_below made.disk) ≡ D.page_count disk) }
-        ensures honest { IfOk result (λ made. D.honest disk ↔ D.honest (disk_below made.disk)) }
+        ensures honest { MatchResult result (λ made. D.honest disk ↔ D.honest (disk_below made.disk)) (λ refused. D.honest disk ↔ D.honest refused.1) }
         ensures sized { OnOk result (D.page_count disk ≡ device_pages geometry.format geometry.extents geometry.pages geometry.sections) }
-        ensures refusals { IfErr result (λ refusal. (refusal ≡ Refusal.NotAStore) ⊎ (refusal ≡ Refusal.DeviceFault) ⊎ (refusal ≡ Refusal.OutOfMemory)) }
+        ensures refusals { IfErr result (λ refused. (refused.0 ≡ Refusal.NotAStore) ⊎ (refused.0 ≡ Refusal.DeviceFault) ⊎ (refused.0 ≡ Refusal.OutOfMemory)) }
+        ensures same { D.page_count disk ≢ device_pages geometry.format geometry.extents geometry.pages geometry.sections → result ≡ Err (Refusal.NotAStore, disk) }
+        // No store is made over one of format 3, nor over what is left of one, and it is as it was then.
+        ensures taken { D.honest disk → IsTaken (D.page_count disk) (seen (D.state disk)) (store_version (Some geometry)) (store_pairs geometry) → MatchResult result (λ made. ⊥) (λ refused. D.state refused.1 ≡ D.state disk) }
     {
         match make_store(alloc, disk, geometry, limits) {
             Ok(core) => Ok(Store {
@@ -56,31 +61,34 @@ impl<D: PageDisk + Drop> Store<Mounted<D>> {
                 core,
                 findings: Vec::new(alloc),
             }),
-            Err(refusal) => Err(refusal),
+            Err(refused) => Err(refused),
         }
     }
 
     /// Opens the store on a disk, as it was made persistent or as a crash left it: flushes, and reads the superblock, the root and the index's runs, in format
     /// 3 of two pages of each section and of the root those that are the newest and whole. `findings` tells then of those that weren't.
     ///
-    /// Refused 43 NotAStore where no store of that many pages is on it, 20 to 26 for a page that is damaged, and its twin too where it has one, 27 RootLost
-    /// where a newer root was persistent than is whole, 1 DeviceFault, and 9 OutOfMemory.
-    pub fn open_mounted(alloc: Global, disk: D, limits: Limits) -> Result<Self, Refusal>
+    /// The disk comes back where it is refused; what a store of format 3 shows is as it was then, and the rest is by the form of `open_store` of cs_mount. Refused 43 NotAStore where no
+    /// store of that many pages is on it, 20 to 26 for a page that is damaged, and its twin too where it has one, 27 RootLost where a newer root was persistent than is whole,
+    /// 1 DeviceFault, and 9 OutOfMemory.
+    pub fn open_mounted(alloc: Global, disk: D, limits: Limits) -> Result<Self, (Refusal, D)>
         ensures new { IfOk result (λ opened. (opened.history ≡ []) × (opened.base ≡ 0) × (opened.limit ≡ limits.history)) }
         ensures image { D.honest disk → IfOk result (λ opened. (opened.opened ≡ shown_on (D.page_count disk) (seen (D.state disk))) × (state_shown opened.disk ≡ record { durable = shown_on (D.page_count disk) (seen (D.state disk)); volatile = [] })) }
         ensures store { IfOk result (λ opened. IsOpened (D.honest disk) opened.opened opened.found opened.store) }
         // Where the disk shows a store of some geometry with this map, that store is opened and has this map.
         ensures recovers { D.honest disk → (format extents pages sections : ℕ) → IsGeometry format extents pages sections → D.page_count disk ≡ device_pages format extents pages sections → (n : ℕ) (m : Map)
             → (let S = shape_of extents pages sections (section_size extents sections) format in Recovers S (formats_of S) (page (shown_on (D.page_count disk) (seen (D.state disk)))) n m
-            → MatchResult result (λ opened. (shape opened.store.extents ≡ S) × (opened.found.0 ≡ n) × HasCount (λ id. m id ≢ None) opened.found.1 × HasMap opened m) (λ refusal. IsNoAnswer refusal)) }
-        ensures refusals { D.honest disk → IfErr result (λ refusal. IsNoAnswer refusal ⊎ IsWhyNotOpened (D.page_count disk) (page (shown_on (D.page_count disk) (seen (D.state disk)))) refusal) }
+            → MatchResult result (λ opened. (shape opened.store.extents ≡ S) × (opened.found.0 ≡ n) × HasCount (λ id. m id ≢ None) opened.found.1 × HasMap opened m) (λ refused. IsNoAnswer refused.0)) }
+        ensures refusals { D.honest disk → IfErr result (λ refused. IsNoAnswer refused.0 ⊎ IsWhyNotOpened (D.page_count disk) (page (shown_on (D.page_count disk) (seen (D.state disk)))) refused.0) }
         // Whatever the disk answers.
-        ensures number { IfErr result IsOpeningRefusal }
-        ensures small { D.page_count disk < 10 → result ≡ Err Refusal.NotAStore }
+        ensures number { IfErr result (λ refused. IsOpeningRefusal refused.0) }
+        ensures small { D.page_count disk < 10 → result ≡ Err (Refusal.NotAStore, disk) }
+        // What a store of format 3 shows is as it was where it isn't opened.
+        ensures kept { D.honest disk → dimensions_on (D.page_count disk) (seen (D.state disk)) ≢ None → IfErr result (λ refused. shown_on (D.page_count disk) (seen (D.state refused.1)) ≡ shown_on (D.page_count disk) (seen (D.state disk))) }
         // A crash meanwhile leaves what shows as what one before it might have left.
         ensures crash { D.honest disk → IfOk result (λ opened. (left : Image) → left_as_shown opened.disk (D.moment disk) left → ShowsOn (D.page_count disk) (seen (D.state disk)) (MayLeave (D.state disk)) left) }
-        ensures honest { IfOk result (λ opened. D.honest disk ↔ D.honest (disk_below opened.disk)) }
-        ensures pages { IfOk result (λ opened. D.page_count (disk_below opened.disk) ≡ D.page_count disk) }
+        ensures honest { MatchResult result (λ opened. D.honest disk ↔ D.honest (disk_below opened.disk)) (λ refused. D.honest disk ↔ D.honest refused.1) }
+        ensures pages { MatchResult result (λ opened. D.page_count (disk_below opened.disk) ≡ D.page_count disk) (λ refused. D.page_count refused.1 ≡ D.page_count disk) }
     {
         match open_store(alloc, disk, limits) {
             Ok((core, findings)) => Ok(Store {
@@ -88,7 +96,7 @@ impl<D: PageDisk + Drop> Store<Mounted<D>> {
                 core,
                 findings,
             }),
-            Err(refusal) => Err(refusal),
+            Err(refused) => Err(refused),
         }
     }
 }

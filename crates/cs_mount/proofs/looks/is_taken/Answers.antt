@@ -1,25 +1,14 @@
-use Rattle.std.proofs.Common.{ap, map, ◌∙◌}
-use Rattle.std.specs.List.{list_any}
-use Rattle.cs_disk.specs.Disk.{State, seen}
-use Rattle.cs_mount.specs.Looks.{is_whole}
-use Rattle.cs_pair.specs.Findings.{finding_in}
 use Rattle.cs_pair.specs.Stores.{store_version}
 use Rattle.cs_pair.proofs.OnlyRead.{reads_on}
-use Rattle.cs_mount.proofs.Looking.{pairs_taken}
+use Rattle.cs_mount.proofs.Looking.{left_behind}
 use Rattle.cs_mount.proofs.looks.is_taken.Goals as goal
 
-pub returns-in-Ok-clause-taken : goal.returns-in-Ok-clause-taken
-returns-in-Ok-clause-taken g c = λ h.
+pub returns-in-Ok-None-clause-taken : goal.returns-in-Ok-None-clause-taken
+returns-in-Ok-None-clause-taken g c = λ h.
     let D = g.D.PageDisk in
-    let disk = c.args.disk.now in
     let reads = c.find_geometry.ensures.disk in
-    let V = store_version c.args.rules.now.geometry in
-    pairs_taken (D.page_count disk) (seen (D.state disk)) V c.args.pairs.now c.in-Ok-None.field-0 c.in-Ok.found.items c.is_any_whole.result (c.in-Ok-None.ensures.found h) c.in-Ok-None.field-0-is
-    (c.in-Ok.ensures.findings (reads.honesty.0 h) ∙ ap (λ (s : State). map (finding_in V (seen s)) c.args.pairs.now) (reads.same h))
-    (c.is_any_whole.ensures ∙ ap (list_any is_whole) c.deref.ensures.value)
+    left_behind c.is_left.result (D.page_count c.args.disk.now) (D.page_count c.find_geometry.new.disk) (D.state c.args.disk.now) (D.state c.find_geometry.new.disk) (store_version c.args.rules.now.geometry) c.args.pairs.now c.in-Ok-None.field-0
+    reads.pages (reads.same h) (c.in-Ok-None.ensures.found h) c.in-Ok-None.field-0-is (c.is_left.ensures.left (reads.honesty.0 h))
 
-pub returns-in-Ok-clause-disk : goal.returns-in-Ok-clause-disk
-returns-in-Ok-clause-disk g c = reads_on g.D.PageDisk c.args.disk.now c.find_geometry.new.disk c.read_findings.new.disk c.find_geometry.ensures.disk c.read_findings.ensures.disk
-
-pub returns-in-Err-read_findings-clause-disk : goal.returns-in-Err-read_findings-clause-disk
-returns-in-Err-read_findings-clause-disk g c = reads_on g.D.PageDisk c.args.disk.now c.find_geometry.new.disk c.read_findings.new.disk c.find_geometry.ensures.disk c.read_findings.ensures.disk
+pub returns-in-Ok-None-clause-disk : goal.returns-in-Ok-None-clause-disk
+returns-in-Ok-None-clause-disk g c = reads_on g.D.PageDisk c.args.disk.now c.find_geometry.new.disk c.is_left.new.disk c.find_geometry.ensures.disk c.is_left.ensures.disk

@@ -1,13 +1,18 @@
-use Rattle.std.proofs.Common.{Contains, List, Some, ap, inl, inr, subst, sym, ◌∙◌}
+use Rattle.std.proofs.Common.{rules, ◌≡◌, IsTrue, List, Some, ap, arith, subst, sym, ◌∙◌, ◌↔◌}
 use Rattle.cs_core.specs.Started.{IsNewOn}
 use Rattle.cs_disk.specs.Disk.{State, flushed, seen}
+use Rattle.cs_disk.proofs.Images.{length-applied}
+use Rattle.cs_frame.specs.Geometries.{device_pages}
 use Rattle.cs_pair.specs.declared.pairs.Pair.{Pair}
 use Rattle.cs_pair.specs.declared.stores.StoreRules.{StoreRules}
+use Rattle.cs_pair.specs.Kept.{IsOfStore}
 use Rattle.cs_pair.specs.Paired.{state_shown}
 use Rattle.cs_pair.specs.Stores.{store_pairs, store_version}
 use Rattle.cs_pair.proofs.Blank.{new_shows}
 use Rattle.cs_pair.proofs.Mounting.{shown_behind}
+use Rattle.cs_mount.specs.Looks.{IsTaken}
 use Rattle.cs_mount.proofs.Looking.{free}
+use Rattle.cs_mount.proofs.Refused.{free_fits}
 use Rattle.cs_mount.proofs.mounts.make_store.Goals as goal
 
 pub returns-in-Ok-format-clause-start : goal.returns-in-Ok-format-clause-start
@@ -32,14 +37,38 @@ returns-in-Ok-format-clause-zeros g c = λ h durable none.
     (new_shows (store_version (Some d)) d (g.D.PageDisk.state c.args.disk) c.extents.ensures.geometry durable none) (returns-in-Ok-format-clause-written g c h)
 
 pub returns-in-Ok-format-clause-taken : goal.returns-in-Ok-format-clause-taken
-returns-in-Ok-format-clause-taken g c = λ h some.
+returns-in-Ok-format-clause-taken g c = λ h taken.
     let D = g.D.PageDisk in
+    let V = store_version (Some c.args.geometry) in
+    let n = D.page_count c.args.disk in
+    let image = seen (D.state c.args.disk) in
     let test = c.in-Ok-false in
-    absurd (free (D.page_count c.args.disk) (seen (D.state c.args.disk)) (store_version (Some c.args.geometry)) c.deref.result.now test.field-0 test.field-0-test (test.ensures.taken h) (inl some))
+    free n image V c.deref.result.now test.field-0 test.field-0-test (test.ensures.taken h) (subst (λ (l : List Pair). IsTaken n image V l) (sym (c.deref.ensures.value ∙ c.in-Ok.ensures.pairs)) taken)
 
-pub returns-in-Ok-format-clause-held : goal.returns-in-Ok-format-clause-held
-returns-in-Ok-format-clause-held g c = λ h x has whole.
+pub returns-in-Err-format-clause-taken : goal.returns-in-Err-format-clause-taken
+returns-in-Err-format-clause-taken g c = λ h taken.
     let D = g.D.PageDisk in
+    let V = store_version (Some c.args.geometry) in
+    let n = D.page_count c.args.disk in
+    let image = seen (D.state c.args.disk) in
     let test = c.in-Ok-false in
-    let listed = subst (λ (l : List Pair). Contains l x) (sym (c.deref.ensures.value ∙ c.in-Ok.ensures.pairs)) has in
-    absurd (free (D.page_count c.args.disk) (seen (D.state c.args.disk)) (store_version (Some c.args.geometry)) c.deref.result.now test.field-0 test.field-0-test (test.ensures.taken h) (inr (x, listed, whole)))
+    absurd (free n image V c.deref.result.now test.field-0 test.field-0-test (test.ensures.taken h) (subst (λ (l : List Pair). IsTaken n image V l) (sym (c.deref.ensures.value ∙ c.in-Ok.ensures.pairs)) taken))
+
+pub new-requires-clause-fits : goal.new-requires-clause-fits
+new-requires-clause-fits g c = λ h.
+    let D = g.D.PageDisk in
+    let disk = c.args.disk in
+    let mid = c.is_taken.new.disk in
+    let reads = c.is_taken.ensures.disk in
+    let old = reads.honesty.1 h in
+    let n = D.page_count disk in
+    let d = c.args.geometry in
+    let pairs = c.in-Ok.pairs.items in
+    let V = store_version (Some d) in
+    let test = c.in-Ok-false in
+    let counted : n ≡ device_pages d.format d.extents d.pages d.sections = search rules in
+    let size = length-applied (D.state disk).durable (D.state disk).volatile ∙ g.met.D.PageDisk.sized disk old in
+    let fits : IsOfStore (Some d) pairs n (seen (D.state disk)) =
+    free_fits d pairs n (seen (D.state disk)) test.field-0 (omega (arith, counted)) size (c.in-Ok.ensures.are n (sym counted)) c.in-Ok.ensures.pairs (sym counted) test.field-0-test
+    (subst (λ (l : List Pair). IsTrue test.field-0 ↔ IsTaken n (seen (D.state disk)) V l) c.deref.ensures.value (test.ensures.taken old)) in
+    subst (λ m. IsOfStore (Some d) pairs m (seen (D.state mid))) (sym reads.pages) (subst (λ (s : State). IsOfStore (Some d) pairs n (seen s)) (sym (reads.same old)) fits)

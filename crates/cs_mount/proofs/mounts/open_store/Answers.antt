@@ -1,15 +1,19 @@
-use Rattle.std.proofs.Common.{ap, subst, sym, ◌∙◌, ◌⊎◌}
+use Rattle.std.proofs.Common.{ap, subst, sym, ⊎_elim, ◌∙◌, ◌≡◌, ◌⊎◌}
 use Rattle.cs_chunk.specs.Reads.{IsNoAnswer}
 use Rattle.cs_core.specs.Openings.{IsWhyNotOpened}
-use Rattle.cs_disk.specs.Disk.{Image, flushed, page, seen}
+use Rattle.cs_disk.specs.Disk.{Image, State, flushed, page, seen}
 use Rattle.cs_frame.specs.Formats.{formats_of}
 use Rattle.cs_frame.specs.Geometries.{section_size}
 use Rattle.cs_model.specs.Geometry.{shape_of}
 use Rattle.cs_model.specs.Recovery.{Recovers}
+use Rattle.cs_disk.proofs.Images.{length-applied}
+use Rattle.cs_pair.specs.Kept.{IsOfStore}
+use Rattle.cs_pair.specs.Pairs.{ArePairs}
 use Rattle.cs_pair.specs.Paired.{left_as_shown, moment_of, state_shown}
 use Rattle.cs_pair.specs.Showing.{shown_on}
 use Rattle.cs_pair.specs.Stores.{dimensions_on, pairs_where, store_version}
 use Rattle.cs_pair.proofs.Mounting.{shows_later}
+use Rattle.cs_mount.proofs.Refused.{refused_shows}
 use Rattle.cs_mount.proofs.Opened.{opened_by}
 use Rattle.cs_mount.proofs.mounts.open_store.Goals as goal
 
@@ -37,16 +41,35 @@ returns-in-Ok-open-clause-crash g c = λ h left past.
     shows_later moment_of left_as_shown (store_version found) (pairs_where found) (D.state disk) c.in-Ok.paired c.in-Ok-open.core.disk (D.moment disk) (state_shown c.in-Ok.paired) left
     (c.in-Ok.ensures.shown h) (c.in-Ok.ensures.crash h).later (c.in-Ok.ensures.left h) (c.in-Ok-open.ensures.crash (c.in-Ok.ensures.honest.0 h)) past
 
-pub returns-in-Ok-clause-recovers : goal.returns-in-Ok-clause-recovers
-returns-in-Ok-clause-recovers g c = λ h format extents pages sections geometry sized n m recovers.
+pub returns-in-Err-open-clause-recovers : goal.returns-in-Err-open-clause-recovers
+returns-in-Err-open-clause-recovers g c = λ h format extents pages sections geometry sized n m recovers.
     let S = shape_of extents pages sections (section_size extents sections) format in
     c.in-Err-open.ensures.recovers (c.in-Ok.ensures.honest.0 h) format extents pages sections geometry (c.in-Ok.ensures.pages ∙ sized) n m
     (subst (λ (image : Image). Recovers S (formats_of S) (page image) n m) (sym (ap seen (c.in-Ok.ensures.shown h))) recovers)
 
-pub returns-in-Ok-clause-refusals : goal.returns-in-Ok-clause-refusals
-returns-in-Ok-clause-refusals g c = λ h.
+pub returns-in-Err-open-clause-refusals : goal.returns-in-Err-open-clause-refusals
+returns-in-Err-open-clause-refusals g c = λ h.
     let D = g.D.PageDisk in
     let disk = c.args.disk in
     let r = c.in-Err-open.refusal in
     subst (λ n. IsNoAnswer r ⊎ IsWhyNotOpened n (page (shown_on (D.page_count disk) (seen (D.state disk)))) r) c.in-Ok.ensures.pages
     (subst (λ (image : Image). IsNoAnswer r ⊎ IsWhyNotOpened (D.page_count c.in-Ok.paired.disk) (page image) r) (ap seen (c.in-Ok.ensures.shown h)) (c.in-Err-open.ensures.refusals (c.in-Ok.ensures.honest.0 h)))
+
+pub returns-in-Err-open-clause-kept : goal.returns-in-Err-open-clause-kept
+returns-in-Err-open-clause-kept g c = λ h some.
+    let D = g.D.PageDisk in
+    let disk = c.args.disk in
+    let n = D.page_count disk in
+    let p = c.in-Ok.paired in
+    let q = c.in-Err-open.paired in
+    let mid = c.in-Ok.ensures.honest.0 h in
+    let size = length-applied (D.state disk).durable (D.state disk).volatile ∙ g.met.D.PageDisk.sized disk h in
+    let fits = subst (λ m. ∥ IsOfStore q.rules.geometry q.pairs.items m (D.state q.disk).durable ∥₁) (c.in-Err-open.ensures.pages ∙ c.in-Ok.ensures.pages) (q.fit (c.in-Err-open.ensures.honest.0 mid)).durable in
+    let shows = refused_shows n (seen (D.state disk)) p.pairs.items size (subst (λ m. ArePairs p.pairs.items m) c.in-Ok.ensures.pages p.apart) (c.in-Ok.ensures.pairs h) q.rules.geometry q.pairs.items (D.state q.disk) (state_shown p) fits
+    (c.in-Ok.ensures.shown h) (c.in-Err-open.ensures.kept mid) some in
+    subst (λ (below : _). shown_on n (seen (D.state below)) ≡ shown_on n (seen (D.state disk))) (sym c.into_disk.ensures) shows
+
+pub returns-in-Err-clause-kept : goal.returns-in-Err-clause-kept
+returns-in-Err-clause-kept g c = λ h some.
+    let D = g.D.PageDisk in
+    ⊎_elim (λ same. ap (λ (s : State). shown_on (D.page_count c.args.disk) (seen s)) same) (λ flush. ap (λ (s : State). shown_on (D.page_count c.args.disk) (seen s)) flush) (c.in-Err.ensures.state h)

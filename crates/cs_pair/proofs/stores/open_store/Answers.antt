@@ -1,17 +1,33 @@
-use Rattle.std.proofs.Common.{◌≡◌, ◌∙◌, [], ap, subst, sym}
+use Rattle.std.proofs.Common.{◌≡◌, ◌∙◌, [], ap, length, subst, sym}
 use Rattle.cs_disk.specs.Disk.{Image, LeavesOnly, MayLeave, State, flushed, seen}
 use Rattle.cs_pair.specs.declared.stores.StoreRules.{StoreRules}
+use Rattle.cs_pair.specs.Kept.{IsOfStore}
 use Rattle.cs_pair.specs.Paired.{disk_below, left_as_shown, pairs_of, rules_of, state_shown}
 use Rattle.cs_pair.specs.Pairs.{ArePairs, shown}
 use Rattle.cs_pair.specs.Showing.{ShowsOn, shown_on}
-use Rattle.cs_pair.specs.Stores.{store_version}
+use Rattle.cs_pair.specs.Stores.{dimensions_on, store_version}
+use Rattle.cs_disk.proofs.Images.{length-applied}
+use Rattle.cs_pair.proofs.Keeping.{opened_of_store}
 use Rattle.cs_pair.proofs.Mounting.{left_behind, ok_of, ok_three, shown_as_on, shown_behind, shows_as_on}
 use Rattle.cs_pair.proofs.Opening.{leaves_behind, match_weaker, reads_alone}
 use Rattle.cs_pair.proofs.stores.open_store.Goals as goal
 
-pub open-requires : goal.open-requires
-open-requires g c =
+pub open-requires-clause-pairs : goal.open-requires-clause-pairs
+open-requires-clause-pairs g c =
     subst (λ n. ArePairs c.in-Ok-pairs.pairs.items n) (sym c.find_geometry.ensures.disk.pages) (c.in-Ok-pairs.ensures.are (g.D.PageDisk.page_count c.args.disk) c.in-Ok.ensures.pages)
+
+pub open-requires-clause-fits : goal.open-requires-clause-fits
+open-requires-clause-fits g c = λ h.
+    let D = g.D.PageDisk in
+    let disk = c.args.disk in
+    let mid = c.find_geometry.new.disk in
+    let reads = c.find_geometry.ensures.disk in
+    let old = reads.honesty.1 h in
+    let size = ap (λ (z : State). length (seen z)) (reads.same old) ∙ length-applied (D.state disk).durable (D.state disk).volatile ∙ g.met.D.PageDisk.sized disk old in
+    let here : IsOfStore c.in-Ok.geometry c.in-Ok-pairs.pairs.items (D.page_count disk) (seen (D.state mid)) =
+    opened_of_store c.in-Ok.geometry c.in-Ok-pairs.pairs.items (D.page_count disk) (seen (D.state mid)) c.requires size (c.in-Ok-pairs.ensures.are (D.page_count disk) c.in-Ok.ensures.pages)
+    (c.in-Ok.ensures.found old ∙ ap (λ (z : State). dimensions_on (D.page_count disk) (seen z)) (sym (reads.same old))) c.in-Ok-pairs.ensures.pairs c.in-Ok.ensures.pages in
+    subst (λ n. IsOfStore c.in-Ok.geometry c.in-Ok-pairs.pairs.items n (seen (D.state mid))) (sym reads.pages) here
 
 pub returns-in-Ok-pairs-clause-crash : goal.returns-in-Ok-pairs-clause-crash
 returns-in-Ok-pairs-clause-crash g c = λ h.

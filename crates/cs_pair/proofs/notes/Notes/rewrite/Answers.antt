@@ -1,4 +1,5 @@
 use Rattle.std.proofs.Common.{false, refl, sym, true, ◌∙◌}
+use Rattle.cs_pair.proofs.Fits.{fit_doubted, fit_mended}
 use Rattle.cs_pair.proofs.Holding.{inside_at}
 use Rattle.cs_pair.proofs.Mending.{damaged_there, doubted_there, leaves_there, mended_there, of_some, shown_either, shown_there, stays_there, whole_there}
 use Rattle.cs_pair.proofs.notes.Notes.rewrite.Goals as goal
@@ -69,3 +70,15 @@ pub returns-in-Ok-None-clause-mended : goal.returns-in-Ok-None-clause-mended
 returns-in-Ok-None-clause-mended g c = λ h.
     stays_there (g.R.PageRules.version c.args.rules.now) c.args.pairs.now (g.D.PageDisk.state c.args.disk.now) (g.D.PageDisk.state c.read_damaged.new.disk) c.args.k (record { page = 0; twin = 0 })
     c.requires.inside (c.read_damaged.ensures.disk.same h) (c.requires.settled h) (sym c.in-Ok-None.field-0-is ∙ c.in-Ok-None.ensures.damaged h)
+
+pub returns-in-Ok-clause-fit : goal.returns-in-Ok-clause-fit
+returns-in-Ok-clause-fit g c = λ h fit.
+    fit_mended g.R.PageRules c.args.rules.now c.args.pairs.now (g.D.PageDisk.page_count c.args.disk.now) (g.D.PageDisk.state c.args.disk.now) (g.D.PageDisk.state c.read_damaged.new.disk) c.args.k c.in-Ok-Some.page (record { page = 0; twin = 0 }) c.read_damaged.new.buffer
+    c.requires.pairs (g.met.D.PageDisk.sized c.args.disk.now h) c.requires.inside (c.read_damaged.ensures.disk.same h) (c.requires.settled h) (sym c.in-Ok-Some.field-0-is ∙ c.in-Ok-Some.ensures.damaged h) (of_some c.in-Ok-Some.field-0 c.in-Ok-Some.page _ c.in-Ok-Some.field-0-is (c.in-Ok-Some.ensures.bytes h)) fit
+    c.keep.ensures.left _ (c.in-Ok.ensures.ok (c.read_damaged.ensures.disk.honesty.0 h))
+
+pub returns-in-Err-write_through-clause-fit : goal.returns-in-Err-write_through-clause-fit
+returns-in-Err-write_through-clause-fit g c = λ h fit.
+    fit_doubted g.R.PageRules c.args.rules.now c.args.pairs.now (g.D.PageDisk.page_count c.args.disk.now) (g.D.PageDisk.state c.args.disk.now) (g.D.PageDisk.state c.read_damaged.new.disk) c.args.k c.in-Ok-Some.page (record { page = 0; twin = 0 }) c.read_damaged.new.buffer
+    c.requires.pairs (g.met.D.PageDisk.sized c.args.disk.now h) c.requires.inside (c.read_damaged.ensures.disk.same h) (c.requires.settled h) (sym c.in-Ok-Some.field-0-is ∙ c.in-Ok-Some.ensures.damaged h) (of_some c.in-Ok-Some.field-0 c.in-Ok-Some.page _ c.in-Ok-Some.field-0-is (c.in-Ok-Some.ensures.bytes h)) fit
+    _ (c.in-Err-write_through.ensures.err (c.read_damaged.ensures.disk.honesty.0 h))

@@ -1,3 +1,4 @@
+use Rattle.cs_pair.proofs.Fits.{goes_below}
 use Rattle.cs_pair.proofs.Writing.{shows_either, shows_ok}
 use Rattle.cs_pair.proofs.notes.Notes.write_newer.Goals as goal
 
@@ -10,3 +11,7 @@ pub returns-in-Ok-clause-fault : goal.returns-in-Ok-clause-fault
 returns-in-Ok-clause-fault g c = λ h x at.
     shows_either (g.R.PageRules.version c.args.rules.now) c.args.pairs.now (g.D.PageDisk.page_count c.args.disk.now) (g.D.PageDisk.state c.args.disk.now) (g.D.PageDisk.state c.refresh.new.disk) (g.D.PageDisk.state c.write_half.new.disk) c.args.k x _ c.args.bytes.now
     c.requires.pairs at (c.refresh.ensures.disk.same h) (c.write_half.ensures.fault (c.refresh.ensures.disk.honesty.0 h) x at)
+
+pub returns-in-Ok-clause-below : goal.returns-in-Ok-clause-below
+returns-in-Ok-clause-below g c = λ h x at.
+    goes_below x _ c.args.bytes.now (g.D.PageDisk.state c.args.disk.now) (g.D.PageDisk.state c.refresh.new.disk) (g.D.PageDisk.state c.write_half.new.disk) (c.refresh.ensures.disk.same h) (c.write_half.ensures.fault (c.refresh.ensures.disk.honesty.0 h) x at)

@@ -1,8 +1,9 @@
-use Rattle.std.proofs.Common.{List, ap, slice_get, subst, sym, ◌∙◌}
+use Rattle.std.proofs.Common.{List, refl, ap, slice_get, subst, sym, ◌∙◌}
 use Rattle.cs_disk.specs.Disk.{LeavesOnly, MayLeave}
 use Rattle.cs_pair.specs.declared.pairs.Pair.{Pair}
 use Rattle.cs_pair.specs.Noted.{AreNotes, AreRight}
 use Rattle.cs_pair.specs.Pairs.{ArePairs, shown, shown_state}
+use Rattle.cs_pair.proofs.Fits.{fit_call}
 use Rattle.cs_pair.proofs.Mending.{leaves_as_shown, none_left_ok}
 use Rattle.cs_pair.proofs.Over.{shows_here, whole_here}
 use Rattle.cs_pair.proofs.paired.Paired.repair.Goals as goal
@@ -18,6 +19,10 @@ invariant_of-self g c =
       apart = apart;
       noted = subst (λ (ps : List Pair). AreNotes ps c.repair.new.self) c.deref.ensures.value c.repair.ensures.notes;
       right = right;
+      fit = λ h.
+          let old = c.repair.ensures.honest.1 h in
+          let count = g.D.PageDisk.page_count c.args.self.now.disk in
+          fit_call g.R.PageRules c.args.self.now.rules pairs count _ count (g.D.PageDisk.page_count disk) (g.D.PageDisk.state c.args.self.now.disk) (g.D.PageDisk.state disk) c.deref.ensures.value refl c.repair.ensures.pages (c.repair.ensures.fit old) (c.args.self.now.fit old);
       shows = λ h. shows_here V pairs _ _ apart (g.met.D.PageDisk.sized disk h) (right h).newer;
       whole = λ h. whole_here V pairs _ _ apart (g.met.D.PageDisk.sized disk h) (right h).newer (g.met.D.PageDisk.whole disk h);
     }

@@ -1,8 +1,10 @@
-use Rattle.std.proofs.Common.{ap, subst, sym}
+use Rattle.std.proofs.Common.{◌∙◌, ap, subst, sym}
 use Rattle.cs_disk.specs.Disk.{State}
 use Rattle.cs_pair.specs.declared.notes.Notes.{Notes}
+use Rattle.cs_pair.specs.Fitting.{IsFit}
 use Rattle.cs_pair.specs.Noted.{AreNotes}
 use Rattle.cs_pair.specs.Pairs.{ArePairs}
+use Rattle.cs_pair.proofs.Fits.{fit_crashed}
 use Rattle.cs_pair.proofs.Over.{crash_shows, shows_here, whole_here}
 use Rattle.cs_pair.proofs.Right.{forgot_right}
 use Rattle.cs_pair.proofs.paired.PairedCrashDisk.crash.Goals as goal
@@ -20,6 +22,12 @@ invariant_of-result g c =
       apart = apart;
       noted = subst (λ (n : Notes). AreNotes self.pairs.items n) (sym c.forget.ensures) (record { durable = self.noted.durable; newest = self.noted.newest });
       right = right;
+      fit = λ h.
+          let old = c.crash.ensures.honest.1 h in
+          let can = c.crashable.ensures.0 c.if-not-crashable.false in
+          subst (λ n. IsFit g.R.PageRules self.rules self.pairs.items n (g.D.PageDisk.state disk)) (sym c.crash.ensures.pages)
+          (fit_crashed g.R.PageRules self.rules self.pairs.items (g.D.PageDisk.page_count self.disk) c.keep.ensures.left (g.D.PageDisk.state self.disk) (g.D.PageDisk.state disk) c.args.mask.now self.apart (g.met.D.PageDisk.sized self.disk old) (self.right old).newer
+          (c.requires ∙ g.met.D.CrashDisk.counted self.disk old can) (c.crash.ensures.state old can) (self.fit old));
       shows = λ h. shows_here V self.pairs.items _ _ apart (g.met.D.PageDisk.sized disk h) (right h).newer;
       whole = λ h. whole_here V self.pairs.items _ _ apart (g.met.D.PageDisk.sized disk h) (right h).newer (g.met.D.PageDisk.whole disk h);
     }

@@ -1,7 +1,9 @@
 use Rattle.std.proofs.Common.{List, subst, sym}
 use Rattle.cs_pair.specs.declared.pairs.Pair.{Pair}
+use Rattle.cs_pair.specs.Fitting.{IsFit}
 use Rattle.cs_pair.specs.Noted.{AreNotes, AreRight}
 use Rattle.cs_pair.specs.Pairs.{ArePairs}
+use Rattle.cs_pair.proofs.Fits.{fit_either}
 use Rattle.cs_pair.proofs.Over.{flush_ok, shows_here, whole_here}
 use Rattle.cs_pair.proofs.paired.PairedPageDisk.flush.Goals as goal
 
@@ -16,6 +18,11 @@ invariant_of-self g c =
       apart = apart;
       noted = subst (λ (ps : List Pair). AreNotes ps c.flush.new.self) c.deref.ensures.value c.flush.ensures.notes;
       right = right;
+      fit = λ h.
+          let old = c.flush.ensures.honest.1 h in
+          let self = c.args.self.now in
+          subst (λ n. IsFit g.R.PageRules self.rules pairs n (g.D.PageDisk.state disk)) (sym c.flush.ensures.pages)
+          (fit_either g.R.PageRules self.rules pairs (g.D.PageDisk.page_count self.disk) c.flush.result c.keep.ensures.left (g.D.PageDisk.state self.disk) (g.D.PageDisk.state disk) self.apart (g.met.D.PageDisk.sized self.disk old) (self.right old).newer (c.flush.ensures.ok old) (c.flush.ensures.err old) (self.fit old));
       shows = λ h. shows_here V pairs _ _ apart (g.met.D.PageDisk.sized disk h) (right h).newer;
       whole = λ h. whole_here V pairs _ _ apart (g.met.D.PageDisk.sized disk h) (right h).newer (g.met.D.PageDisk.whole disk h);
     }

@@ -1,9 +1,11 @@
-use Rattle.std.proofs.Common.{◌∙◌, List, subst, sym}
+use Rattle.std.proofs.Common.{◌∙◌, List, ap, slice_get, subst, sym}
 use Rattle.std.proofs.lemmas.Option.{slice_get_within}
 use Rattle.cs_pair.specs.declared.pairs.Pair.{Pair}
 use Rattle.cs_pair.specs.declared.places.Place.TheVariants.{OfPair, Own}
+use Rattle.cs_pair.specs.Fitting.{IsFit}
 use Rattle.cs_pair.specs.Noted.{AreNotes, AreRight, IsPlace}
 use Rattle.cs_pair.specs.Pairs.{ArePairs}
+use Rattle.cs_pair.proofs.Fits.{fit_below, fit_own}
 use Rattle.cs_pair.proofs.Over.{own_either, own_ok, pair_either, shows_here, time_here, whole_here}
 use Rattle.cs_pair.proofs.Right.{own_right, still_noted, still_right}
 use Rattle.cs_pair.proofs.paired.PairedPageDisk.write.Goals as goal
@@ -27,8 +29,24 @@ invariant_of-self g c =
       apart = apart;
       noted = self.noted;
       right = right;
+      fit = λ h.
+          let old = c.write.ensures.honest.1 h in
+          subst (λ n. IsFit g.R.PageRules self.rules pairs n (g.D.PageDisk.state disk)) (sym c.write.ensures.pages)
+          (fit_own g.R.PageRules self.rules pairs (g.D.PageDisk.page_count self.disk) (g.D.PageDisk.state self.disk) (g.D.PageDisk.state disk) c.args.number c.args.bytes.now (sym c.allows.ensures ∙ c.if-allows.true) (c.write.ensures.fault old) (self.fit old));
       shows = λ h. shows_here V pairs _ _ apart (g.met.D.PageDisk.sized disk h) (right h).newer;
       whole = λ h. whole_here V pairs _ _ apart (g.met.D.PageDisk.sized disk h) (right h).newer (g.met.D.PageDisk.whole disk h);
+    }
+
+pub invariant_of-self-else-allows : goal.invariant_of-self-else-allows
+invariant_of-self-else-allows g c =
+    let self = c.args.self.now in
+    record {
+      apart = self.apart;
+      noted = still_noted self.pairs.items self.notes c.refuse.new.self _ c.refuse.ensures.notes self.noted;
+      right = λ h. still_right (g.R.PageRules.version self.rules) self.pairs.items self.notes _ _ _ c.refuse.ensures.notes (self.right h);
+      fit = self.fit;
+      shows = self.shows;
+      whole = self.whole;
     }
 
 pub invariant_of-self-in-OfTwin : goal.invariant_of-self-in-OfTwin
@@ -36,8 +54,9 @@ invariant_of-self-in-OfTwin g c =
     let self = c.args.self.now in
     record {
       apart = self.apart;
-      noted = still_noted self.pairs.items self.notes c.refuse.new.self _ c.refuse.ensures.notes self.noted;
-      right = λ h. still_right (g.R.PageRules.version self.rules) self.pairs.items self.notes _ _ _ c.refuse.ensures.notes (self.right h);
+      noted = still_noted self.pairs.items self.notes c.refuse-in-OfTwin.new.self _ c.refuse-in-OfTwin.ensures.notes self.noted;
+      right = λ h. still_right (g.R.PageRules.version self.rules) self.pairs.items self.notes _ _ _ c.refuse-in-OfTwin.ensures.notes (self.right h);
+      fit = self.fit;
       shows = self.shows;
       whole = self.whole;
     }
@@ -53,22 +72,28 @@ invariant_of-self-in-OfPair g c =
       apart = apart;
       noted = subst (λ (ps : List Pair). AreNotes ps c.write_newer.new.self) c.deref-in-OfPair.ensures.value c.write_newer.ensures.notes;
       right = right;
+      fit = λ h.
+          let old = c.write_newer.ensures.honest.1 h in
+          let self = c.args.self.now in
+          let there = subst (λ (ps : List Pair). IsPlace ps c.args.number (OfPair c.in-OfPair.k)) (c.deref.ensures.value ∙ sym c.deref-in-OfPair.ensures.value) c.in-OfPair.ensures in
+          subst (λ n. IsFit g.R.PageRules self.rules pairs n (g.D.PageDisk.state disk)) (sym c.write_newer.ensures.pages)
+          (fit_below g.R.PageRules self.rules pairs (g.D.PageDisk.page_count self.disk) (g.D.PageDisk.state self.disk) (g.D.PageDisk.state disk) c.in-OfPair.k there.0 c.args.bytes.now (ap (λ (ps : List Pair). slice_get ps c.in-OfPair.k) (sym c.deref-in-OfPair.ensures.value) ∙ there.1) (c.write_newer.ensures.below old there.0 there.1) (self.fit old));
       shows = λ h. shows_here V pairs _ _ apart (g.met.D.PageDisk.sized disk h) (right h).newer;
       whole = λ h. whole_here V pairs _ _ apart (g.met.D.PageDisk.sized disk h) (right h).newer (g.met.D.PageDisk.whole disk h);
     }
 
-pub returns-in-Own-clause-ok : goal.returns-in-Own-clause-ok
-returns-in-Own-clause-ok g c = λ h.
+pub returns-then-allows-clause-ok : goal.returns-then-allows-clause-ok
+returns-then-allows-clause-ok g c = λ h.
     let own = subst (λ (ps : List Pair). IsPlace ps c.args.number Own) c.deref.ensures.value c.in-Own.ensures in
     own_ok (g.R.PageRules.version c.args.self.now.rules) c.args.self.now.pairs.items (g.D.PageDisk.state c.args.self.now.disk) _ c.args.number c.args.bytes.now own c.write.result (c.write.ensures.ok h)
 
-pub returns-in-Own-clause-fault : goal.returns-in-Own-clause-fault
-returns-in-Own-clause-fault g c = λ h.
+pub returns-then-allows-clause-fault : goal.returns-then-allows-clause-fault
+returns-then-allows-clause-fault g c = λ h.
     let own = subst (λ (ps : List Pair). IsPlace ps c.args.number Own) c.deref.ensures.value c.in-Own.ensures in
     own_either (g.R.PageRules.version c.args.self.now.rules) c.args.self.now.pairs.items (g.D.PageDisk.state c.args.self.now.disk) _ c.args.number c.args.bytes.now own (c.write.ensures.fault h)
 
-pub returns-in-Own-clause-time : goal.returns-in-Own-clause-time
-returns-in-Own-clause-time g c = λ h.
+pub returns-then-allows-clause-time : goal.returns-then-allows-clause-time
+returns-then-allows-clause-time g c = λ h.
     let self = c.args.self.now in
     let disk = c.write.new.self in
     let own = subst (λ (ps : List Pair). IsPlace ps c.args.number Own) c.deref.ensures.value c.in-Own.ensures in
