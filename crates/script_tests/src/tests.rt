@@ -1,10 +1,17 @@
-//! What scripts and documents print and leave behind, by worked rows.
+//! What scripts and documents print and leave behind, and what is opened on that, by worked rows.
 mod cuts;
+mod damage;
 mod documents;
+mod failures;
 mod files;
 mod histories;
+mod images;
+mod migrations;
+mod moments;
+mod mounts;
 mod plans;
 mod puts;
+mod stops;
 mod streams;
 
 use cs_core::{Core, Limits};
@@ -44,11 +51,14 @@ struct Ended {
     left: Option<Counts>,
 }
 
-/// How many commands the store accepted, and how many of these are persistent.
+/// How many commands the store found when it was opened, how many it accepted since and how many of these are persistent, and how many
+/// writes are volatile.
 #[derive(Clone, Copy)]
 struct Counts {
+    found: u64,
     accepted: u64,
     persistent: u64,
+    volatile: usize,
 }
 
 /// Runs a script on a core, which is let go here alone: whatever a function has is proved to be let go at each of its exits.
@@ -67,8 +77,10 @@ fn counts_of<D: CrashDisk>(ran: &Ran<D>) -> Option<Counts> {
         return None;
     };
     Some(Counts {
+        found: core.opened().0,
         accepted: core.accepted(),
         persistent: core.frontier(),
+        volatile: core.disk().volatile(),
     })
 }
 
@@ -89,6 +101,16 @@ fn run_on(rt: &(impl Abort + AllocGlobal), extents: u64, text: &str) -> Result<E
     Ok(end_of(rt.alloc(), core, text))
 }
 
+/// The same for a new store of 6 extents of 2 pages whose superblock has so many sections.
+fn run_on_sections(
+    rt: &(impl Abort + AllocGlobal),
+    sections: u64,
+    text: &str,
+) -> Result<Ended, Fail> {
+    let core = new_core_of(rt, Geometry::with_sections(6, 2, sections)?, 1000)?;
+    Ok(end_of(rt.alloc(), core, text))
+}
+
 /// The core that a script's text leaves behind.
 fn core_after<D: CrashDisk + Drop>(
     rt: &(impl Abort + AllocGlobal),
@@ -102,11 +124,29 @@ fn core_after<D: CrashDisk + Drop>(
     }
 }
 
+/// The disk that a script leaves of a new store with so many extents of 2 pages.
+fn disk_after(
+    rt: &(impl Abort + AllocGlobal),
+    extents: u64,
+    text: &str,
+) -> Result<MemoryDisk, Fail> {
+    let core = new_core(rt, extents)?;
+    Ok(core_after(rt, core, text).into_disk())
+}
+
 impl Ended {
     /// Asserts what was printed, and the exit status.
     fn printed(&self, rt: &impl Abort, wanted: &str, status: u8, script: &str) {
         assert_eq!(rt; self.output.as_slice(), wanted.as_bytes(), "{script}");
         assert_eq!(rt; self.status, status, "{script}");
+    }
+
+    /// Asserts how what was printed ends.
+    fn printed_last(&self, rt: &impl Abort, wanted: &str, script: &str) {
+        assert!(rt;
+            self.output.as_slice().ends_with(wanted.as_bytes()),
+            "{script}"
+        );
     }
 
     /// The counts of the core that is left.

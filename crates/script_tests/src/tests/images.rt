@@ -82,7 +82,7 @@ fn pages_of_sections(rt: HostRuntime) -> Result<(), Fail> {
         rt.alloc(),
         "put @a 61 / put @b 62 / put @c 63 / put @d 64 / put @e 65 / put @f 66 / put @0 67 / sync",
     )?;
-    let core = new_core_of(&rt, Geometry::with_sections(6, 2, 2)?)?;
+    let core = new_core_of(&rt, Geometry::with_sections(6, 2, 2)?, 1000)?;
     let disk = core_after(&rt, core, &text).into_disk();
     assert_eq!(rt; disk.image().len(), 15 * 4096);
     for (from, bytes) in SECTIONS {

@@ -1,5 +1,5 @@
 //! A crash at each moment of a script, with each mask, over superblocks of one section and of several.
-use super::{run_on, script_text};
+use super::{run_on_sections, script_text};
 use std::alloc::Global;
 use std::process::Abort;
 use std::test::Fail;
@@ -77,7 +77,7 @@ fn crashes(
     let alloc = rt.alloc();
     let end = script_text(alloc, "get @a / get @b / get @c")?;
     let text = format!(in alloc; "{lines}crash {mask}\n{end}")?;
-    let ended = run_on(rt, sections, &text)?;
+    let ended = run_on_sections(rt, sections, &text)?;
     let commands = ended.counts(rt).found;
     assert!(rt; acknowledged <= commands, "{text}");
     assert!(rt; commands <= accepted, "{text}");
@@ -96,7 +96,7 @@ fn crashes_with_each_mask(
     lines: &str,
 ) -> Result<u64, Fail> {
     let alloc = rt.alloc();
-    let counts = run_on(rt, sections, lines)?.counts(rt);
+    let counts = run_on_sections(rt, sections, lines)?.counts(rt);
     assert!(rt; counts.volatile < 12);
     let masks = 1 << counts.volatile as u64;
     for number in 0..masks {
@@ -125,7 +125,10 @@ fn crashes_at_each_moment(rt: &(impl Abort + AllocGlobal), sections: u64) -> Res
         most = most.max(crashes_with_each_mask(rt, sections, &lines)?);
     }
     // All was made persistent at the end, and rounds of several members were out before.
-    assert_eq!(rt; run_on(rt, sections, &lines)?.counts(rt).persistent, 6);
+    assert_eq!(rt;
+        run_on_sections(rt, sections, &lines)?.counts(rt).persistent,
+        6
+    );
     assert!(rt; most >= 16);
     Ok(())
 }

@@ -1,5 +1,5 @@
 use Rattle.cs_node.specs.Starts.{start_of}
-use Rattle.race_tests.proofs.tests.racers_run_one_after_another.Given as goal
+use Rattle.program_tests.proofs.tests.races.racers_run_one_after_another.Given as goal
 
 -- the board that was just made, and the start of the core behind it
 abbrev pub ghosts-one_after_another : goal.ghosts-one_after_another

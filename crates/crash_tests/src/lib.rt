@@ -1,6 +1,0 @@
-//! Tests of what scripts leave on a disk, and of what is opened on it after a crash, damage or a call that failed, by the public calls of
-//! `cs_script` and of the crates below it alone. They stand in a crate of their own because a crate that has tests is proved twice.
-#![tactic(auto)]
-
-#[cfg(test)]
-mod tests;

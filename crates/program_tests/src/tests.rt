@@ -1,0 +1,3 @@
+//! What the program does of itself.
+mod options;
+mod races;
