@@ -3,7 +3,7 @@ use Rattle.std.proofs.Common.{◌≡◌, ◌≢◌, ◌∙◌, ◌⊎◌, ℕ, B
 use Rattle.std.proofs.lemmas.Slice.Eq.{bytes_eq-Decides}
 use Rattle.cs_chunk.specs.Chunks.{AgreeInDigests, AreMeant, IsMeant, TwoAgree}
 use Rattle.cs_extent.specs.State.{State, shape}
-use Rattle.cs_frame.specs.Frames.{digest_front, payload_mark, spelled_frame}
+use Rattle.cs_frame.specs.Frames.{payload_mark, spelled_frame}
 use Rattle.cs_frame.specs.declared.locators.Locator.{Locator}
 use Rattle.cs_frame.proofs.MarkLaws.{mark_of_frame, mark_of_pages, one_front}
 use Rattle.cs_model.specs.Device.{mark_of}

@@ -1,36 +1,12 @@
 -- Reads one after another.
-use Rattle.std.proofs.Common.{◌≡◌, ◌∙◌, ◌⊎◌, ℕ, ◌+◌, ◌≤◌, List, sym, ap, subst, inl, inr, ⊎_elim, arith, ◌++◌, ◌∷◌, [], ◌<◌, get_or, length, IfErr, IfOk, Ok, Err, Result}
+use Rattle.std.proofs.Common.{◌≡◌, ◌∙◌, ◌⊎◌, ℕ, ◌+◌, ◌≤◌, List, sym, ap, subst, inl, ⊎_elim, arith, ◌++◌, ◌∷◌, [], ◌<◌, get_or, length, IfErr, IfOk, Ok, Err, Result}
 use Rattle.std.proofs.lemmas.Bool.{cases_lt}
 use Rattle.std.proofs.lemmas.List.{get_or_append_left, get_or_push, length_push}
 use Rattle.cs_chunk.specs.Newest.{IsReadAs}
-use Rattle.cs_chunk.specs.Reads.{AreReadAs, IsCaused, IsNoAnswer, IsReadRefusal, OnlyReads}
+use Rattle.cs_chunk.specs.Reads.{AreReadAs, IsCaused, IsNoAnswer, IsReadRefusal}
 use Rattle.cs_deps.specs.declared.refusals.Refusal.{Refusal}
 use Rattle.cs_deps.specs.State.{State as Graph}
-use Rattle.cs_disk.specs.declared.disk.PageDisk.{Ghosts as PageDisk}
-use Rattle.cs_disk.specs.Disk.{Image, MayLeave, State}
-
-module _ {D : Type 0} (disks : PageDisk D) where
-  -- some reads, and some more
-  pub reads_on : (a b c : D) → OnlyReads disks a b → OnlyReads disks b c → OnlyReads disks a c
-  reads_on a b c first more = record {
-    same = λ h. more.same (first.honesty.0 h) ∙ first.same h;
-    still = λ h. more.still (first.honesty.0 h) ∙ first.still h;
-    time = λ h.
-        let one = first.time h in
-        let two = more.time (first.honesty.0 h) in
-        let still = more.same (first.honesty.0 h) in
-        record {
-          later = omega (arith, one.later, two.later);
-          nothing_else = λ t i le left. ⊎_elim
-              (λ (was : disks.left_since b t i). ⊎_elim (λ (w : disks.left_since a t i). inl w) (λ (n : MayLeave (disks.state b) i). inr (subst (λ (s : State). MayLeave s i) (sym still) n)) (one.nothing_else t i le was))
-              (λ (n : MayLeave (disks.state c) i). inr n)
-              (two.nothing_else t i (omega (arith, le, one.later)) left);
-          keeps = λ t i le past. two.keeps t i (omega (arith, le, one.later)) (one.keeps t i le past);
-        };
-    honesty = ((λ h. more.honesty.0 (first.honesty.0 h)), (λ h. first.honesty.1 (more.honesty.1 h)));
-    pages = more.pages ∙ first.pages;
-    failures = omega (arith, first.failures, more.failures);
-  }
+use Rattle.cs_disk.specs.Disk.{Image}
 
 -- one page more was read
 read_more : (g : Graph) (image : Image) (first count : ℕ) (pages : List (List ℕ)) (page : List ℕ) → AreReadAs g image first count pages → IsReadAs g image (first + count) page → AreReadAs g image first (count + 1) (pages ++ page ∷ [])

@@ -1,13 +1,12 @@
 -- Reads of frames: what they leave of the disk, and how they are refused.
-use Rattle.std.specs.Prelude.{◌≡◌, ◌⊎◌, ◌+◌, ◌-◌, ◌<◌, ◌≤◌, ◌↔◌, ℕ, List, [], Option, Some, None, Result, MatchResult, IsErrOf, length, slice_get, slice_index_or, take}
+use Rattle.std.specs.Prelude.{◌≡◌, ◌⊎◌, ◌+◌, ◌-◌, ◌<◌, ◌≤◌, ℕ, List, [], Option, Some, None, Result, MatchResult, IsErrOf, length, slice_get, slice_index_or, take}
 use Rattle.cs_chunk.specs.Chunks.{AreChunksIn, end_in}
 use Rattle.cs_chunk.specs.Newest.{IsReadAs}
 use Rattle.cs_deps.specs.declared.refusals.Refusal.{Refusal}
 use Rattle.cs_deps.specs.declared.refusals.Refusal.TheVariants as refusal
 use Rattle.cs_deps.specs.Refusals.{number_of}
 use Rattle.cs_deps.specs.State.{State as Graph}
-use Rattle.cs_disk.specs.declared.disk.PageDisk.{Ghosts as PageDisk}
-use Rattle.cs_disk.specs.Disk.{GoesOn, Image, Rises}
+use Rattle.cs_disk.specs.Disk.{Image, Rises}
 use Rattle.cs_extent.specs.State.{State, shape}
 use Rattle.cs_frame.specs.declared.faults.FormatFault.{FormatFault}
 use Rattle.cs_frame.specs.declared.faults.FormatFault.TheVariants as fault
@@ -72,16 +71,6 @@ pub record AreReadAs (g : Graph) (image : Image) (first count : ℕ) (pages : Li
 pub record IsCaused {T : Type 0} (before now : ℕ) (result : Result T Refusal) : Type 0 where
   pub later : before ≤ now
   pub failed : IsErrOf result refusal.DeviceFault → Rises before now
-
--- The disk is as reads leave it: an honest one holds what it held, no write and no flush counts, and a crash meanwhile leaves nothing
--- that it mightn't have left before; its size and its honesty stay, and its count of failures doesn't fall.
-pub record OnlyReads {D : Type 0} (disks : PageDisk D) (old new : D) : Type 0 where
-  pub same : disks.honest old → disks.state new ≡ disks.state old
-  pub still : disks.honest old → disks.moment new ≡ disks.moment old
-  pub time : GoesOn disks.honest disks.state disks.moment disks.left_since old new
-  pub honesty : disks.honest old ↔ disks.honest new
-  pub pages : disks.page_count new ≡ disks.page_count old
-  pub failures : disks.failure_count old ≤ disks.failure_count new
 
 -- The chunks before place k are there, and the refusal is that of the fault at k; or the device or memory refused.
 abbrev pub IsOfChunkIn : State → (view : ℕ → List ℕ) → List Locator → Refusal → Type 0

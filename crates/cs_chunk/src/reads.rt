@@ -3,10 +3,11 @@ ghost use Rattle.std.specs.Prelude.{◌≡◌, ◌⊎◌, ◌+◌, ◌*◌, ◌-
 ghost use Rattle.cs_chunk.specs.Chunks.{IsFrameIn, IsMeant, end_in, kind_of};
 ghost use Rattle.cs_chunk.specs.Lengths.{IsHeaderRefusal, IsOfFaultOrMark, header_fault_in, length_at};
 ghost use Rattle.cs_chunk.specs.Newest.{AreNewest, IsReadAs};
-ghost use Rattle.cs_chunk.specs.Reads.{AnswersFault, AreReadAs, IsCaused, IsFrameFront, IsFrameRefusal, IsNoAnswer, IsOfFault, IsReadRefusal, OnlyReads, fault_in, pages_in};
+ghost use Rattle.cs_chunk.specs.Reads.{AnswersFault, AreReadAs, IsCaused, IsFrameFront, IsFrameRefusal, IsNoAnswer, IsOfFault, IsReadRefusal, fault_in, pages_in};
 ghost use Rattle.cs_deps.specs.Refusals.{number_of};
 ghost use Rattle.cs_deps.specs.State.{NoneOn};
 ghost use Rattle.cs_disk.specs.Disk.{seen};
+ghost use Rattle.cs_disk.specs.Reads.{OnlyReads};
 ghost use Rattle.cs_extent.specs.State.{IsWhole, shape};
 ghost use Rattle.cs_frame.specs.Formats.{formats_of};
 ghost use Rattle.cs_frame.specs.Frames.{SpellsFrame, kind_byte, meant_fault, page_count};

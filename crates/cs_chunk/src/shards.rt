@@ -3,8 +3,9 @@ ghost use Rattle.std.specs.Prelude.{All, ◌≡◌, ◌+◌, ◌*◌, ◌<◌, �
 ghost use Rattle.cs_chunk.specs.Chunks.{AreChunksIn, AreMeant};
 ghost use Rattle.cs_chunk.specs.Lengths.{AreHeadersIn, IsHeaderRefusal, IsOfHeaderIn, lengths_at};
 ghost use Rattle.cs_chunk.specs.Newest.{AreNewest};
-ghost use Rattle.cs_chunk.specs.Reads.{IsCaused, IsNoAnswer, IsOfChunkIn, IsReadRefusal, OnlyReads};
+ghost use Rattle.cs_chunk.specs.Reads.{IsCaused, IsNoAnswer, IsOfChunkIn, IsReadRefusal};
 ghost use Rattle.cs_disk.specs.Disk.{seen};
+ghost use Rattle.cs_disk.specs.Reads.{OnlyReads};
 ghost use Rattle.cs_extent.specs.State.{shape};
 ghost use Rattle.cs_frame.specs.Formats.{formats_of};
 ghost use Rattle.cs_model.specs.Index.{joined_bodies};

@@ -137,7 +137,7 @@ fn rescue_in_file<R: AllocGlobal + Files<File = File> + Eprint>(
             warn_of_rescue(rt, rescue.version(), rescue.root_lost(), rescue.damaged());
             Ok(rescue)
         }
-        Err(refusal) => Err(refusal),
+        Err((refusal, _)) => Err(refusal),
     }
 }
 

@@ -3,9 +3,9 @@ use Rattle.std.proofs.Common.{◌≡◌, ◌≢◌, ◌⊎◌, inl, inr, ℕ, Bo
 use Rattle.std.specs.Prelude.{◌↔◌, IsTrue, MatchBool, Option, Result, Vec}
 use Rattle.std.specs.declared.alloc.Global.{Global}
 use Rattle.cs_chunk.specs.Newest.{AreNewest, IsReadAs}
-use Rattle.cs_chunk.specs.Reads.{OnlyReads}
 use Rattle.cs_deps.specs.declared.refusals.Refusal.{Refusal as Code}
 use Rattle.cs_deps.specs.State.{State as GraphState}
+use Rattle.cs_disk.specs.Reads.{OnlyReads}
 use Rattle.cs_disk.specs.declared.disk.PageDisk.{Ghosts as PageDisk}
 use Rattle.cs_disk.specs.Disk.{Image, Leaves, LeavesOnly, MayLeave, State as DiskState}
 use Rattle.cs_extent.specs.State.{IsWhole, shape}

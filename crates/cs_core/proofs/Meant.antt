@@ -1,5 +1,5 @@
 -- What the places of an identifier mean is what the map has.
-use Rattle.std.proofs.Common.{◌≡◌, ◌≢◌, ◌⊎◌, inl, inr, ⊎_elim, ◌∙◌, ℕ, true, List, [], ◌∷◌, ◌++◌, Some, map, sym, ap}
+use Rattle.std.proofs.Common.{◌≡◌, inl, inr, ◌∙◌, ℕ, true, List, [], ◌∷◌, ◌++◌, Some, map, ap}
 use Rattle.cs_core.proofs.TwoTexts.{same_or_two}
 use Rattle.cs_chunk.specs.Chunks.{AreMeant}
 use Rattle.cs_extent.specs.State.{State as ExtentsState, shape}

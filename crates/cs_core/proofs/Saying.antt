@@ -1,5 +1,5 @@
 -- What was put since a core was opened is what its places mean, whatever was done meanwhile.
-use Rattle.std.proofs.Common.{◌≡◌, ◌≢◌, ◌⊎◌, inl, inr, ⊎_elim, ◌∙◌, ℕ, ◌==◌, Bool, true, eq-eqb, ne_eqb, List, [], ◌∷◌, ◌++◌, None, Some, Ok, Err, map, refl, sym, ap, subst}
+use Rattle.std.proofs.Common.{◌≡◌, ◌⊎◌, inl, inr, ◌∙◌, ℕ, ◌==◌, Bool, true, eq-eqb, ne_eqb, List, [], ◌∷◌, ◌++◌, None, Some, Ok, Err, map, refl, sym, ap, subst}
 use Rattle.std.proofs.lemmas.Bool.{cases_eq, cond-false, cond-true}
 use Rattle.std.specs.Prelude.{OnOk, Option, Result}
 use Rattle.cs_core.proofs.TwoTexts.{same_or_two}

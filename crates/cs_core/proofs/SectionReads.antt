@@ -4,10 +4,9 @@ use Rattle.std.specs.Prelude.{option_map, slice_get, slice_index}
 use Rattle.std.proofs.lemmas.Bool.{cases_eq}
 use Rattle.std.proofs.lemmas.List.{drop-drop, drop_at, length-map, take_at}
 use Rattle.std.proofs.lemmas.Option.{get_or_from_slice_get, same_Some, slice_get-map, slice_get_within}
-use Rattle.cs_chunk.specs.Reads.{IsNoAnswer, IsOfFault, OnlyReads}
+use Rattle.cs_chunk.specs.Reads.{IsNoAnswer, IsOfFault}
 use Rattle.cs_deps.specs.declared.refusals.Refusal.{Refusal}
 use Rattle.cs_deps.specs.declared.refusals.Refusal.TheVariants.{NotAStore}
-use Rattle.cs_disk.specs.declared.disk.PageDisk.{Ghosts as PageDisk}
 use Rattle.cs_extent.proofs.Sections.{geometry_is, rows_are_all}
 use Rattle.cs_extent.specs.Sections.{AreSections, IsSectionAt, count_of, format_of, pages_of, rows_of}
 use Rattle.cs_frame.proofs.FirstFormatLaws.{page_zero_fits}
@@ -94,17 +93,6 @@ pub damaged_further : (format extents pages sections section : ℕ) (bytes : Lis
 damaged_further format extents pages sections section bytes r why = ⊎_elim (λ n. inl n) (λ f. inr (inl f)) why
 
 -- ---- one after another
-
--- nothing was read yet
-pub reads_none : {D : Type 0} (disks : PageDisk D) (disk : D) → OnlyReads disks disk disk
-reads_none disks disk = record {
-  same = λ h. refl;
-  still = λ h. refl;
-  time = λ h. record { later = omega arith; nothing_else = λ t i le left. inl left; keeps = λ t i le past. past };
-  honesty = ((λ h. h), (λ h. h));
-  pages = refl;
-  failures = omega arith;
-}
 
 -- where section j is
 abbrev pub page_of : (extents pages sections j : ℕ) → ℕ

@@ -1,6 +1,7 @@
 //! Moves of chunks off an extent that is being swept.
 ghost use Rattle.std.specs.Prelude.{◌≡◌, ◌⊎◌, IfErr, None, OnErr, OnOk, false, true};
-ghost use Rattle.cs_chunk.specs.Reads.{IsCaused, OnlyReads};
+ghost use Rattle.cs_chunk.specs.Reads.{IsCaused};
+ghost use Rattle.cs_disk.specs.Reads.{OnlyReads};
 ghost use Rattle.cs_extent.specs.State.{shape};
 ghost use Rattle.cs_core.specs.Puts.{MeansTheSame};
 ghost use Rattle.cs_core.specs.Reads.{MoveAnswers};

@@ -6,7 +6,7 @@
 //! n isn't below the frontier, which no acknowledged number exceeds, nor above the number of commands accepted. The clauses `crash` and
 //! `left` of `Core::apply` say that the image is such a one; `a_crash_of_a_run_leaves_a_prefix` says it of many calls in a row;
 //! `recovers` of `Core::open` says that such an image is opened so.
-ghost use Rattle.std.specs.Prelude.{IfErr, IfOk, IsOk, IsSome, IsTrue, MatchBool, MatchOption, MatchResult, None, OnErr, OnOk, Some, [], false, length, take, true, ℕ, ◌<◌, ◌^◌, ◌↔◌, ◌≡◌, ◌≢◌, ◌≤◌, ◌⊎◌};
+ghost use Rattle.std.specs.Prelude.{IfErr, IfOk, IsOk, IsSome, IsTrue, MatchBool, MatchOption, MatchResult, None, OnErr, OnOk, Some, [], false, length, take, true, ℕ, ◌+◌, ◌<◌, ◌^◌, ◌↔◌, ◌≡◌, ◌≢◌, ◌≤◌, ◌⊎◌};
 ghost use Rattle.cs_refine.specs.Crashes.{IsPrefix};
 ghost use Rattle.cs_chunk.specs.Reads.{IsNoAnswer};
 ghost use Rattle.cs_deps.specs.Named.{IsWithin};
@@ -105,7 +105,7 @@ impl<D: PageDisk> Core<D> {
         // for anything.
         ensures written { D.honest disk → MatchResult result (λ core. IsNewOn geometry.format geometry.extents geometry.pages geometry.sections (D.state disk) (D.state core.disk)) (λ refused. IsHeadWritten geometry.extents geometry.pages (D.state disk) (D.state refused.1)) }
         ensures same { D.page_count disk ≢ device_pages geometry.format geometry.extents geometry.pages geometry.sections → result ≡ Err (Refusal.NotAStore, disk) }
-        ensures pages { IfOk result (λ core. D.page_count core.disk ≡ D.page_count disk) }
+        ensures pages { MatchResult result (λ core. D.page_count core.disk ≡ D.page_count disk) (λ refused. D.page_count refused.1 ≡ D.page_count disk) }
         ensures honest { MatchResult result (λ core. D.honest disk ↔ D.honest core.disk) (λ refused. D.honest disk ↔ D.honest refused.1) }
         ensures not_a_store { IfErr result (λ refused. (refused.0 ≡ Refusal.NotAStore) ↔ (D.page_count disk ≢ device_pages geometry.format geometry.extents geometry.pages geometry.sections)) }
         ensures sized { OnOk result (D.page_count disk ≡ device_pages geometry.format geometry.extents geometry.pages geometry.sections) }
@@ -155,8 +155,11 @@ impl<D: PageDisk> Core<D> {
         // Whatever the disk answers: 1, 9, 20 to 27, or 43.
         ensures number { IfErr result (λ refused. IsOpeningRefusal refused.0) }
         ensures small { D.page_count disk < 10 → result ≡ Err (Refusal.NotAStore, disk) }
-        // Nothing but a flush is done to the disk, and a crash within leaves what one before it might have left.
+        // Nothing is written, to what the disk shows or to the device below it, and a crash within leaves what one before it might have left.
         ensures kept { IfErr result (λ refused. D.honest disk → (D.state refused.1 ≡ D.state disk) ⊎ (D.state refused.1 ≡ flushed (D.state disk))) }
+        ensures unwritten { D.honest disk → MatchResult result (λ core. D.device core.disk ≡ flushed (D.device disk)) (λ refused. (D.device refused.1 ≡ D.device disk) ⊎ (D.device refused.1 ≡ flushed (D.device disk))) }
+        // One flush, and no write; where it is refused one at most.
+        ensures calls { D.honest disk → MatchResult result (λ core. D.moment core.disk ≡ D.moment disk + 1) (λ refused. D.moment refused.1 ≤ D.moment disk + 1) }
         ensures crash { D.honest disk → MatchResult result (λ core. LeavesOnly D.moment D.left_since disk core.disk (MayLeave (D.state disk))) (λ refused. LeavesOnly D.moment D.left_since disk refused.1 (MayLeave (D.state disk))) }
         ensures honest { MatchResult result (λ core. D.honest disk ↔ D.honest core.disk) (λ refused. D.honest disk ↔ D.honest refused.1) }
         ensures pages { MatchResult result (λ core. D.page_count core.disk ≡ D.page_count disk) (λ refused. D.page_count refused.1 ≡ D.page_count disk) }

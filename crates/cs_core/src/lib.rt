@@ -45,5 +45,6 @@ pub use laws::{
     what_a_torn_crash_leaves_is_recovered, what_may_be_staged_agrees,
     what_places_mean_is_what_the_map_has, what_places_mean_is_what_was_put,
 };
-pub use runs::are_places_located;
+pub use openings::{format_of_sections, is_root_lost, pages_of_device, read_root};
+pub use runs::{are_places_located, decoded_run};
 pub use sections::{read_first, read_sections};

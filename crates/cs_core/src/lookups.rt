@@ -6,8 +6,9 @@ ghost use Rattle.std.specs.Prelude.{IfErr, IfOk, IfSome, IsTrue, List, MatchResu
 ghost use Rattle.cs_chunk.specs.Chunks.{IsFrameIn, IsMeant, kind_of};
 ghost use Rattle.cs_chunk.specs.Lengths.{IsHeaderRefusal, IsOfFaultOrMark, header_fault_in, length_at};
 ghost use Rattle.cs_chunk.specs.Newest.{AreNewest};
-ghost use Rattle.cs_chunk.specs.Reads.{AnswersFault, IsCaused, IsNoAnswer, IsReadRefusal, OnlyReads, fault_in};
+ghost use Rattle.cs_chunk.specs.Reads.{AnswersFault, IsCaused, IsNoAnswer, IsReadRefusal, fault_in};
 ghost use Rattle.cs_disk.specs.Disk.{LeavesOnly, page, seen};
+ghost use Rattle.cs_disk.specs.Reads.{OnlyReads};
 ghost use Rattle.cs_extent.specs.State.{shape};
 ghost use Rattle.cs_frame.specs.Formats.{as_locator, formats_of};
 ghost use Rattle.cs_frame.specs.Frames.{page_count};

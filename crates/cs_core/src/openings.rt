@@ -1,7 +1,8 @@
 //! Stores that are read from their disk.
 ghost use Rattle.std.specs.Prelude.{◌≡◌, ◌+◌, ◌*◌, ◌<◌, ◌≤◌, ◌⊎◌, ◌↔◌, ℕ, List, IfErr, IfOk, MatchBool, MatchResult, length, map, slice_index};
-ghost use Rattle.cs_chunk.specs.Reads.{IsCaused, IsNoAnswer, IsOfFault, OnlyReads};
+ghost use Rattle.cs_chunk.specs.Reads.{IsCaused, IsNoAnswer, IsOfFault};
 ghost use Rattle.cs_disk.specs.Disk.{LeavesOnly, MayLeave, flushed, page, seen};
+ghost use Rattle.cs_disk.specs.Reads.{OnlyReads};
 ghost use Rattle.cs_extent.specs.Sections.{AreSections, format_of, pages_of, rows_of};
 ghost use Rattle.cs_frame.specs.FirstFormat.{SpellsPageZero};
 ghost use Rattle.cs_frame.specs.Roots.{SpellsRoot, root_fault};
@@ -33,8 +34,8 @@ fn decoded_root(alloc: Global, page: &[u8; 4096], format: u8) -> Result<Root, Re
     }
 }
 
-/// Reads page 1 in this format.
-fn read_root<D: PageDisk>(alloc: Global, disk: &mut D, format: u8) -> Result<Root, Refusal>
+/// The root that page 1 spells in this format. Refused 20 to 24 by the first test that fails, 1 DeviceFault, and 9 OutOfMemory; the disk is only read.
+pub fn read_root<D: PageDisk>(alloc: Global, disk: &mut D, format: u8) -> Result<Root, Refusal>
     requires known { IsKnown format }
     requires enough { 1 < D.page_count disk.old }
     ensures read { D.honest disk.old → IfOk result (λ it. SpellsRoot (page (seen (D.state disk.old)) 1) format it.version it.commands it.runs.items) }
@@ -52,7 +53,7 @@ fn read_root<D: PageDisk>(alloc: Global, disk: &mut D, format: u8) -> Result<Roo
 }
 
 /// How many pages a device has whose superblock has this section.
-fn pages_of_device(superblock: &Superblock) -> u64
+pub fn pages_of_device(superblock: &Superblock) -> u64
     ensures { result ≡ device_pages superblock.now.format superblock.now.extent_count superblock.now.pages superblock.now.sections }
 {
     device_pages(
@@ -64,7 +65,7 @@ fn pages_of_device(superblock: &Superblock) -> u64
 }
 
 /// The format that sections of a superblock say.
-fn format_of(sections: &[Superblock]) -> u8
+pub fn format_of_sections(sections: &[Superblock]) -> u8
     requires { 0 < length sections.now }
     ensures { result ≡ format_of sections.now }
 {
@@ -72,7 +73,7 @@ fn format_of(sections: &[Superblock]) -> u8
 }
 
 /// Whether a section records a later root than one of this version.
-fn is_root_lost(sections: &[Superblock], root: u64) -> bool
+pub fn is_root_lost(sections: &[Superblock], root: u64) -> bool
     ensures { MatchBool result ((j : ℕ) × (j < length sections.now) × (root < slice_index (map (λ it. it.recorded) sections.now) j))
         (AreRecordedBy (length sections.now) (map (λ it. it.recorded) sections.now) root) }
 {
@@ -134,7 +135,7 @@ fn read_rest<D: PageDisk>(
     ensures disk { OnlyReads D.PageDisk disk.old disk.new }
     ensures cause { IsCaused (D.failure_count disk.old) (D.failure_count disk.new) result }
 {
-    let root = match read_root(alloc, disk, format_of(sections)) {
+    let root = match read_root(alloc, disk, format_of_sections(sections)) {
         Ok(root) => root,
         Err(refusal) => return Err(refusal),
     };
@@ -196,6 +197,8 @@ pub fn open_store<D: PageDisk>(alloc: Global, disk: &mut D) -> Result<OpenedStor
     ensures why { D.honest disk.old → IfErr result (λ r. IsNoAnswer r ⊎ IsWhyNotOpened (D.page_count disk.old) (page (seen (D.state disk.old))) r) }
     ensures number { IfErr result IsOpeningRefusal }
     ensures state { D.honest disk.old → MatchResult result (λ _. D.state disk.new ≡ flushed (D.state disk.old)) (λ _. (D.state disk.new ≡ D.state disk.old) ⊎ (D.state disk.new ≡ flushed (D.state disk.old))) }
+    ensures unwritten { D.honest disk.old → MatchResult result (λ _. D.device disk.new ≡ flushed (D.device disk.old)) (λ _. (D.device disk.new ≡ D.device disk.old) ⊎ (D.device disk.new ≡ flushed (D.device disk.old))) }
+    ensures calls { D.honest disk.old → MatchResult result (λ _. D.moment disk.new ≡ D.moment disk.old + 1) (λ _. D.moment disk.new ≤ D.moment disk.old + 1) }
     ensures crash { D.honest disk.old → LeavesOnly D.moment D.left_since disk.old disk.new (MayLeave (D.state disk.old)) }
     ensures honest { D.honest disk.old ↔ D.honest disk.new }
     ensures pages { D.page_count disk.new ≡ D.page_count disk.old }

@@ -1,9 +1,10 @@
 //! The index's runs, as they are read when a store is opened.
 ghost use Rattle.std.specs.Prelude.{◌≡◌, ◌+◌, ◌*◌, ◌<◌, ◌≤◌, ◌⊎◌, ℕ, IfErr, IfOk, MatchBool, length, map};
 ghost use Rattle.std.specs.List.{AllByRecursion};
-ghost use Rattle.cs_chunk.specs.Reads.{IsCaused, IsNoAnswer, IsOfFault, OnlyReads};
+ghost use Rattle.cs_chunk.specs.Reads.{IsCaused, IsNoAnswer, IsOfFault};
 ghost use Rattle.cs_deps.specs.State.{NoneOn};
 ghost use Rattle.cs_disk.specs.Disk.{page, seen};
+ghost use Rattle.cs_disk.specs.Reads.{OnlyReads};
 ghost use Rattle.cs_extent.specs.State.{shape};
 ghost use Rattle.cs_frame.specs.FormatRuns.{SpellsRun, run_fault};
 ghost use Rattle.cs_frame.specs.Geometries.{IsKnown};
@@ -68,8 +69,8 @@ pub fn are_located(extents: &Extents, runs: &[StoredRun]) -> bool
     true
 }
 
-/// The run that a payload spells in this format, with its place.
-fn decoded_run(
+/// The run that a payload spells in this format, with its place. Refused 22, 23 or 25 by the first test that fails, and 9 OutOfMemory.
+pub fn decoded_run(
     alloc: Global,
     format: u8,
     place: Locator,

@@ -1,7 +1,8 @@
 //! The sections of a superblock, as they are read when a store is opened.
 ghost use Rattle.std.specs.Prelude.{◌≡◌, ◌≢◌, ◌+◌, ◌*◌, ◌<◌, ◌≤◌, ◌⊎◌, ◌∷◌, ℕ, List, [], IfErr, IfOk, MatchBool, length, map, vec_capacity};
-ghost use Rattle.cs_chunk.specs.Reads.{IsCaused, IsNoAnswer, IsOfFault, OnlyReads};
+ghost use Rattle.cs_chunk.specs.Reads.{IsCaused, IsNoAnswer, IsOfFault};
 ghost use Rattle.cs_disk.specs.Disk.{page, seen};
+ghost use Rattle.cs_disk.specs.Reads.{OnlyReads};
 ghost use Rattle.cs_extent.specs.Sections.{AreSections, format_of, pages_of, rows_of};
 ghost use Rattle.cs_frame.specs.FirstFormat.{SpellsPageZero, page_zero_fault};
 ghost use Rattle.cs_frame.specs.Geometries.{IsKnown, device_pages};

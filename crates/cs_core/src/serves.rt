@@ -1,7 +1,7 @@
 //! What one event does to a store and its disk, whichever it is.
 ghost use Rattle.std.specs.Prelude.{◌≡◌};
-ghost use Rattle.cs_chunk.specs.Reads.{OnlyReads};
 ghost use Rattle.cs_disk.specs.Disk.{State as DiskState};
+ghost use Rattle.cs_disk.specs.Reads.{OnlyReads};
 ghost use Rattle.cs_extent.specs.State.{shape};
 ghost use Rattle.cs_core.specs.Answered.{IsAnswered};
 ghost use Rattle.cs_core.specs.Served.{IsServed};

@@ -1,7 +1,7 @@
 -- One more call joins what a disk in memory has held.
-use Rattle.std.proofs.Common.{◌≡◌, ◌⊎◌, inl, inr, ℕ, ◌+◌, ◌≤◌, List, ◌∷◌, length, sym, subst, arith}
+use Rattle.std.proofs.Common.{◌≡◌, ◌⊎◌, inl, inr, ℕ, ◌+◌, ◌≤◌, List, ◌∷◌, length, sym, ap, subst, arith}
 use Rattle.std.specs.Prelude.{Result, Ok, Err}
-use Rattle.cs_disk.specs.Disk.{Counts, State, Image, MayLeave, Elapses}
+use Rattle.cs_disk.specs.Disk.{Counts, State, Image, Write, MayLeave, Elapses}
 use Rattle.cs_disk.specs.Past.{MightHaveLeft, LeftSince}
 
 call_more : (past : List State) (old new : State) → Elapses (length past) (length (old ∷ past)) (LeftSince past old) (LeftSince (old ∷ past) new) new
@@ -31,3 +31,11 @@ one_call past later old noted = subst (λ (l : List State). length l ≡ length 
 
 pub counts_call : {T E : Type 0} (result : Result T E) (past later : List State) (old : State) → later ≡ old ∷ past → Counts result (length past) (length later)
 counts_call result past later old noted = one_more result (length past) (length later) (one_call past later old noted)
+
+-- a disk with these volatile writes
+abbrev of_writes : Image → List Write → State
+of_writes durable writes = record { durable = durable; volatile = writes }
+
+-- what the disk holds once a write joined the volatile ones
+pub pushed_state : (durable : Image) (before now : List Write) → now ≡ before → of_writes durable now ≡ of_writes durable before
+pushed_state durable before now same = ap (λ (writes : List Write). of_writes durable writes) same

@@ -5,4 +5,5 @@ pub mod Faults
 pub mod Files
 pub mod Memory
 pub mod Past
+pub mod Reads
 pub mod Unflushed

@@ -19,6 +19,9 @@ pub trait PageDisk {
     /// The durable image and the volatile writes.
     ghost state: { Self → State };
 
+    /// What lies on the device, page by page: the disk's state, or, where it shows pages otherwise than they lie there, what the disk below it holds.
+    ghost device: { Self → State };
+
     /// How many pages it has.
     ghost page_count: { Self → ℕ };
 
@@ -45,6 +48,7 @@ pub trait PageDisk {
         requires { number < page_count self.old }
         ensures bytes { honest self.old → OnOk result (buffer.new ≡ page (seen (state self.old)) number) }
         ensures state { honest self.old → state self.new ≡ state self.old }
+        ensures device { honest self.old → device self.new ≡ device self.old }
         ensures still { honest self.old → moment self.new ≡ moment self.old }
         ensures time { GoesOn honest state moment left_since self.old self.new }
         ensures honest { honest self.old ↔ honest self.new }
@@ -58,6 +62,9 @@ pub trait PageDisk {
         ensures ok { honest self.old → OnOk result (state self.new ≡ written (state self.old) number bytes.now) }
         ensures fault { honest self.old → (state self.new ≡ state self.old) ⊎ (state self.new ≡ written (state self.old) number bytes.now) }
         ensures memory { honest self.old → IsErrOf result OutOfMemory → state self.new ≡ state self.old }
+        // On the device these bytes go to one page.
+        ensures device_ok { honest self.old → OnOk result ((place : ℕ) × (device self.new ≡ written (device self.old) place bytes.now)) }
+        ensures device_fault { honest self.old → (device self.new ≡ device self.old) ⊎ ((place : ℕ) × (device self.new ≡ written (device self.old) place bytes.now)) }
         ensures count { honest self.old → Counts result (moment self.old) (moment self.new) }
         ensures time { GoesOn honest state moment left_since self.old self.new }
         ensures honest { honest self.old ↔ honest self.new }
@@ -68,6 +75,8 @@ pub trait PageDisk {
     fn flush(&mut self) -> Result<(), DiskFault>
         ensures ok { honest self.old → OnOk result (state self.new ≡ flushed (state self.old)) }
         ensures err { honest self.old → OnErr result (state self.new ≡ state self.old) }
+        ensures device_ok { honest self.old → OnOk result (device self.new ≡ flushed (device self.old)) }
+        ensures device_err { honest self.old → OnErr result (device self.new ≡ device self.old) }
         ensures count { honest self.old → Counts result (moment self.old) (moment self.new) }
         ensures time { GoesOn honest state moment left_since self.old self.new }
         ensures honest { honest self.old ↔ honest self.new }
@@ -106,6 +115,7 @@ pub trait CrashDisk: PageDisk {
     fn crash(self, mask: &[bool]) -> Self
         requires { length mask.now ≡ volatile_count self }
         ensures state { Self.honest self → can_crash self → Self.state result ≡ crashed (Self.state self) mask.now }
+        ensures device { Self.honest self → can_crash self → Self.device result ≡ crashed (Self.device self) mask.now }
         ensures unchanged { ¬ can_crash self → result ≡ self }
         ensures honest { Self.honest self ↔ Self.honest result }
         ensures pages { Self.page_count result ≡ Self.page_count self }

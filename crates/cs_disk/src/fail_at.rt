@@ -59,6 +59,8 @@ impl<D: PageDisk> PageDisk for FailAt<D> {
 
     ghost state = { λ s. D.state s.disk };
 
+    ghost device = { λ s. D.device s.disk };
+
     ghost page_count = { λ s. D.page_count s.disk };
 
     ghost failure_count = { λ s. min (D.failure_count s.disk + s.countdown.failed) (2 ^ 64 - 1) };

@@ -200,6 +200,8 @@ impl PageDisk for FileDisk {
 
     ghost state = { λ _. record { durable = []; volatile = [] } };
 
+    ghost device = { λ _. record { durable = []; volatile = [] } };
+
     ghost page_count = { λ d. d.pages };
 
     ghost failure_count = { λ d. d.failures };

@@ -101,6 +101,8 @@ impl PageDisk for MemoryDisk {
 
     ghost state = { λ d. state_of d.contents };
 
+    ghost device = { λ d. state_of d.contents };
+
     ghost page_count = { λ d. length d.contents.durable.items };
 
     ghost failure_count = { λ _. 0 };

@@ -2,4 +2,3 @@ pub mod Aged
 pub mod Looking
 pub mod Opened
 pub mod Torn
-pub mod Refused

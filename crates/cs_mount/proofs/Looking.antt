@@ -11,10 +11,12 @@ use Rattle.cs_pair.specs.declared.findings.Finding.{Finding}
 use Rattle.cs_pair.specs.declared.pairs.Held.{Held}
 use Rattle.cs_pair.specs.declared.pairs.Pair.{Pair}
 use Rattle.cs_pair.specs.Findings.{finding_in}
-use Rattle.cs_pair.specs.Pairs.{Versions, held_in}
+use Rattle.cs_pair.specs.Kept.{IsOfStore}
+use Rattle.cs_pair.specs.Pairs.{ArePairs, Versions, held_in}
 use Rattle.cs_pair.specs.Showing.{findings_on}
-use Rattle.cs_pair.specs.Stores.{dimensions_on, first_says}
+use Rattle.cs_pair.specs.Stores.{dimensions_on, first_says, pages_of, store_pairs, store_version}
 use Rattle.cs_pair.proofs.Holding.{held_found}
+use Rattle.cs_pair.proofs.Keeping.{made_of_store, not_both}
 use Rattle.cs_mount.specs.Looks.{IsLeftOver, IsTaken, is_whole}
 
 -- a pair that was found with a whole half has one
@@ -55,10 +57,6 @@ module _ (pages : ℕ) (image : Image) (V : Versions) (pairs : List Pair) where
   -- or the last page holds a first section
   pub last_left : (last : Option Dimensions) (d : Dimensions) → last ≡ first_says pages (page image (pages - 1)) → last ≡ Some d → IsLeftOver pages image V pairs
   last_left last d is some = inl (λ none. not_both last d (is ∙ none) some)
-    where
-      not_both : (o : Option Dimensions) (e : Dimensions) → o ≡ None → o ≡ Some e → ⊥
-      not_both None e none some = cc
-      not_both (Some d) e none some = cc
 
   -- no store was found
   pub left_taken : (store : Option Dimensions) (b : Bool) → store ≡ dimensions_on pages image → store ≡ None → IsTrue b ↔ IsLeftOver pages image V pairs → IsTrue b ↔ IsTaken pages image V pairs
@@ -81,10 +79,6 @@ module _ (pages : ℕ) (image : Image) (V : Versions) (pairs : List Pair) where
       by_store : (o : Option Dimensions) → dimensions_on pages image ≡ o → dimensions_on pages image ≡ None
       by_store None is = is
       by_store (Some d) is = absurd (free (inl (λ none. not_both (dimensions_on pages image) d none is)))
-        where
-          not_both : (o : Option Dimensions) (e : Dimensions) → o ≡ None → o ≡ Some e → ⊥
-          not_both None e none some = cc
-          not_both (Some d) e none some = cc
 
   pub none_last : (IsTaken pages image V pairs → ⊥) → first_says pages (page image (pages - 1)) ≡ None
   none_last free = by_last (first_says pages (page image (pages - 1))) refl
@@ -100,3 +94,10 @@ left_behind (Err e) n m s after V pairs store count same is nothing left = tt
 left_behind (Ok b) n m s after V pairs store count same is nothing left =
     left_taken n (seen s) V pairs store b is nothing
     (subst (λ k. IsTrue b ↔ IsLeftOver k (seen s) V pairs) count (subst (λ (z : State). IsTrue b ↔ IsLeftOver m (seen z) V pairs) same left))
+
+-- a disk that was found free fits the store that is made on it
+pub free_fits : (d : Dimensions) (pairs : List Pair) (n : ℕ) (image : Image) (b : Bool) → 0 < n → length image ≡ n → ArePairs pairs n → pairs ≡ store_pairs d → pages_of d ≡ n → b ≡ false
+    → IsTrue b ↔ IsTaken n image (store_version (Some d)) pairs → IsOfStore (Some d) pairs n image
+free_fits d pairs n image b some size are its sized test taken =
+    let none : IsTaken n image (store_version (Some d)) pairs → ⊥ = free n image (store_version (Some d)) pairs b test taken in
+    made_of_store d pairs n image some size are its sized (none_found n image (store_version (Some d)) pairs none) (none_last n image (store_version (Some d)) pairs none) (λ x has whole. none (inr (inr (x, has, whole))))

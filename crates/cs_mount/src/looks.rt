@@ -3,9 +3,9 @@ ghost use Rattle.std.specs.Prelude.{◌≡◌, ◌⊎◌, ◌↔◌, ◌<◌, Er
 ghost use Rattle.std.specs.List.{list_any};
 ghost use Rattle.cs_chunk.specs.Reads.{IsCaused};
 ghost use Rattle.cs_disk.specs.Disk.{HasCause, seen};
+ghost use Rattle.cs_disk.specs.Reads.{OnlyReads};
 ghost use Rattle.cs_mount.specs.Looks.{IsLeftOver, IsTaken, is_whole};
 ghost use Rattle.cs_pair.specs.Pairs.{ArePairs};
-ghost use Rattle.cs_pair.specs.Reads.{OnlyReads};
 ghost use Rattle.cs_pair.specs.Showing.{findings_on};
 ghost use Rattle.cs_pair.specs.Stores.{store_version};
 

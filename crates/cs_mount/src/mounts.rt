@@ -1,5 +1,5 @@
 // Stores over disks in pairs: how they are made and opened.
-ghost use Rattle.std.specs.Prelude.{◌≡◌, ◌≢◌, ◌⊎◌, ◌↔◌, ◌<◌, ℕ, [], Err, IfErr, IfOk, MatchResult, None, OnOk, Some, replicate};
+ghost use Rattle.std.specs.Prelude.{◌≡◌, ◌≢◌, ◌⊎◌, ◌↔◌, ◌+◌, ◌<◌, ◌≤◌, ℕ, [], Err, IfErr, IfOk, MatchResult, None, OnOk, Some, replicate};
 ghost use Rattle.cs_chunk.specs.Reads.{IsNoAnswer};
 ghost use Rattle.cs_core.specs.Openings.{IsOpened, IsOpeningRefusal, IsWhyNotOpened};
 ghost use Rattle.cs_core.specs.Started.{IsNewOn, new_stored};
@@ -15,7 +15,7 @@ ghost use Rattle.cs_mount.specs.Looks.{IsTaken};
 ghost use Rattle.cs_pair.specs.Paired.{disk_below, left_as_shown, state_shown};
 ghost use Rattle.cs_pair.specs.Pairs.{shown_state};
 ghost use Rattle.cs_pair.specs.Showing.{ShowsOn, findings_on, shown_on};
-ghost use Rattle.cs_pair.specs.Stores.{dimensions_on, store_pairs, store_version};
+ghost use Rattle.cs_pair.specs.Stores.{store_pairs, store_version};
 
 use crate::looks::is_taken;
 use cs_chunk::refusal_of_disk;
@@ -48,7 +48,7 @@ pub fn make_store<D: PageDisk + Drop>(
     ensures written { D.honest disk → IfOk result (λ core. IsNewOn geometry.format geometry.extents geometry.pages geometry.sections (shown_state (store_version (Some geometry)) (store_pairs geometry) (flushed (D.state disk))) (state_shown core.disk)) }
     // So it is on pages of zeros.
     ensures zeros { D.honest disk → (D.state disk).durable ≡ replicate (device_pages geometry.format geometry.extents geometry.pages geometry.sections) (replicate 4096 0) → (D.state disk).volatile ≡ [] → IfOk result (λ core. IsNewOn geometry.format geometry.extents geometry.pages geometry.sections (record { durable = replicate (device_pages geometry.format geometry.extents geometry.pages geometry.sections) (replicate 4096 0); volatile = [] }) (state_shown core.disk)) }
-    ensures pages { IfOk result (λ core. D.page_count (disk_below core.disk) ≡ D.page_count disk) }
+    ensures pages { MatchResult result (λ core. D.page_count (disk_below core.disk) ≡ D.page_count disk) (λ refused. D.page_count refused.1 ≡ D.page_count disk) }
     ensures honest { MatchResult result (λ core. D.honest disk ↔ D.honest (disk_below core.disk)) (λ refused. D.honest disk ↔ D.honest refused.1) }
     ensures sized { OnOk result (D.page_count disk ≡ device_pages geometry.format geometry.extents geometry.pages geometry.sections) }
     ensures not_a_store { IfErr result (λ refused. (refused.0 ≡ Refusal.NotAStore) ↔ (D.page_count disk ≢ device_pages geometry.format geometry.extents geometry.pages geometry.sections)) }
@@ -87,9 +87,8 @@ pub fn make_store<D: PageDisk + Drop>(
 /// Opens the store on a disk, as it was made persistent or as a crash left it, and tells what the pages hold that it has twice: flushes, and reads the
 /// superblock, the root and the index's runs.
 ///
-/// The disk comes back where it is refused; what a store of format 3 shows is as it was then. That nothing but flushes and reads goes to the disk below, so that halves that don't show,
-/// and a device without such a store, are as they were too, is by its form. Refused 43 NotAStore where no store of that many pages is on it, 20 to 26 for a page that is damaged, where
-/// it has two for both of them, 27 RootLost where the newest root that is whole is older than one that was persistent, 1 DeviceFault, and 9 OutOfMemory.
+/// Nothing is written, so the pages that don't show stay as well, and the disk comes back where it is refused: 43 NotAStore where no store of that many pages is on it, 20 to 26 for a
+/// page that is damaged, where it has two for both of them, 27 RootLost where the newest root that is whole is older than one that was persistent, 1 DeviceFault, and 9 OutOfMemory.
 pub fn open_store<D: PageDisk + Drop>(
     alloc: Global,
     disk: D,
@@ -107,8 +106,10 @@ pub fn open_store<D: PageDisk + Drop>(
     // Whatever the disk answers.
     ensures number { IfErr result (λ refused. IsOpeningRefusal refused.0) }
     ensures small { D.page_count disk < 10 → result ≡ Err (Refusal.NotAStore, disk) }
-    // What a store of format 3 shows is as it was where it isn't opened.
-    ensures kept { D.honest disk → dimensions_on (D.page_count disk) (seen (D.state disk)) ≢ None → IfErr result (λ refused. shown_on (D.page_count disk) (seen (D.state refused.1)) ≡ shown_on (D.page_count disk) (seen (D.state disk))) }
+    // Nothing is written, whether it is opened or not: the device holds what it held, or that made durable.
+    ensures unwritten { D.honest disk → MatchResult result (λ opened. D.state (disk_below opened.0.disk) ≡ flushed (D.state disk)) (λ refused. (D.state refused.1 ≡ D.state disk) ⊎ (D.state refused.1 ≡ flushed (D.state disk))) }
+    // Two flushes, and no write; where it is refused two at most.
+    ensures calls { D.honest disk → MatchResult result (λ opened. D.moment (disk_below opened.0.disk) ≡ D.moment disk + 2) (λ refused. D.moment refused.1 ≤ D.moment disk + 2) }
     // A crash meanwhile leaves what shows as what one before it might have left.
     ensures crash { D.honest disk → IfOk result (λ opened. (left : Image) → left_as_shown opened.0.disk (D.moment disk) left → ShowsOn (D.page_count disk) (seen (D.state disk)) (MayLeave (D.state disk)) left) }
     ensures honest { MatchResult result (λ opened. D.honest disk ↔ D.honest (disk_below opened.0.disk)) (λ refused. D.honest disk ↔ D.honest refused.1) }

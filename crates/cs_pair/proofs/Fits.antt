@@ -24,6 +24,27 @@ pub goes_below : (x : Pair) (t : Bool) (bytes : List ℕ) (s mid now : State) �
 goes_below x t bytes s mid now same (inl still) = inl (still ∙ same)
 goes_below x t bytes s mid now same (inr is) = inr (t, is ∙ ap (λ (z : State). written z (half x t) bytes) same)
 
+pub goes_below_ok : {T E : Type 0} (result : Result T E) (x : Pair) (t : Bool) (bytes : List ℕ) (s mid now : State) → mid ≡ s → OnOk result (now ≡ written mid (half x t) bytes) → OnOk result ((twin : Bool) × (now ≡ written s (half x twin) bytes))
+goes_below_ok (Ok u) x t bytes s mid now same is = (t, is ∙ ap (λ (z : State). written z (half x t) bytes) same)
+goes_below_ok (Err e) x t bytes s mid now same is = tt
+
+-- so it lies on some page there
+pub own_lies : {T E : Type 0} (result : Result T E) (s now : State) (p : ℕ) (bytes : List ℕ) → OnOk result (now ≡ written s p bytes) → OnOk result ((place : ℕ) × (now ≡ written s place bytes))
+own_lies (Ok u) s now p bytes is = (p, is)
+own_lies (Err e) s now p bytes is = tt
+
+pub own_may_lie : (s now : State) (p : ℕ) (bytes : List ℕ) → (now ≡ s) ⊎ (now ≡ written s p bytes) → (now ≡ s) ⊎ ((place : ℕ) × (now ≡ written s place bytes))
+own_may_lie s now p bytes (inl same) = inl same
+own_may_lie s now p bytes (inr is) = inr (p, is)
+
+pub pair_lies : {T E : Type 0} (result : Result T E) (s now : State) (x : Pair) (bytes : List ℕ) → OnOk result ((twin : Bool) × (now ≡ written s (half x twin) bytes)) → OnOk result ((place : ℕ) × (now ≡ written s place bytes))
+pair_lies (Ok u) s now x bytes is = (half x is.0, is.1)
+pair_lies (Err e) s now x bytes is = tt
+
+pub pair_may_lie : (s now : State) (x : Pair) (bytes : List ℕ) → (now ≡ s) ⊎ ((twin : Bool) × (now ≡ written s (half x twin) bytes)) → (now ≡ s) ⊎ ((place : ℕ) × (now ≡ written s place bytes))
+pair_may_lie s now x bytes (inl same) = inl same
+pair_may_lie s now x bytes (inr is) = inr (half x is.0, is.1)
+
 module _ {R : Type 0} (rules : PageRules R) (r : R) (pairs : List Pair) (n : ℕ) where
   pub fit_same : (s now : State) → now ≡ s → IsFit rules r pairs n s → IsFit rules r pairs n now
   fit_same s now same fit = subst (λ (z : State). IsFit rules r pairs n z) (sym same) fit

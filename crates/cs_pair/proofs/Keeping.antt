@@ -1,25 +1,22 @@
 -- Whatever is written by way of a store's disk in pairs, it is that of the store which page 0 shows.
-use Rattle.std.proofs.Common.{◌≡◌, inl, ⊎_elim, if◌then◌else◌, ◌==◌, ◌&&◌, not, ℕ, zero, suc, ◌+◌, ◌-◌, ◌<◌, ◌≤◌, Bool, true, false, List, [], ◌∷◌, Option, Some, None, Contains, IfSome, slice_get, slice_index, length, map, nat_le, refl, sym, ◌∙◌, ap, subst, arith, eq-eqb}
-use denote.Struct.Props.{props}
-use Rattle.std.proofs.Math.Logic.{∥∥₁_elim}
+use Rattle.std.proofs.Common.{◌≡◌, inl, ⊎_elim, if◌then◌else◌, ◌==◌, ◌&&◌, not, ℕ, zero, suc, ◌+◌, ◌-◌, ◌<◌, ◌≤◌, Bool, true, false, List, [], Option, Some, None, Contains, IfSome, slice_get, slice_index, length, map, nat_le, refl, sym, ◌∙◌, ap, subst, arith, eq-eqb}
 use Rattle.std.proofs.lemmas.Bool.{eqb-true}
 use Rattle.std.proofs.lemmas.Bool.Decides.{nat_tests}
 use Rattle.std.specs.List.{range_with_len}
-use Rattle.cs_disk.specs.Disk.{Image, MayLeave, State, Write, applied, kept, page, seen}
+use Rattle.cs_disk.specs.Disk.{Image, MayLeave, State, kept, page}
 use Rattle.cs_disk.proofs.Images.{length-applied}
 use Rattle.cs_frame.specs.declared.faults.FormatFault.{FormatFault}
 use Rattle.cs_frame.specs.FirstFormat.{page_zero_fault}
 use Rattle.cs_frame.specs.Geometries.{Dimensions}
 use Rattle.cs_pair.specs.declared.pairs.Pair.{Pair}
 use Rattle.cs_pair.specs.Kept.{AreAllowed, IsOfStore, is_allowed}
-use Rattle.cs_pair.specs.Pairs.{ArePairs, AreNoOlder, Versions, half, held_in, is_turned, shown, shown_page, shown_state, shown_write, version_at}
-use Rattle.cs_pair.specs.Showing.{shown_on}
+use Rattle.cs_pair.specs.Pairs.{ArePairs, AreNoOlder, Versions, half, held_in, is_turned, shown, shown_page, version_at}
 use Rattle.cs_pair.specs.Stores.{dimensions_on, first_says, pages_of, pairs_where, section_version, store_pair, store_pairs, store_version}
 use Rattle.cs_pair.specs.Tears.{IsLeft, IsUnpaired, MayTear}
 use Rattle.cs_pair.proofs.Refinding.{IsWrite, by_turned, first_pair, left_at, older, told_alike}
 use Rattle.cs_pair.proofs.Roles.{IsOwn, shown_page-none, shown_page-own}
 use Rattle.cs_pair.proofs.Shown.{page-shown}
-use Rattle.cs_pair.proofs.Telling.{found_by_zero, found_third, last_found, said_found, said_third, says_version, version_says, zero_says}
+use Rattle.cs_pair.proofs.Telling.{found_by_zero, last_found, said_found, said_third, says_version, version_says, zero_says}
 
 -- a crash image has of each page what some of the writes leave
 is_left : (s : State) (c : Image) (p : ℕ) → MayLeave s c → IsLeft s p (page c p)
@@ -27,6 +24,14 @@ is_left s c p left = (left.0, left.1, ap (λ (image : Image). page image p) left
 
 same_size : (s : State) (c : Image) → MayLeave s c → length c ≡ length s.durable
 same_size s c left = ap (λ (image : Image). length image) left.2 ∙ length-applied s.durable (kept left.0 s.volatile)
+
+no_less : (a b : ℕ) → nat_le a b ≡ true → a ≤ b
+no_less a b test = grind (arith, nat_tests)
+
+-- what is said isn't nothing
+pub not_both : (o : Option Dimensions) (e : Dimensions) → o ≡ None → o ≡ Some e → ⊥
+not_both None e none some = cc
+not_both (Some d) e none some = cc
 
 -- ---- page 0 is in no pair
 
@@ -102,9 +107,6 @@ module _ (d : Dimensions) (three : d.format ≡ 3) (s : State) (c : Image) (are 
 
   turned_newer : (image : Image) → is_turned V image x ≡ true → version_at V image x false ≤ version_at V image x true
   turned_newer image test = no_less (version_at V image x false) (version_at V image x true) test
-    where
-      no_less : (a b : ℕ) → nat_le a b ≡ true → a ≤ b
-      no_less a b test = grind (arith, nat_tests)
 
   -- where what shows is a version of the store, the store is found
   some_found : 0 < version_at V c x (is_turned V c x) → dimensions_on (pages_of d) c ≡ Some d
@@ -232,9 +234,6 @@ module _ (d : Dimensions) (three : d.format ≡ 3) (image : Image) (lies : ArePa
 
       newest_twin : is_turned V image x ≡ true → version_at V image x false ≤ version_at V image x true
       newest_twin test = no_less (version_at V image x false) (version_at V image x true) test
-        where
-          no_less : (a b : ℕ) → nat_le a b ≡ true → a ≤ b
-          no_less a b test = grind (arith, nat_tests)
 
       by_half : (t : Bool) → is_turned V image x ≡ t → (o : Option FormatFault) → page_zero_fault (page image 0) ≡ o → (Some d ≡ Some e) × (dimensions_on (pages_of d) image ≡ Some e)
       by_half false turned o fault = both (said_found (pages_of d) image e (ap (first_says (pages_of d)) (sym (shows ∙ ap (λ (b : Bool). page image (half x b)) turned)) ∙ says))
@@ -269,10 +268,6 @@ opened_of_store (Some d) pairs n image some size are is its sized = by_format (d
         let found = ap (λ m. dimensions_on m image) sized ∙ sym is in
         let now : IsOfStore (Some d) (store_pairs d) (pages_of d) image = record { its = refl; sized = refl; found = opened_said d three image lies found } in
         subst (λ (l : List Pair). IsOfStore (Some d) l n image) (sym its) (subst (λ m. IsOfStore (Some d) (store_pairs d) m image) sized now)
-
-not_both : (o : Option Dimensions) (e : Dimensions) → o ≡ None → o ≡ Some e → ⊥
-not_both None e none some = cc
-not_both (Some d) e none some = cc
 
 -- where no store of format 3 is found, the last page says none, and no half is whole
 pub made_of_store : (d : Dimensions) (pairs : List Pair) (n : ℕ) (image : Image) → 0 < n → length image ≡ n → ArePairs pairs n → pairs ≡ store_pairs d → pages_of d ≡ n → dimensions_on n image ≡ None → first_says n (page image (n - 1)) ≡ None
@@ -315,64 +310,3 @@ made_of_store d pairs n image some size are its sized none last free = by_format
             by_half true turned =
                 let here : page (shown V pairs image) 0 ≡ page image (n - 1) = shows ∙ ap (λ (b : Bool). page image (half x b)) turned ∙ ap (λ m. page image (m - 1)) sized in
                 absurd (not_both (first_says n (page image (n - 1))) e last (ap (first_says n) (sym here) ∙ says))
-
--- what is found shows on page 0
-module _ (d : Dimensions) (three : d.format ≡ 3) (image : Image) (lies : ArePairs (store_pairs d) (length image)) (found : dimensions_on (pages_of d) image ≡ Some d) where
-  pub found_shows : first_says (pages_of d) (page (shown (store_version (Some d)) (store_pairs d) image) 0) ≡ Some d
-  found_shows = by_half (is_turned V image x) refl (page_zero_fault (page image 0)) refl
-    where
-      V : Versions
-      V = store_version (Some d)
-
-      x : Pair
-      x = store_pair d 0
-
-      there : slice_get (store_pairs d) 0 ≡ Some x
-      there = first_pair d three
-
-      shows : page (shown V (store_pairs d) image) 0 ≡ page image (half x (is_turned V image x))
-      shows = page-shown V (store_pairs d) image 0 (lies.inside 0 x false there) ∙ shown_page-own V image (store_pairs d) (length image) lies 0 x there
-
-      no_less : (a b : ℕ) → nat_le a b ≡ true → a ≤ b
-      no_less a b test = grind (arith, nat_tests)
-
-      by_half : (t : Bool) → is_turned V image x ≡ t → (o : Option FormatFault) → page_zero_fault (page image 0) ≡ o → first_says (pages_of d) (page (shown V (store_pairs d) image) 0) ≡ Some d
-      by_half false turned o fault =
-          let above = older (version_at V image x false) (version_at V image x true) turned in
-          ap (first_says (pages_of d)) (shows ∙ ap (λ (b : Bool). page image (half x b)) turned) ∙ version_says d (page image 0) three (omega (arith, above))
-      by_half true turned (Some f) damaged = ap (first_says (pages_of d)) (shows ∙ ap (λ (b : Bool). page image (half x b)) turned) ∙ sym (last_found (pages_of d) image f damaged) ∙ found
-      by_half true turned None whole =
-          let own = says_version d (pages_of d) (page image 0) three (zero_says (pages_of d) image d whole found) in
-          let newer = no_less (version_at V image x false) (version_at V image x true) turned in
-          ap (first_says (pages_of d)) (shows ∙ ap (λ (b : Bool). page image (half x b)) turned) ∙ version_says d (page image (half x true)) three (omega (arith, own, newer))
-
--- of whatever store is found
-pub found_shows_on : (n : ℕ) (image : Image) (pairs : List Pair) (d : Dimensions) → length image ≡ n → ArePairs pairs n → pairs ≡ pairs_where (dimensions_on n image) → dimensions_on n image ≡ Some d → first_says n (page (shown_on n image) 0) ≡ Some d
-found_shows_on n image pairs d size are its found =
-    let third = found_third n image d found in
-    let lie : pairs ≡ store_pairs d = its ∙ ap pairs_where found in
-    let lies = subst (λ m. ArePairs (store_pairs d) m) (sym size) (subst (λ (l : List Pair). ArePairs l n) lie are) in
-    let shows = found_shows d third.0 image lies (ap (λ m. dimensions_on m image) third.1 ∙ found) in
-    ap (λ (o : Option Dimensions). first_says n (page (shown (store_version o) (pairs_where o) image) 0)) found
-    ∙ ap (λ m. first_says m (page (shown (store_version (Some d)) (store_pairs d) image) 0)) (sym third.1) ∙ shows
-
--- A disk in pairs that shows the same, with nothing volatile, shows it to an opening, too.
-pub still_shows : (g : Option Dimensions) (pairs : List Pair) (n : ℕ) (s : State) (shows : Image) (d : Dimensions) → ∥ IsOfStore g pairs n s.durable ∥₁ → shown_state (store_version g) pairs s ≡ record { durable = shows; volatile = [] }
-    → first_says n (page shows 0) ≡ Some d → shown_on n (seen s) ≡ shows
-still_shows g pairs n s shows d fits is says =
-    let durable : shown (store_version g) pairs s.durable ≡ shows = ap (λ (z : State). z.durable) is in
-    let here = ap (λ (image : Image). first_says n (page image 0)) durable ∙ says in
-    let are_its : IsProp (pairs ≡ pairs_where g) = hlevel props in
-    let is_its : IsProp (g ≡ Some d) = hlevel props in
-    let is_found : IsProp (dimensions_on n s.durable ≡ Some d) = hlevel props in
-    let lie = ∥∥₁_elim fits are_its (λ of. of.its) in
-    let its = ∥∥₁_elim fits is_its (λ of. (of.found d here).0) in
-    let found = ∥∥₁_elim fits is_found (λ of. (of.found d here).1) in
-    let none : s.volatile ≡ [] = nothing s.volatile (ap (λ (z : State). z.volatile) is) in
-    let same : g ≡ dimensions_on n s.durable = its ∙ sym found in
-    ap (λ (l : List Write). shown_on n (applied s.durable l)) none
-    ∙ sym (ap (λ (l : List Pair). shown (store_version g) l s.durable) lie ∙ ap (λ (o : Option Dimensions). shown (store_version o) (pairs_where o) s.durable) same) ∙ durable
-  where
-    nothing : (l : List Write) → map (shown_write pairs) l ≡ [] → l ≡ []
-    nothing [] is = refl
-    nothing (w ∷ l) is = cc

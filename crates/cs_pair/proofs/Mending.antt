@@ -9,6 +9,7 @@ use Rattle.cs_disk.specs.Disk.{Elapses, Image, Leaves, LeavesOnly, MayLeave, Sta
 use Rattle.cs_disk.proofs.Crashes.{MayLeave-settled, MayLeave-written, seen_MayLeave}
 use Rattle.cs_disk.proofs.Images.{applied_push, length-applied, page_other, page_same}
 use Rattle.cs_disk.proofs.Moments.{IsSafe, flushes_or_not, goes_on, started}
+use Rattle.cs_disk.specs.Reads.{OnlyReads}
 use Rattle.cs_pair.specs.declared.findings.Finding.{Finding}
 use Rattle.cs_pair.specs.declared.findings.Half.{Half}
 use Rattle.cs_pair.specs.declared.notes.Notes.{Notes}
@@ -18,7 +19,6 @@ use Rattle.cs_pair.specs.declared.pairs.Pair.{Pair}
 use Rattle.cs_pair.specs.Findings.{finding_in, held_of, is_damaged, is_halved, mended, other_half, passed_over}
 use Rattle.cs_pair.specs.Noted.{AreRight}
 use Rattle.cs_pair.specs.Pairs.{ArePairs, AreNoOlder, IsNoOlder, Versions, half, is_turned, left_shown, shown, shown_state, shows_as, version_at}
-use Rattle.cs_pair.specs.Reads.{OnlyReads}
 use Rattle.cs_pair.proofs.Holding.{held_found}
 use Rattle.cs_pair.proofs.Leaving.{are_on, seen_shown, shows_left}
 use Rattle.cs_pair.proofs.Opening.{reads_alone}

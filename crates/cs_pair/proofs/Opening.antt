@@ -4,11 +4,11 @@ use Rattle.cs_disk.specs.declared.disk.PageDisk.{Ghosts as PageDisk}
 use Rattle.cs_disk.specs.Disk.{Elapses, Image, LeavesOnly, MayLeave, State, flushed, seen}
 use Rattle.cs_disk.proofs.Crashes.{Leaves-flushed}
 use Rattle.cs_disk.proofs.Moments.{started, stays}
+use Rattle.cs_disk.specs.Reads.{OnlyReads}
 use Rattle.cs_pair.specs.declared.findings.Finding.{Finding}
 use Rattle.cs_pair.specs.declared.pairs.Pair.{Pair}
 use Rattle.cs_pair.specs.Findings.{finding_in}
 use Rattle.cs_pair.specs.Pairs.{Versions}
-use Rattle.cs_pair.specs.Reads.{OnlyReads}
 
 -- the same of rules, pairs and a disk that are these
 pub found_on : {R : Type 0} (version : R → Versions) (r rules : R) (s before : State) (ps pairs : List Pair) (found : List Finding) → r ≡ rules → s ≡ flushed before → ps ≡ pairs

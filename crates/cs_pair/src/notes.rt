@@ -32,12 +32,12 @@ pub struct Notes {
 impl Notes {
     ghost use Rattle.std.specs.Prelude.{◌≡◌, ◌<◌, ◌+◌, ◌-◌, ◌^◌, ◌↔◌, ◌⊎◌, [], Bool, Some, IfOk, IsErrOf, OnErr, OnOk, length, min, not, slice_get};
     ghost use Rattle.cs_disk.specs.Disk.{Counts, GoesOn, HasCause, LeavesOnly, MayLeave, flushed, page, seen, written};
+    ghost use Rattle.cs_disk.specs.Reads.{OnlyReads};
     ghost use Rattle.cs_pair.specs.declared.pairs.Pair.{Pair};
     ghost use Rattle.cs_pair.specs.Findings.{AreMended, finding_in, mended, passed_over};
     ghost use Rattle.cs_pair.specs.Fitting.{IsFit};
     ghost use Rattle.cs_pair.specs.Noted.{AreNotes, AreRight, failed};
     ghost use Rattle.cs_pair.specs.Pairs.{ArePairs, half, is_turned, shown, shown_state};
-    ghost use Rattle.cs_pair.specs.Reads.{OnlyReads};
 
     /// Notes of so many pairs, of which nothing was read yet.
     pub fn new(alloc: Global, count: usize) -> Result<Self, AllocError>
@@ -201,7 +201,8 @@ impl Notes {
         ensures fault { D.honest disk.old → (x : Pair) → slice_get pairs.now k ≡ Some x
             → (shown_state (R.version rules.now) pairs.now (D.state disk.new) ≡ shown_state (R.version rules.now) pairs.now (D.state disk.old))
             ⊎ (shown_state (R.version rules.now) pairs.now (D.state disk.new) ≡ written (shown_state (R.version rules.now) pairs.now (D.state disk.old)) x.page bytes.now) }
-        // Below it goes to a half, or nowhere.
+        // Below it goes to a half, or, where it is refused, nowhere.
+        ensures below_ok { D.honest disk.old → (x : Pair) → slice_get pairs.now k ≡ Some x → OnOk result ((twin : Bool) × (D.state disk.new ≡ written (D.state disk.old) (half x twin) bytes.now)) }
         ensures below { D.honest disk.old → (x : Pair) → slice_get pairs.now k ≡ Some x → (D.state disk.new ≡ D.state disk.old) ⊎ (twin : Bool) × (D.state disk.new ≡ written (D.state disk.old) (half x twin) bytes.now) }
         ensures memory { D.honest disk.old → IsErrOf result DiskFault.OutOfMemory → D.state disk.new ≡ D.state disk.old }
         ensures count { D.honest disk.old → Counts result (D.moment disk.old) (D.moment disk.new) }

@@ -41,6 +41,20 @@ impl<D: PageDisk> AsOf<D> {
             refused: 0,
         }
     }
+
+    /// The disk below.
+    pub fn into_disk(self) -> D
+        ensures { result ≡ shown_below self }
+    {
+        let AsOf {
+            alloc: _,
+            disk,
+            geometry: _,
+            root: _,
+            refused: _,
+        } = self;
+        disk
+    }
 }
 
 /// Whether this page has a section of the superblock of such a store: its twins aren't counted.
@@ -118,6 +132,8 @@ impl<D: PageDisk> PageDisk for AsOf<D> {
     ghost honest = { λ d. D.honest d.disk };
 
     ghost state = { λ d. lowered_state d.geometry d.root (D.state d.disk) };
+
+    ghost device = { λ d. D.device d.disk };
 
     ghost page_count = { λ d. D.page_count d.disk };
 

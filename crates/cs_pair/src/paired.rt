@@ -39,14 +39,14 @@ pub struct Paired<D: PageDisk, R: PageRules> {
 }
 
 impl<D: PageDisk, R: PageRules> Paired<D, R> {
-    ghost use Rattle.std.specs.Prelude.{◌↔◌, ◌≢◌, ◌⊎◌, ◌<◌, ◌≤◌, [], ℕ, None, Some, IfErr, IfOk, MatchResult, OnOk, length, map, slice_get};
+    ghost use Rattle.std.specs.Prelude.{◌↔◌, ◌≢◌, ◌⊎◌, ◌+◌, ◌<◌, ◌≤◌, [], ℕ, None, Some, IfErr, IfOk, MatchResult, OnOk, length, map, slice_get};
     ghost use Rattle.std.specs.List.{AllByRecursion};
     ghost use Rattle.cs_disk.specs.Disk.{HasCause, LeavesOnly, MayLeave, Rises, flushed, page, seen};
+    ghost use Rattle.cs_disk.specs.Reads.{OnlyReads};
     ghost use Rattle.cs_pair.specs.declared.pairs.Pair.{Pair};
     ghost use Rattle.cs_pair.specs.Findings.{finding_in, mended, passed_over};
     ghost use Rattle.cs_pair.specs.Paired.{disk_below, failures_of, left_as_shown, moment_of, pairs_of, rules_of, state_shown, versions_of};
     ghost use Rattle.cs_pair.specs.Pairs.{AreNoOlder, half, is_turned};
-    ghost use Rattle.cs_pair.specs.Reads.{OnlyReads};
 
     /// A disk in these pairs: it flushes the disk below, and has what the rules keep of it. What lies in the pairs is read later.
     pub fn new(alloc: Global, disk: D, rules: R, pairs: Vec<Pair>) -> Result<Self, (DiskFault, D)>
@@ -58,6 +58,8 @@ impl<D: PageDisk, R: PageRules> Paired<D, R> {
         ensures rules { IfOk result (λ p. rules_of p ≡ rules) }
         ensures state { D.honest disk → MatchResult result (λ p. D.state (disk_below p) ≡ flushed (D.state disk)) (λ refused. D.state refused.1 ≡ D.state disk) }
         ensures crash { D.honest disk → MatchResult result (λ p. LeavesOnly D.moment D.left_since disk (disk_below p) (MayLeave (D.state disk))) (λ refused. LeavesOnly D.moment D.left_since disk refused.1 (MayLeave (D.state disk))) }
+        // A flush, and no write.
+        ensures calls { D.honest disk → MatchResult result (λ p. D.moment (disk_below p) ≡ D.moment disk + 1) (λ refused. D.moment refused.1 ≤ D.moment disk + 1) }
         ensures honest { MatchResult result (λ p. D.honest disk ↔ D.honest (disk_below p)) (λ refused. D.honest disk ↔ D.honest refused.1) }
         ensures pages { MatchResult result (λ p. D.page_count (disk_below p) ≡ D.page_count disk) (λ refused. D.page_count refused.1 ≡ D.page_count disk) }
         ensures failures { IfOk result (λ p. D.failure_count disk ≤ D.failure_count (disk_below p)) }
@@ -155,6 +157,7 @@ impl<D: PageDisk, R: PageRules> Paired<D, R> {
         ensures findings { D.honest disk → IfOk result (λ opened. opened.1.items ≡ map (finding_in (R.version rules) (seen (D.state disk))) pairs.items) }
         ensures state { D.honest disk → MatchResult result (λ opened. D.state (disk_below opened.0) ≡ flushed (D.state disk)) (λ refused. (D.state refused.1 ≡ D.state disk) ⊎ (D.state refused.1 ≡ flushed (D.state disk))) }
         ensures crash { D.honest disk → MatchResult result (λ opened. LeavesOnly D.moment D.left_since disk (disk_below opened.0) (MayLeave (D.state disk))) (λ refused. LeavesOnly D.moment D.left_since disk refused.1 (MayLeave (D.state disk))) }
+        ensures calls { D.honest disk → MatchResult result (λ opened. D.moment (disk_below opened.0) ≡ D.moment disk + 1) (λ refused. D.moment refused.1 ≤ D.moment disk + 1) }
         ensures honest { MatchResult result (λ opened. D.honest disk ↔ D.honest (disk_below opened.0)) (λ refused. D.honest disk ↔ D.honest refused.1) }
         ensures pages { MatchResult result (λ opened. D.page_count (disk_below opened.0) ≡ D.page_count disk) (λ refused. D.page_count refused.1 ≡ D.page_count disk) }
         ensures failures { IfOk result (λ opened. D.failure_count disk ≤ D.failure_count (disk_below opened.0)) }
@@ -203,6 +206,8 @@ impl<D: PageDisk, R: PageRules> PageDisk for Paired<D, R> {
     ghost honest = { λ p. D.honest p.disk };
 
     ghost state = { λ p. shown_state (R.version p.rules) p.pairs.items (D.state p.disk) };
+
+    ghost device = { λ p. D.state p.disk };
 
     ghost page_count = { λ p. D.page_count p.disk };
 

@@ -1,9 +1,9 @@
 // Reads of pairs.
 ghost use Rattle.std.specs.Prelude.{◌≡◌, ◌<◌, IfOk, OnOk, IfErr, length, map};
 ghost use Rattle.cs_disk.specs.Disk.{HasCause, seen};
+ghost use Rattle.cs_disk.specs.Reads.{OnlyReads};
 ghost use Rattle.cs_pair.specs.Findings.{finding_in, half_in, is_blank};
 ghost use Rattle.cs_pair.specs.Pairs.{ArePairs, half, held_in};
-ghost use Rattle.cs_pair.specs.Reads.{OnlyReads};
 
 use crate::findings::{Finding, Half};
 use crate::pairs::{Held, PageRules, Pair, half_of};

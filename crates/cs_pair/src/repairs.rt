@@ -1,9 +1,9 @@
 // What a repair of a pair reads and writes.
 ghost use Rattle.std.specs.Prelude.{◌≡◌, ◌⊎◌, ◌↔◌, ◌<◌, IfOk, IfSome, OnErr, OnOk};
 ghost use Rattle.cs_disk.specs.Disk.{HasCause, LeavesOnly, MayLeave, flushed, page, seen, written};
+ghost use Rattle.cs_disk.specs.Reads.{OnlyReads};
 ghost use Rattle.cs_pair.specs.Findings.{finding_in, passed_over};
 ghost use Rattle.cs_pair.specs.Pairs.{half, is_turned};
-ghost use Rattle.cs_pair.specs.Reads.{OnlyReads};
 
 use crate::pairs::{PageRules, Pair, half_of};
 use crate::readings::read_pair;

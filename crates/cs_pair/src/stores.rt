@@ -1,13 +1,13 @@
 // The pairs of a store.
-ghost use Rattle.std.specs.Prelude.{◌≡◌, ◌≢◌, ◌==◌, ◌&&◌, ◌⊎◌, ◌↔◌, ◌-◌, ◌<◌, ◌≤◌, ℕ, [], IfErr, IfOk, IfSome, MatchResult};
+ghost use Rattle.std.specs.Prelude.{◌≡◌, ◌≢◌, ◌==◌, ◌&&◌, ◌⊎◌, ◌↔◌, ◌+◌, ◌-◌, ◌<◌, ◌≤◌, ℕ, [], IfErr, IfOk, IfSome, MatchResult};
 ghost use Rattle.cs_disk.specs.Disk.{HasCause, Image, LeavesOnly, MayLeave, Rises, flushed, page, seen};
+ghost use Rattle.cs_disk.specs.Reads.{OnlyReads};
 ghost use Rattle.cs_frame.specs.FirstFormat.{page_zero_fault};
 ghost use Rattle.cs_frame.specs.Geometries.{IsGeometry, IsKnown};
 ghost use Rattle.cs_frame.specs.Superblocks.{superblock_fault};
 ghost use Rattle.cs_pair.specs.Kept.{IsOfStore, is_allowed};
 ghost use Rattle.cs_pair.specs.Pairs.{ArePairs};
 ghost use Rattle.cs_pair.specs.Paired.{disk_below, left_as_shown, pairs_of, rules_of, state_shown};
-ghost use Rattle.cs_pair.specs.Reads.{OnlyReads};
 ghost use Rattle.cs_pair.specs.Showing.{ShowsOn, findings_on, shown_on};
 ghost use Rattle.cs_pair.specs.Stores.{dimensions_on, first_says, last_says, named, pages_of, pairs_where, root_version, section_at, section_version, store_pair, store_pairs, store_version, zero_said};
 
@@ -311,6 +311,7 @@ pub fn open_store<D: PageDisk>(
     ensures left { D.honest disk → IfOk result (λ opened. (left : Image) → left_as_shown opened.0 (D.moment disk) left → ShowsOn (D.page_count disk) (seen (D.state disk)) (MayLeave (D.state disk)) left) }
     ensures state { D.honest disk → MatchResult result (λ opened. D.state (disk_below opened.0) ≡ flushed (D.state disk)) (λ refused. (D.state refused.1 ≡ D.state disk) ⊎ (D.state refused.1 ≡ flushed (D.state disk))) }
     ensures crash { D.honest disk → MatchResult result (λ opened. LeavesOnly D.moment D.left_since disk (disk_below opened.0) (MayLeave (D.state disk))) (λ refused. LeavesOnly D.moment D.left_since disk refused.1 (MayLeave (D.state disk))) }
+    ensures calls { D.honest disk → MatchResult result (λ opened. D.moment (disk_below opened.0) ≡ D.moment disk + 1) (λ refused. D.moment refused.1 ≤ D.moment disk + 1) }
     ensures honest { MatchResult result (λ opened. D.honest disk ↔ D.honest (disk_below opened.0)) (λ refused. D.honest disk ↔ D.honest refused.1) }
     ensures pages { MatchResult result (λ opened. D.page_count (disk_below opened.0) ≡ D.page_count disk) (λ refused. D.page_count refused.1 ≡ D.page_count disk) }
     ensures cause { IfErr result (λ refused. refused.0 ≡ DiskFault.DeviceFault → Rises (D.failure_count disk) (D.failure_count refused.1)) }

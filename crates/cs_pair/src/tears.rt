@@ -73,6 +73,8 @@ impl PageDisk for TearDisk {
 
     ghost state = { λ d. memory_state d.disk };
 
+    ghost device = { λ d. memory_state d.disk };
+
     ghost page_count = { λ d. length (memory_state d.disk).durable };
 
     ghost failure_count = { λ _. 0 };

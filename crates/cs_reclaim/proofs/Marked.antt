@@ -1,7 +1,7 @@
 -- What a move leaves of marks.
 use Rattle.std.proofs.Common.{◌≡◌, ◌∙◌, ◌==◌, ℕ, zero, suc, Bool, true, false, Option, Some, List, [], ◌∷◌, map, if◌then◌else◌, eqb-true, refl, sym, ap, subst}
 use Rattle.std.proofs.lemmas.Option.{same_Some}
-use Rattle.cs_chunk.specs.Chunks.{AreMeant, IsMeant}
+use Rattle.cs_chunk.specs.Chunks.{AreMeant}
 use Rattle.cs_deps.specs.State.{State as GraphState}
 use Rattle.cs_extent.specs.State.{State as ExtentsState, shape}
 use Rattle.cs_frame.specs.declared.locators.Locator.{Locator}

@@ -1,103 +1,40 @@
 //! What is read of a disk.
-ghost use Rattle.std.specs.Prelude.{◌≡◌, ◌+◌, ◌*◌, ◌^◌, ◌<◌, ◌≤◌, ◌⊎◌, ℕ, List, IfErr, IfOk, MatchBool, OnOk, length, map, slice_index};
+ghost use Rattle.std.specs.Prelude.{◌≡◌, ◌<◌, ◌≤◌, ◌⊎◌, ℕ, List, IfErr, IfOk, length, map};
 ghost use Rattle.std.specs.List.{AllByRecursion};
-ghost use Rattle.cs_chunk.specs.Reads.{IsCaused, IsNoAnswer, IsOfFault, OnlyReads};
+ghost use Rattle.cs_chunk.specs.Reads.{IsCaused, IsNoAnswer};
 ghost use Rattle.cs_disk.specs.Disk.{page, seen};
+ghost use Rattle.cs_disk.specs.Reads.{OnlyReads};
 ghost use Rattle.cs_extent.specs.Sections.{AreSections, format_of, pages_of, rows_of};
 ghost use Rattle.cs_extent.specs.State.{shape};
 ghost use Rattle.cs_frame.specs.FirstFormat.{SpellsPageZero};
-ghost use Rattle.cs_frame.specs.Geometries.{IsKnown, device_pages};
+ghost use Rattle.cs_frame.specs.Geometries.{device_pages};
 ghost use Rattle.cs_frame.specs.Locators.{KeepFormat};
-ghost use Rattle.cs_frame.specs.Roots.{SpellsRoot, root_fault};
+ghost use Rattle.cs_frame.specs.Roots.{SpellsRoot};
 ghost use Rattle.cs_frame.specs.Runs.{IsRun};
 ghost use Rattle.cs_image.specs.Openings.{index_at};
-ghost use Rattle.cs_image.specs.Reads.{AreSectionsRead, extents_at};
+ghost use Rattle.cs_image.specs.Reads.{AreSectionsRead};
 ghost use Rattle.cs_index.specs.State.{newest_first};
 ghost use Rattle.cs_model.specs.Geometry.{weigh_in};
 ghost use Rattle.cs_model.specs.Index.{entries_of, named_weight};
-ghost use Rattle.cs_core.specs.Openings.{AreRecordedBy, IsOpeningRefusal};
-ghost use Rattle.cs_rescue.specs.Founds.{NothingWaits};
+ghost use Rattle.cs_core.specs.Openings.{IsOpeningRefusal};
 ghost use Rattle.cs_rescue.specs.Rescued.{IsFoundIn, IsRescued, IsWhyNotRescued, most_taken};
 ghost use Rattle.cs_rescue.specs.Runs.{IsDamageCaused};
 
 use crate::founds::Found;
 use crate::runs::read_newest;
-use cs_chunk::{refusal_of_disk, refusal_of_fault};
-use cs_core::{new_graph, read_first, read_sections};
+use cs_core::{
+    format_of_sections, is_root_lost, new_graph, pages_of_device, read_first, read_root,
+    read_sections,
+};
 use cs_deps::Refusal;
 use cs_disk::PageDisk;
 use cs_extent::Extents;
-use cs_frame::{Root, Superblock, decode_root, device_pages};
+use cs_frame::{Root, Superblock};
 use cs_index::{Index, StoredRun};
 use std::alloc::Global;
 
 /// What the newest entries may weigh together: as much as any index takes.
 const MOST_TAKEN: usize = 536_870_911;
-
-/// The root that a page spells in this format.
-fn decoded_root(alloc: Global, page: &[u8; 4096], format: u8) -> Result<Root, Refusal>
-    requires { IsKnown format }
-    ensures spelled { IfOk result (λ it. SpellsRoot page.now format it.version it.commands it.runs.items) }
-    ensures fault { IfErr result (λ r. (r ≡ Refusal.OutOfMemory) ⊎ IsOfFault (root_fault format page.now) r) }
-    ensures number { IfErr result IsOpeningRefusal }
-{
-    match decode_root(alloc, page, format) {
-        Ok(root) => Ok(root),
-        Err(fault) => Err(refusal_of_fault(fault)),
-    }
-}
-
-/// Reads page 1 in this format.
-fn read_root<D: PageDisk>(alloc: Global, disk: &mut D, format: u8) -> Result<Root, Refusal>
-    requires known { IsKnown format }
-    requires enough { 1 < D.page_count disk.old }
-    ensures read { D.honest disk.old → IfOk result (λ it. SpellsRoot (page (seen (D.state disk.old)) 1) format it.version it.commands it.runs.items) }
-    ensures some { IfOk result (λ it. (bytes : List ℕ) × SpellsRoot bytes format it.version it.commands it.runs.items) }
-    ensures fault { D.honest disk.old → IfErr result (λ r. IsNoAnswer r ⊎ IsOfFault (root_fault format (page (seen (D.state disk.old)) 1)) r) }
-    ensures number { IfErr result IsOpeningRefusal }
-    ensures disk { OnlyReads D.PageDisk disk.old disk.new }
-    ensures cause { IsCaused (D.failure_count disk.old) (D.failure_count disk.new) result }
-{
-    let mut buffer = [0; 4096];
-    match disk.read(1, &mut buffer) {
-        Ok(()) => decoded_root(alloc, &buffer, format),
-        Err(fault) => Err(refusal_of_disk(fault)),
-    }
-}
-
-/// How many pages a device has whose superblock has this section.
-fn pages_of_device(superblock: &Superblock) -> u64
-    ensures { result ≡ device_pages superblock.now.format superblock.now.extent_count superblock.now.pages superblock.now.sections }
-{
-    device_pages(
-        superblock.format,
-        superblock.extent_count,
-        superblock.pages,
-        superblock.sections,
-    )
-}
-
-/// The format that sections of a superblock say.
-fn format_of(sections: &[Superblock]) -> u8
-    requires { 0 < length sections.now }
-    ensures { result ≡ format_of sections.now }
-{
-    sections[0].format
-}
-
-/// Whether a section records a later root than one of this version.
-fn is_root_lost(sections: &[Superblock], root: u64) -> bool
-    ensures { MatchBool result ((j : ℕ) × (j < length sections.now) × (root < slice_index (map (λ it. it.recorded) sections.now) j))
-        (AreRecordedBy (length sections.now) (map (λ it. it.recorded) sections.now) root) }
-{
-    for k in 0..sections.len() {
-        let section = &sections[k];
-        if root < section.recorded {
-            return true;
-        }
-    }
-    false
-}
 
 /// The index of runs that were read. Refused 43 NotAStore where their newest entries weigh more than any index takes, and 9 OutOfMemory.
 fn load_runs(alloc: Global, extents: &Extents, runs: Vec<StoredRun>) -> Result<Index, Refusal>
@@ -176,7 +113,7 @@ fn read_rest<D: PageDisk>(
     ensures cause { IsCaused (D.failure_count disk.old) (D.failure_count disk.new) result }
     ensures failed { IfOk result (λ found. IsDamageCaused (D.failure_count disk.old) (D.failure_count disk.new) found.damaged) }
 {
-    let root = match read_root(alloc, disk, format_of(sections)) {
+    let root = match read_root(alloc, disk, format_of_sections(sections)) {
         Ok(root) => root,
         Err(refusal) => return Err(refusal),
     };

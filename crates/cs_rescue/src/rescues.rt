@@ -2,8 +2,9 @@
 ghost use Rattle.std.specs.Prelude.{◌≡◌, ◌≢◌, ◌⊎◌, ◌↔◌, ◌<◌, [], ℕ, Err, IfErr, IfOk, IfSome, List, MatchResult, None, Ok, Some, length, option_map};
 ghost use Rattle.std.specs.List.{AllByRecursion};
 ghost use Rattle.cs_chunk.specs.Chunks.{AreChunksIn};
-ghost use Rattle.cs_chunk.specs.Reads.{IsNoAnswer, IsReadRefusal, OnlyReads};
+ghost use Rattle.cs_chunk.specs.Reads.{IsNoAnswer, IsReadRefusal};
 ghost use Rattle.cs_disk.specs.Disk.{Rises, page, seen};
+ghost use Rattle.cs_disk.specs.Reads.{OnlyReads};
 ghost use Rattle.cs_extent.specs.State.{shape};
 ghost use Rattle.cs_frame.specs.Formats.{formats_of};
 ghost use Rattle.cs_image.specs.Reads.{IsLocated};

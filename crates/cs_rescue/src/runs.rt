@@ -1,21 +1,21 @@
 //! The runs of a root, read from the newest on.
 ghost use Rattle.std.specs.Prelude.{◌≡◌, ◌≢◌, ◌+◌, ◌*◌, ◌-◌, ◌<◌, ◌≤◌, ◌⊎◌, ◌∷◌, [], IfErr, IfOk, OnOk, Some, length, slice_get};
 ghost use Rattle.std.specs.List.{AllByRecursion};
-ghost use Rattle.cs_chunk.specs.Reads.{IsCaused, IsNoAnswer, IsOfFault, OnlyReads};
+ghost use Rattle.cs_chunk.specs.Reads.{IsCaused, IsNoAnswer};
 ghost use Rattle.cs_disk.specs.Disk.{page, seen};
+ghost use Rattle.cs_disk.specs.Reads.{OnlyReads};
 ghost use Rattle.cs_extent.specs.State.{shape};
-ghost use Rattle.cs_frame.specs.FormatRuns.{SpellsRun, run_fault};
-ghost use Rattle.cs_frame.specs.Runs.{IsRun, entries_of};
+ghost use Rattle.cs_frame.specs.Runs.{IsRun};
 ghost use Rattle.cs_image.specs.Reads.{IsRunRead};
 ghost use Rattle.cs_rescue.specs.Founds.{NothingWaits};
 ghost use Rattle.cs_rescue.specs.Runs.{AreNewestRead, IsDamageCaused, IsWhyNoRun};
 
-use cs_chunk::{frame_at, refusal_of_fault};
-use cs_core::are_places_located;
+use cs_chunk::frame_at;
+use cs_core::{are_places_located, decoded_run};
 use cs_deps::{Graph, Refusal};
 use cs_disk::PageDisk;
 use cs_extent::Extents;
-use cs_frame::{FrameKind, Locator, decode_run};
+use cs_frame::{FrameKind, Locator};
 use cs_index::StoredRun;
 use std::alloc::{AllocError, Global};
 
@@ -34,27 +34,6 @@ pub struct DamagedRun {
 pub struct NewestRuns {
     pub runs: Vec<StoredRun>,
     pub damaged: Option<DamagedRun>,
-}
-
-/// The run that a payload spells in this format, with its place.
-fn decoded_run(
-    alloc: Global,
-    format: u8,
-    place: Locator,
-    payload: &[u8],
-) -> Result<StoredRun, Refusal>
-    ensures spelled { IfOk result (λ run. SpellsRun payload.now format (entries_of run.entries.items)) }
-    ensures place { IfOk result (λ run. run.place ≡ place) }
-    ensures run { IfOk result (λ run. IsRun format (record { entries = run.entries })) }
-    ensures fault { IfErr result (λ r. (r ≡ Refusal.OutOfMemory) ⊎ IsOfFault (run_fault format payload.now) r) }
-{
-    match decode_run(alloc, format, payload) {
-        Ok(run) => Ok(StoredRun {
-            place,
-            entries: run.entries,
-        }),
-        Err(fault) => Err(refusal_of_fault(fault)),
-    }
 }
 
 /// Reads the run at a place, where nothing waits. Refused 26 Misplaced where the place isn't located, before the device is asked.

@@ -1,9 +1,9 @@
 //! What drives a core keeps its room, and none of it but a put is refused for want of a place.
 ghost use Rattle.std.specs.Prelude.{◌≡◌, ◌≢◌, ℕ, List, [], true};
-ghost use Rattle.cs_chunk.specs.Reads.{OnlyReads};
 ghost use Rattle.cs_disk.specs.Disk.{Leaves, LeavesOnly, seen};
 ghost use Rattle.cs_deps.specs.declared.refusals.Refusal.{Refusal as Why};
 ghost use Rattle.cs_deps.specs.declared.refusals.Refusal.TheVariants.{Full};
+ghost use Rattle.cs_disk.specs.Reads.{OnlyReads};
 ghost use Rattle.cs_extent.specs.State.{shape};
 ghost use Rattle.cs_frame.specs.declared.identifiers.ShardId.{ShardId};
 ghost use Rattle.cs_frame.specs.Geometries.{IsGeometry};

@@ -1,8 +1,7 @@
 -- What parts mean, whatever a disk answers.
-use Rattle.std.proofs.Common.{◌≡◌, ◌≢◌, ◌∙◌, ◌⊎◌, ℕ, zero, suc, ◌+◌, ◌<◌, Bool, true, false, List, [], ◌∷◌, ◌++◌, Option, Some, None, MatchOption, IfSome, length, get_or, take, All, bytes_eq, true≢false, refl, sym, ap, ap₂, subst, inl, inr, ⊎_elim}
+use Rattle.std.proofs.Common.{◌≡◌, ◌≢◌, ◌∙◌, ◌⊎◌, ℕ, zero, suc, ◌+◌, ◌<◌, Bool, true, false, List, [], ◌∷◌, ◌++◌, Option, Some, None, MatchOption, IfSome, length, get_or, take, All, bytes_eq, true≢false, refl, sym, ap₂, subst, inl, inr, ⊎_elim}
 use Rattle.std.specs.List.{AllZip}
 use Rattle.std.proofs.lemmas.List.Elements.{All-push}
-use Rattle.sha2.specs.Sha256.{sha256}
 use Rattle.cs_frame.proofs.TestLaws.{equal_bytes, same_bytes}
 use Rattle.cs_model.specs.Formats.{Formats}
 use Rattle.cs_model.specs.Index.{joined_bodies}

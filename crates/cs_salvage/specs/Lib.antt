@@ -1,4 +1,3 @@
-pub mod Reads
 pub mod Parts
 pub mod Frames
 pub mod Shards

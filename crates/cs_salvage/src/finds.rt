@@ -1,9 +1,9 @@
 //! All parts on a device.
 ghost use Rattle.std.specs.Prelude.{◌≡◌, ◌+◌, ◌*◌, ◌<◌, ◌≤◌, All, IfOk, OnOk};
 ghost use Rattle.cs_disk.specs.Disk.{HasCause, seen};
+ghost use Rattle.cs_disk.specs.Reads.{OnlyReads};
 ghost use Rattle.cs_salvage.specs.Frames.{IsOfFrame};
 ghost use Rattle.cs_salvage.specs.Parts.{AreParts, ArePartsBefore};
-ghost use Rattle.cs_salvage.specs.Reads.{OnlyReads};
 
 use crate::frames::part_at;
 use crate::parts::Part;

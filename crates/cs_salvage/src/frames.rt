@@ -1,11 +1,11 @@
 // The part that begins at a place of the device.
 ghost use Rattle.std.specs.Prelude.{◌≡◌, ◌+◌, ◌*◌, ◌-◌, ◌^◌, ◌<◌, ◌≤◌, ℕ, List, IfOk, IfSome, MatchBool, MatchOption, length};
 ghost use Rattle.cs_disk.specs.Disk.{HasCause, page as device_page, seen};
+ghost use Rattle.cs_disk.specs.Reads.{OnlyReads};
 ghost use Rattle.cs_frame.specs.Frames.{SpellsFrame};
 ghost use Rattle.cs_frame.specs.Geometries.{IsGeometry};
 ghost use Rattle.cs_salvage.specs.Frames.{AreReadAs, IsFrontOf, IsPartIn, IsSpelled, pages_at};
 ghost use Rattle.cs_salvage.specs.Parts.{BeginsWith, IsChunkAt, IsNumbered, IsPart, IsSpellable, NoPartAt};
-ghost use Rattle.cs_salvage.specs.Reads.{OnlyReads};
 
 use crate::parts::Part;
 use cs_disk::{DiskFault, PageDisk};

@@ -2,10 +2,10 @@
 ghost use Rattle.std.specs.Prelude.{◌≡◌, ◌+◌, ◌*◌, ◌≤◌, List, IfOk, IfSome, MatchOption, ℕ};
 ghost use Rattle.std.specs.List.{AllZip};
 ghost use Rattle.cs_disk.specs.Disk.{HasCause, seen};
+ghost use Rattle.cs_disk.specs.Reads.{OnlyReads};
 ghost use Rattle.cs_model.specs.Index.{joined_bodies};
 ghost use Rattle.cs_salvage.specs.Frames.{IsMeant};
 ghost use Rattle.cs_salvage.specs.Parts.{IsPart, formats_in};
-ghost use Rattle.cs_salvage.specs.Reads.{OnlyReads};
 
 use crate::frames::part_at;
 use crate::parts::Part;

@@ -28,7 +28,10 @@ pub fn open_older_in_file<R: Files<File = File>>(
         Ok(disk) => disk,
         Err(fault) => return Err(refusal_of(fault)),
     };
-    open_older_store(alloc, disk, limits())
+    match open_older_store(alloc, disk, limits()) {
+        Ok(opened) => Ok(opened),
+        Err((refusal, _)) => Err(refusal),
+    }
 }
 
 /// What the pages in a file hold that a store of format 3 has twice, whether the store opens or not. Refused where they can't be read.

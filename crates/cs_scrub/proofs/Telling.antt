@@ -2,11 +2,12 @@
 use Rattle.std.proofs.Common.{◌≡◌, ◌≢◌, ◌∙◌, ◌⊎◌, inl, inr, ℕ, List, Some, None, Ok, Err, Result, sym, ap, subst}
 use Rattle.std.specs.Prelude.{IsOk, MatchOption, Option}
 use Rattle.cs_chunk.specs.Newest.{AreNewest}
-use Rattle.cs_chunk.specs.Reads.{AnswersFault, IsNoAnswer, IsOfFault, OnlyReads, fault_in}
+use Rattle.cs_chunk.specs.Reads.{AnswersFault, IsNoAnswer, IsOfFault, fault_in}
 use Rattle.cs_core.specs.Stored.{Stored}
 use Rattle.cs_core.specs.Views.{View}
 use Rattle.cs_deps.specs.declared.refusals.Refusal.{Refusal}
 use Rattle.cs_deps.specs.declared.refusals.Refusal.TheVariants.{OutOfMemory}
+use Rattle.cs_disk.specs.Reads.{OnlyReads}
 use Rattle.cs_disk.specs.declared.disk.PageDisk.{Ghosts as PageDisk}
 use Rattle.cs_disk.specs.Disk.{State as DiskState, seen}
 use Rattle.cs_extent.specs.State.{State as ExtentsState, shape}

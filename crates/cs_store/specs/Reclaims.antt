@@ -1,9 +1,9 @@
 -- How a reclaim chooses the extent that it sweeps.
 use Rattle.std.specs.Prelude.{◌≡◌, ◌⊎◌, ◌-◌, ◌<◌, ◌≤◌, ℕ, Bool, true, false, List, Option, Some, None, slice_get}
-use Rattle.cs_chunk.specs.Reads.{OnlyReads}
 use Rattle.cs_core.specs.Views.{View}
 use Rattle.cs_deps.specs.declared.refusals.Refusal.{Refusal}
 use Rattle.cs_deps.specs.declared.refusals.Refusal.TheVariants.{OutOfMemory}
+use Rattle.cs_disk.specs.Reads.{OnlyReads}
 use Rattle.cs_disk.specs.declared.disk.PageDisk.{Ghosts as PageDisk}
 use Rattle.cs_extent.specs.State.{extents_of, shape}
 use Rattle.cs_frame.specs.Frames.{page_count}

@@ -1,10 +1,10 @@
 //! The figures of a store.
 ghost use Rattle.std.specs.Prelude.{◌≡◌, ◌≢◌, IfOk, List, None, [], false, length, map, ℕ};
 ghost use Rattle.cs_chunk.specs.Newest.{AreNewest};
-ghost use Rattle.cs_chunk.specs.Reads.{OnlyReads};
 ghost use Rattle.cs_core.specs.Meanings.{commands_said};
 ghost use Rattle.cs_core.specs.Views.{kept};
 ghost use Rattle.cs_disk.specs.Disk.{LeavesOnly, Rises, page, seen};
+ghost use Rattle.cs_disk.specs.Reads.{OnlyReads};
 ghost use Rattle.cs_extent.specs.State.{extents_of, shape};
 ghost use Rattle.cs_image.specs.Counts.{HasCount};
 ghost use Rattle.cs_index.specs.State.{index_of};

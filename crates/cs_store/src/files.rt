@@ -73,7 +73,10 @@ impl Store<Mounted<FileDisk>> {
             Err(OpenFault::OddLength) => return Err(OpenError::OddLength),
         };
         match Store::open_mounted(alloc, disk, limits) {
-            Ok(store) => Ok(store),
+            Ok((mut store, findings)) => {
+                store.findings = findings;
+                Ok(store)
+            }
             Err((refusal, _)) => Err(OpenError::of(refusal)),
         }
     }

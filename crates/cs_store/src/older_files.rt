@@ -39,7 +39,7 @@ impl Store<AsOf<Mounted<FileDisk>>> {
                 core,
                 findings,
             }),
-            Err(refusal) => Err(OpenError::of(refusal)),
+            Err((refusal, _)) => Err(OpenError::of(refusal)),
         }
     }
 }

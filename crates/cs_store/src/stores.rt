@@ -1,5 +1,5 @@
 //! Stores: how they are made, opened and closed.
-ghost use Rattle.std.specs.Prelude.{◌<◌, ◌↔◌, ◌≡◌, ◌≢◌, ◌⊎◌, IfErr, IfOk, MatchResult, None, OnOk, [], ℕ};
+ghost use Rattle.std.specs.Prelude.{◌+◌, ◌<◌, ◌≤◌, ◌↔◌, ◌≡◌, ◌≢◌, ◌⊎◌, IfErr, IfOk, MatchResult, None, OnOk, [], ℕ};
 ghost use Rattle.cs_chunk.specs.Reads.{IsNoAnswer};
 ghost use Rattle.cs_disk.specs.Disk.{LeavesOnly, MayLeave, Rises, flushed, page, seen};
 ghost use Rattle.cs_extent.specs.State.{shape};
@@ -26,7 +26,7 @@ use std::marker::Model;
 pub struct Store<D: PageDisk> {
     pub(crate) alloc: Global,
     pub(crate) core: Core<D>,
-    /// What the pages held that it has twice, as it was opened.
+    /// What the pages held that it has twice, as it was opened from a file; else empty.
     pub(crate) findings: Vec<Finding>,
 }
 
@@ -57,7 +57,7 @@ impl<D: PageDisk> Store<D> {
         ensures written { D.honest disk → MatchResult result (λ made. IsNewOn geometry.format geometry.extents geometry.pages geometry.sections (D.state disk) (D.state made.disk)) (λ refused. IsHeadWritten geometry.extents geometry.pages (D.state disk) (D.state refused.1)) }
         ensures same { D.page_count disk ≢ device_pages geometry.format geometry.extents geometry.pages geometry.sections → result ≡ Err (Refusal.NotAStore, disk) }
         ensures not_a_store { IfErr result (λ refused. (refused.0 ≡ Refusal.NotAStore) ↔ (D.page_count disk ≢ device_pages geometry.format geometry.extents geometry.pages geometry.sections)) }
-        ensures pages { IfOk result (λ made. D.page_count made.disk ≡ D.page_count disk) }
+        ensures pages { MatchResult result (λ made. D.page_count made.disk ≡ D.page_count disk) (λ refused. D.page_count refused.1 ≡ D.page_count disk) }
         ensures honest { MatchResult result (λ made. D.honest disk ↔ D.honest made.disk) (λ refused. D.honest disk ↔ D.honest refused.1) }
         ensures sized { OnOk result (D.page_count disk ≡ device_pages geometry.format geometry.extents geometry.pages geometry.sections) }
         ensures refusals { IfErr result (λ refused. (refused.0 ≡ Refusal.NotAStore) ⊎ (refused.0 ≡ Refusal.DeviceFault) ⊎ (refused.0 ≡ Refusal.OutOfMemory)) }
@@ -90,8 +90,11 @@ impl<D: PageDisk> Store<D> {
         // Whatever the disk answers: 1, 9, 20 to 27, or 43.
         ensures number { IfErr result (λ refused. IsOpeningRefusal refused.0) }
         ensures small { D.page_count disk < 10 → result ≡ Err (Refusal.NotAStore, disk) }
-        // Nothing but a flush is done to the disk, and a crash within leaves what one before it might have left.
+        // Nothing is written, to what the disk shows or to the device below it, and a crash within leaves what one before it might have left.
         ensures kept { IfErr result (λ refused. D.honest disk → (D.state refused.1 ≡ D.state disk) ⊎ (D.state refused.1 ≡ flushed (D.state disk))) }
+        ensures unwritten { D.honest disk → MatchResult result (λ opened. D.device opened.disk ≡ flushed (D.device disk)) (λ refused. (D.device refused.1 ≡ D.device disk) ⊎ (D.device refused.1 ≡ flushed (D.device disk))) }
+        // One flush, and no write; where it is refused one at most.
+        ensures calls { D.honest disk → MatchResult result (λ opened. D.moment opened.disk ≡ D.moment disk + 1) (λ refused. D.moment refused.1 ≤ D.moment disk + 1) }
         ensures crash { D.honest disk → MatchResult result (λ opened. LeavesOnly D.moment D.left_since disk opened.disk (MayLeave (D.state disk))) (λ refused. LeavesOnly D.moment D.left_since disk refused.1 (MayLeave (D.state disk))) }
         ensures honest { MatchResult result (λ opened. D.honest disk ↔ D.honest opened.disk) (λ refused. D.honest disk ↔ D.honest refused.1) }
         ensures pages { MatchResult result (λ opened. D.page_count opened.disk ≡ D.page_count disk) (λ refused. D.page_count refused.1 ≡ D.page_count disk) }

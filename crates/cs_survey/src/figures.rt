@@ -1,8 +1,8 @@
 //! The figures of a store.
 ghost use Rattle.std.specs.Prelude.{◌≡◌, ◌≢◌, IfOk, [], List, ℕ, false, length, map};
 ghost use Rattle.cs_chunk.specs.Newest.{AreNewest};
-ghost use Rattle.cs_chunk.specs.Reads.{OnlyReads};
 ghost use Rattle.cs_disk.specs.Disk.{Rises, seen};
+ghost use Rattle.cs_disk.specs.Reads.{OnlyReads};
 ghost use Rattle.cs_extent.specs.State.{extents_of, shape};
 ghost use Rattle.cs_index.specs.State.{index_of, newest_first};
 ghost use Rattle.cs_model.specs.Extents.{empties};

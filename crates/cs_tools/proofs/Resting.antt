@@ -1,15 +1,15 @@
 -- What a reclaim that ends well leaves.
 use Rattle.std.proofs.Common.{◌≡◌, ◌≢◌, ◌∙◌, ◌⊎◌, ℕ, ◌<◌, List, [], ◌∷◌, false, true, Ok, Err, refl, sym, ap, subst, inl, inr, arith}
 use Rattle.std.specs.Prelude.{IsOk, OnOk, Result}
-use Rattle.cs_chunk.specs.Reads.{OnlyReads}
 use Rattle.cs_core.specs.declared.events.Event.{Event}
 use Rattle.cs_core.specs.declared.events.Event.TheVariants.{Put}
 use Rattle.cs_core.specs.declared.events.Reply.{Reply}
 use Rattle.cs_core.specs.declared.events.Reply.TheVariants.{Refused}
 use Rattle.cs_core.specs.Stored.{Stored}
-use Rattle.cs_core.proofs.SectionReads.{reads_none}
 use Rattle.cs_core.specs.Views.{View}
 use Rattle.cs_deps.specs.declared.refusals.Refusal.{Refusal}
+use Rattle.cs_disk.proofs.OnlyRead.{reads_none}
+use Rattle.cs_disk.specs.Reads.{OnlyReads}
 use Rattle.cs_disk.specs.declared.disk.PageDisk.{Ghosts as PageDisk}
 use Rattle.cs_drive.specs.Histories.{IsRefused, IsStopped, Went}
 use Rattle.cs_frame.specs.declared.identifiers.ShardId.{ShardId}

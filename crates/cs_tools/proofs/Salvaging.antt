@@ -8,13 +8,10 @@ use Rattle.cs_deps.specs.declared.refusals.Refusal.{Refusal}
 use Rattle.cs_deps.specs.declared.refusals.Refusal.TheVariants as refusal
 use Rattle.cs_disk.specs.Disk.{HasCause, Image, Rises, State, seen}
 use Rattle.cs_disk.specs.Faults.{disk_fault_number}
-use Rattle.cs_disk.specs.declared.disk.PageDisk.{Ghosts as PageDisk}
 use Rattle.cs_disk.specs.declared.fault.DiskFault.{DiskFault}
 use Rattle.cs_disk.specs.declared.fault.DiskFault.TheVariants as fault
 use Rattle.cs_frame.specs.Geometries.{Dimensions}
-use Rattle.cs_pair.specs.Reads.{OnlyReads as OnlyReadsPairs}
 use Rattle.cs_salvage.specs.Parts.{AreParts, IsPart}
-use Rattle.cs_salvage.specs.Reads.{OnlyReads}
 use Rattle.cs_salvage.specs.Shards.{AreAllOf}
 use Rattle.cs_salvage.specs.declared.parts.Part.{Part}
 use Rattle.cs_salvage.specs.declared.shards.WholeShard.{WholeShard}
@@ -24,10 +21,6 @@ use Rattle.cs_tools.specs.declared.outcomes.Outcome.{Outcome}
 use Rattle.cs_tools.specs.declared.outcomes.Outcome.TheVariants.{Damaged, Done}
 use Rattle.cs_tools.specs.declared.salvages.Salvaged.{Salvaged}
 use Rattle.cs_tools.proofs.Exporting.{ArePrinted, IsPrintedUpTo, Widens, all_at, piece_of, piece_printed, shard_printed}
-
--- the same reads, in the words of the crate above
-pub read_pairs : {D : Type 0} (disks : PageDisk D) (a b : D) → OnlyReadsPairs disks a b → OnlyReads disks a b
-read_pairs disks a b is = record { same = is.same; still = is.still; time = is.time; honesty = is.honesty; pages = is.pages; failures = is.failures }
 
 -- ---- the parts of what was salvaged stand on the device
 

@@ -1,8 +1,8 @@
 -- What stays as it is while a store is read.
 use Rattle.std.proofs.Common.{◌≡◌, ◌≢◌, ◌∙◌, List, [], sym, ap, subst}
 use Rattle.std.specs.List.{AllByRecursion}
-use Rattle.cs_chunk.specs.Reads.{OnlyReads}
 use Rattle.cs_core.specs.Views.{IsIn, View}
+use Rattle.cs_disk.specs.Reads.{OnlyReads}
 use Rattle.cs_disk.specs.declared.disk.PageDisk.{Ghosts as PageDisk}
 use Rattle.cs_frame.specs.declared.identifiers.ShardId.{ShardId}
 use Rattle.cs_index.specs.State.{id_number, index_of}

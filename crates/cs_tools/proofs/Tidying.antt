@@ -1,7 +1,6 @@
 -- Calls that leave the map of a store as it is, one after another.
 use Rattle.std.proofs.Common.{◌≡◌, ◌∙◌, ◌==◌, ℕ, Bool, true, false, List, [], ◌∷◌, Some, None, eqb-true, refl, sym, ap, subst, inl, inr, arith}
 use Rattle.std.specs.Prelude.{IfErr, IfOk, IfSome, Option, Result, Ok, Err, if◌then◌else◌}
-use Rattle.cs_chunk.specs.Reads.{OnlyReads}
 use Rattle.cs_core.specs.Calls.{IsCall}
 use Rattle.cs_core.specs.declared.events.Event.TheVariants.{Put}
 use Rattle.cs_core.specs.declared.events.Reply.{Reply}
@@ -9,6 +8,7 @@ use Rattle.cs_core.specs.declared.events.Reply.TheVariants.{Accepted}
 use Rattle.cs_core.specs.Meanings.{command_said, commands_said}
 use Rattle.cs_core.specs.Views.{IsIn, View}
 use Rattle.cs_deps.specs.declared.refusals.Refusal.{Refusal}
+use Rattle.cs_disk.specs.Reads.{OnlyReads}
 use Rattle.cs_disk.specs.declared.disk.PageDisk.{Ghosts as PageDisk}
 use Rattle.cs_disk.specs.Disk.{Image, Leaves, LeavesOnly, MayLeave, State as DiskState, page}
 use Rattle.cs_drive.proofs.Histories.{went_one}

@@ -1,9 +1,9 @@
 //! The command `get`.
 ghost use Rattle.std.specs.Prelude.{◌≡◌, ◌⊎◌, ◌↔◌, OnOk, []};
 ghost use Rattle.std.specs.Io.KnownBytes.{Appends};
-ghost use Rattle.cs_chunk.specs.Reads.{OnlyReads};
 ghost use Rattle.cs_deps.specs.declared.refusals.Refusal.TheVariants.{DeviceFault};
 ghost use Rattle.cs_disk.specs.Disk.{Rises};
+ghost use Rattle.cs_disk.specs.Reads.{OnlyReads};
 ghost use Rattle.cs_index.specs.State.{id_number, index_of};
 ghost use Rattle.cs_model.specs.Element.{Map};
 ghost use Rattle.cs_model.specs.Index.{live_at};

@@ -1,10 +1,11 @@
 //! The commands `get` and `list` over a store that is read for what can be got of it.
-ghost use Rattle.std.specs.Prelude.{◌≡◌, ◌≢◌, ◌⊎◌, ◌↔◌, ◌<◌, ◌≤◌, [], Err, IfErr, IfOk, List, None, flat_map, map};
+ghost use Rattle.std.specs.Prelude.{◌≡◌, ◌≢◌, ◌⊎◌, ◌↔◌, ◌+◌, ◌<◌, ◌≤◌, [], Err, IfErr, IfOk, List, MatchResult, None, flat_map, map};
 ghost use Rattle.std.specs.Io.KnownBytes.{Appends};
-ghost use Rattle.cs_chunk.specs.Reads.{IsNoAnswer, OnlyReads};
+ghost use Rattle.cs_chunk.specs.Reads.{IsNoAnswer};
 ghost use Rattle.cs_core.specs.Openings.{IsOpeningRefusal};
 ghost use Rattle.cs_deps.specs.declared.refusals.Refusal.{Refusal as Why};
-ghost use Rattle.cs_disk.specs.Disk.{page, seen};
+ghost use Rattle.cs_disk.specs.Disk.{flushed, page, seen};
+ghost use Rattle.cs_disk.specs.Reads.{OnlyReads};
 ghost use Rattle.cs_frame.specs.declared.identifiers.ShardId.{ShardId as Id};
 ghost use Rattle.cs_index.specs.State.{id_number, index_of};
 ghost use Rattle.cs_model.specs.Index.{live_at};
@@ -48,32 +49,36 @@ pub enum Got {
 
 /// Reads the store on a disk for what can be got of it, and tells what the pages hold that it has twice. Nothing is written.
 ///
-/// Refused 43 NotAStore where no store of that many pages is on it, 20 to 24 for a page of the superblock or the root that is damaged, where it has two for both of
+/// The disk comes back where it is refused: 43 NotAStore where no store of that many pages is on it, 20 to 24 for a page of the superblock or the root that is damaged, where it has two for both of
 /// them, 1 DeviceFault, and 9 OutOfMemory.
 pub fn open_rescue<D: PageDisk + Drop>(
     alloc: Global,
     disk: D,
-) -> Result<(Rescue<Mounted<D>>, Vec<Finding>), Refusal>
+) -> Result<(Rescue<Mounted<D>>, Vec<Finding>), (Refusal, D)>
     // What is read is what the disk shows, and that is what shows after it.
     ensures found { D.honest disk → IfOk result (λ opened. IsRescued (D.honest disk) (D.page_count disk) (page (shown_on (D.page_count disk) (seen (D.state disk)))) opened.0.found) }
     ensures shown { D.honest disk → IfOk result (λ opened. state_shown opened.0.disk ≡ record { durable = shown_on (D.page_count disk) (seen (D.state disk)); volatile = [] }) }
     ensures findings { D.honest disk → IfOk result (λ opened. opened.1.items ≡ findings_on (D.page_count disk) (seen (D.state disk))) }
-    ensures why { D.honest disk → IfErr result (λ refusal. IsNoAnswer refusal ⊎ IsWhyNotRescued (D.page_count disk) (page (shown_on (D.page_count disk) (seen (D.state disk)))) refusal) }
-    ensures small { D.page_count disk < 10 → result ≡ Err Refusal.NotAStore }
+    ensures why { D.honest disk → IfErr result (λ refused. IsNoAnswer refused.0 ⊎ IsWhyNotRescued (D.page_count disk) (page (shown_on (D.page_count disk) (seen (D.state disk)))) refused.0) }
+    ensures small { D.page_count disk < 10 → result ≡ Err (Refusal.NotAStore, disk) }
     // Whatever the disk answers.
-    ensures number { IfErr result IsOpeningRefusal }
-    ensures honest { IfOk result (λ opened. D.honest disk ↔ D.honest (disk_below opened.0.disk)) }
-    ensures pages { IfOk result (λ opened. D.page_count (disk_below opened.0.disk) ≡ D.page_count disk) }
+    ensures number { IfErr result (λ refused. IsOpeningRefusal refused.0) }
+    // Nothing is written, whether it is read or not: the device holds what it held, or that made durable.
+    ensures unwritten { D.honest disk → MatchResult result (λ opened. D.state (disk_below opened.0.disk) ≡ flushed (D.state disk)) (λ refused. (D.state refused.1 ≡ D.state disk) ⊎ (D.state refused.1 ≡ flushed (D.state disk))) }
+    // One flush, and no write; where it is refused one at most.
+    ensures calls { D.honest disk → MatchResult result (λ opened. D.moment (disk_below opened.0.disk) ≡ D.moment disk + 1) (λ refused. D.moment refused.1 ≤ D.moment disk + 1) }
+    ensures honest { MatchResult result (λ opened. D.honest disk ↔ D.honest (disk_below opened.0.disk)) (λ refused. D.honest disk ↔ D.honest refused.1) }
+    ensures pages { MatchResult result (λ opened. D.page_count (disk_below opened.0.disk) ≡ D.page_count disk) (λ refused. D.page_count refused.1 ≡ D.page_count disk) }
 {
     if disk.pages() < 10 {
-        return Err(Refusal::NotAStore);
+        return Err((Refusal::NotAStore, disk));
     }
     match open_store(alloc, disk) {
         Ok((paired, found)) => match Rescue::open(alloc, paired) {
             Ok(rescue) => Ok((rescue, found)),
-            Err((refusal, _)) => Err(refusal),
+            Err((refusal, paired)) => Err((refusal, paired.into_disk())),
         },
-        Err((fault, _)) => Err(refusal_of_disk(fault)),
+        Err((fault, disk)) => Err((refusal_of_disk(fault), disk)),
     }
 }
 

@@ -3,9 +3,9 @@ ghost use Rattle.std.specs.Prelude.{◌≡◌, ◌≢◌, ◌⊎◌, ◌+◌, �
 ghost use Rattle.std.specs.Io.KnownBytes.{Appends};
 ghost use Rattle.std.specs.List.{AllByRecursion, list_all};
 ghost use Rattle.cs_disk.specs.Disk.{seen};
+ghost use Rattle.cs_disk.specs.Reads.{OnlyReads};
 ghost use Rattle.cs_pair.specs.Stores.{dimensions_on};
 ghost use Rattle.cs_salvage.specs.Missing.{AreMissing};
-ghost use Rattle.cs_salvage.specs.Reads.{OnlyReads};
 ghost use Rattle.cs_salvage.specs.Shards.{AreNewest};
 ghost use Rattle.cs_tools.specs.Exports.{IsScript, Shard, is_whole, piece_lines, shard_line};
 ghost use Rattle.cs_tools.specs.Salvages.{AreToldOf, IsSalvaged, IsToldOf, Salvages, Stands};

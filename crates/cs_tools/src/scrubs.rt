@@ -1,8 +1,8 @@
 //! The command `scrub`.
 ghost use Rattle.std.specs.Prelude.{◌≡◌, ◌≢◌, ◌⊎◌, ℕ, List, []};
 ghost use Rattle.cs_chunk.specs.Newest.{AreNewest};
-ghost use Rattle.cs_chunk.specs.Reads.{OnlyReads};
 ghost use Rattle.cs_disk.specs.Disk.{seen};
+ghost use Rattle.cs_disk.specs.Reads.{OnlyReads};
 ghost use Rattle.cs_tools.specs.Pages.{AreWhole, left_damaged};
 ghost use Rattle.cs_tools.specs.Scrubs.{Scrubs};
 ghost use Rattle.cs_tools.specs.declared.outcomes.Outcome.TheVariants.{Damaged, Done, Failed};

@@ -1,7 +1,7 @@
 //! The command `stat`.
 ghost use Rattle.std.specs.Prelude.{◌≡◌, ◌⊎◌, ◌↔◌, ◌<◌, IsTrue, OnOk};
 ghost use Rattle.std.specs.Io.KnownBytes.{Appends};
-ghost use Rattle.cs_chunk.specs.Reads.{OnlyReads};
+ghost use Rattle.cs_disk.specs.Reads.{OnlyReads};
 ghost use Rattle.cs_extent.specs.State.{shape};
 ghost use Rattle.cs_model.specs.Device.{Shape};
 ghost use Rattle.cs_tools.specs.Stats.{BeginsWith, GoesOn, geometry_text, number_text};

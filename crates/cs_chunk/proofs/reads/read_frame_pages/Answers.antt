@@ -7,8 +7,9 @@ use Rattle.cs_frame.specs.Frames.{header_fault, kind_byte, page_count}
 use Rattle.cs_chunk.proofs.Framed.{header_refused, fronts_read}
 use Rattle.cs_chunk.proofs.FrameFaults.{header_refusal}
 use Rattle.cs_chunk.proofs.Lengths.{header_caused}
-use Rattle.cs_chunk.proofs.OnlyRead.{all_fit_in, caused_on, no_fault, read_refusal, reads_on, some_read}
+use Rattle.cs_chunk.proofs.OnlyRead.{all_fit_in, caused_on, no_fault, read_refusal, some_read}
 use Rattle.cs_chunk.proofs.reads.read_frame_pages.Goals as goal
+use Rattle.cs_disk.proofs.OnlyRead.{reads_on}
 
 pub returns-in-Ok-decode_frame_header-clause-disk : goal.returns-in-Ok-decode_frame_header-clause-disk
 returns-in-Ok-decode_frame_header-clause-disk g c = reads_on g.D.PageDisk c.args.disk.now c.read_page.new.disk c.read_pages.new.disk c.read_page.ensures.disk c.read_pages.ensures.disk

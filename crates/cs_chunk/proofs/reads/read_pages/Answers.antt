@@ -1,8 +1,9 @@
 use Rattle.std.proofs.Common.{◌+◌, arith, subst}
 use Rattle.cs_chunk.specs.Newest.{IsReadAs}
 use Rattle.cs_disk.specs.Disk.{State, seen}
-use Rattle.cs_chunk.proofs.OnlyRead.{read_pushed, reads_on}
+use Rattle.cs_chunk.proofs.OnlyRead.{read_pushed}
 use Rattle.cs_chunk.proofs.reads.read_pages.Goals as goal
+use Rattle.cs_disk.proofs.OnlyRead.{reads_on}
 
 pub returns-in-Err-clause-disk : goal.returns-in-Err-clause-disk
 returns-in-Err-clause-disk g c = reads_on g.D.PageDisk c.args.disk.now c.loop-i.disk c.read_page.new.disk c.loop-i.invariant.disk c.read_page.ensures.disk

@@ -1,8 +1,9 @@
 use Rattle.std.proofs.Common.{◌≡◌, ◌≤◌, length, vec_capacity}
 use Rattle.cs_chunk.specs.Newest.{IsReadAs}
-use Rattle.cs_chunk.specs.Reads.{AreReadAs, OnlyReads}
+use Rattle.cs_chunk.specs.Reads.{AreReadAs}
 use Rattle.cs_disk.specs.Disk.{seen}
 use Rattle.cs_chunk.proofs.reads.read_pages.Given as goal
+use Rattle.cs_disk.specs.Reads.{OnlyReads}
 
 abbrev pub invariant-loop-i : goal.invariant-loop-i
 invariant-loop-i g l = record {

@@ -2,12 +2,12 @@ use Rattle.std.proofs.Common.{◌≡◌, ◌<◌, ◌∙◌, [], ℕ, List, ap, 
 use Rattle.std.proofs.lemmas.List.{get_or_default}
 use Rattle.std.proofs.lemmas.Option.{slice_get_within, get_or_from_slice_get}
 use Rattle.cs_chunk.specs.Newest.{AreNewest}
+use Rattle.cs_disk.proofs.OnlyRead.{reads_on}
 use Rattle.cs_disk.specs.Disk.{State, seen}
 use Rattle.cs_extent.specs.State.{shape}
 use Rattle.cs_frame.specs.declared.locators.Locator.{Locator}
 use Rattle.cs_frame.specs.Formats.{formats_of}
 use Rattle.cs_frame.specs.Heads.{body_in}
-use Rattle.cs_chunk.proofs.OnlyRead.{reads_on}
 use Rattle.cs_chunk.proofs.Sharded.{AreInside, all_read, meant_all, one_meant_more, one_more, reads_all, refused_at}
 use Rattle.cs_chunk.proofs.shards.read_chunks.Goals as goal
 use Rattle.cs_chunk.proofs.shards.read_chunks.Goals.{After-chunk_body, After-extent_count, After-read_frame}

@@ -1,10 +1,10 @@
 use Rattle.std.proofs.Common.{ℕ, ◌+◌, ◌∙◌, List, Ok, Err, ap, arith, get_or, subst, sym}
 use Rattle.std.proofs.lemmas.List.{get_or_default}
 use Rattle.cs_chunk.specs.Newest.{AreNewest}
+use Rattle.cs_disk.proofs.OnlyRead.{reads_on}
 use Rattle.cs_disk.specs.Disk.{State, seen}
 use Rattle.cs_frame.specs.declared.locators.Locator.{Locator}
 use Rattle.cs_model.specs.Geometry.{head_bytes_in}
-use Rattle.cs_chunk.proofs.OnlyRead.{reads_on}
 use Rattle.cs_chunk.proofs.Lengths.{all_told, header_refused_at, tells_all, told_more}
 use Rattle.cs_chunk.proofs.shards.read_lengths.Goals as goal
 use Rattle.cs_chunk.proofs.shards.read_lengths.Goals.{After-read_length}

@@ -1,9 +1,9 @@
 use Rattle.std.proofs.Common.{◌*◌, ◌≤◌, ◌^◌, ℕ, List}
 use Rattle.cs_chunk.specs.Newest.{AreNewest}
-use Rattle.cs_chunk.specs.Reads.{OnlyReads}
 use Rattle.cs_disk.specs.Disk.{seen}
 use Rattle.cs_chunk.proofs.Lengths.{AreTold}
 use Rattle.cs_chunk.proofs.shards.read_lengths.Given as goal
+use Rattle.cs_disk.specs.Reads.{OnlyReads}
 
 abbrev pub invariant-loop-k : goal.invariant-loop-k
 invariant-loop-k g l = record {

@@ -1,8 +1,8 @@
 use Rattle.std.proofs.Common.{◌∙◌, ◌⊎◌, ◌<◌, ℕ, List, inl, inr, ap, arith, length, map, refl, subst, sym}
 use Rattle.std.proofs.lemmas.List.{length-map}
-use Rattle.cs_chunk.proofs.OnlyRead.{reads_on}
 use Rattle.cs_chunk.specs.Reads.{IsNoAnswer, IsOfFault}
 use Rattle.cs_deps.specs.declared.refusals.Refusal.TheVariants.{RootLost}
+use Rattle.cs_disk.proofs.OnlyRead.{reads_on}
 use Rattle.cs_disk.specs.Disk.{Image, page, seen}
 use Rattle.cs_extent.proofs.Sections.{geometry_is}
 use Rattle.cs_extent.specs.Sections.{format_of, pages_of, rows_of}
@@ -22,19 +22,19 @@ abbrev records : List Superblock → List ℕ
 records sections = map (λ (it : Superblock). it.recorded) sections
 
 pub read_root-requires-clause-known : goal.read_root-requires-clause-known
-read_root-requires-clause-known g c = subst (λ (f : ℕ). IsKnown f) (sym c.format_of.ensures) (geometry_is c.args.sections.now c.requires.are).known
+read_root-requires-clause-known g c = subst (λ (f : ℕ). IsKnown f) (sym c.format_of_sections.ensures) (geometry_is c.args.sections.now c.requires.are).known
 
 pub read_index-requires-clause-some_root : goal.read_index-requires-clause-some_root
 read_index-requires-clause-some_root g c = (
   c.in-Ok.ensures.some.0,
-  subst (λ (f : ℕ). SpellsRoot c.in-Ok.ensures.some.0 f c.in-Ok.root.version c.in-Ok.root.commands c.in-Ok.root.runs.items) c.format_of.ensures c.in-Ok.ensures.some.1,
+  subst (λ (f : ℕ). SpellsRoot c.in-Ok.ensures.some.0 f c.in-Ok.root.version c.in-Ok.root.commands c.in-Ok.root.runs.items) c.format_of_sections.ensures c.in-Ok.ensures.some.1,
 )
 
 pub read_index-requires-clause-root : goal.read_index-requires-clause-root
 read_index-requires-clause-root g c = λ h.
     let before = c.read_root.ensures.disk.honesty.1 h in
-    subst (λ (f : ℕ). SpellsRoot (page (seen (g.D.PageDisk.state c.read_root.new.disk)) 1) f c.in-Ok.root.version c.in-Ok.root.commands c.in-Ok.root.runs.items) c.format_of.ensures
-    (subst (λ (i : Image). SpellsRoot (page i 1) c.format_of.result c.in-Ok.root.version c.in-Ok.root.commands c.in-Ok.root.runs.items) (sym (ap seen (c.read_root.ensures.disk.same before))) (c.in-Ok.ensures.read before))
+    subst (λ (f : ℕ). SpellsRoot (page (seen (g.D.PageDisk.state c.read_root.new.disk)) 1) f c.in-Ok.root.version c.in-Ok.root.commands c.in-Ok.root.runs.items) c.format_of_sections.ensures
+    (subst (λ (i : Image). SpellsRoot (page i 1) c.format_of_sections.result c.in-Ok.root.version c.in-Ok.root.commands c.in-Ok.root.runs.items) (sym (ap seen (c.read_root.ensures.disk.same before))) (c.in-Ok.ensures.read before))
 
 pub read_index-requires-clause-sized : goal.read_index-requires-clause-sized
 read_index-requires-clause-sized g c = c.read_root.ensures.disk.pages ∙ c.requires.sized
@@ -55,7 +55,7 @@ returns-in-Err-clause-why g c = λ h.
     let sections : List Superblock = c.args.sections.now in
     root_damaged (g.D.PageDisk.page_count c.args.disk.now) (page (seen (g.D.PageDisk.state c.args.disk.now))) (format_of sections) (versions sections) (records sections) (pages_of sections) (rows_of sections) (c.requires.sections h)
     (c.requires.sized ∙ ap (device_pages (format_of sections) (length (rows_of sections)) (pages_of sections)) (sym (length-map sections (λ (it : Superblock). it.version)))) c.in-Err.refusal
-    (subst (λ (f : ℕ). IsNoAnswer c.in-Err.refusal ⊎ IsOfFault (root_fault f (page (seen (g.D.PageDisk.state c.args.disk.now)) 1)) c.in-Err.refusal) c.format_of.ensures (c.in-Err.ensures.fault h))
+    (subst (λ (f : ℕ). IsNoAnswer c.in-Err.refusal ⊎ IsOfFault (root_fault f (page (seen (g.D.PageDisk.state c.args.disk.now)) 1)) c.in-Err.refusal) c.format_of_sections.ensures (c.in-Err.ensures.fault h))
 
 pub returns-clause-disk : goal.returns-clause-disk
 returns-clause-disk g c = reads_on g.D.PageDisk c.args.disk.now c.read_root.new.disk c.read_index.new.disk c.read_root.ensures.disk c.read_index.ensures.disk
@@ -68,7 +68,7 @@ returns-then-is_root_lost-clause-why g c = λ h.
     root_lost (g.D.PageDisk.page_count c.args.disk.now) (page (seen (g.D.PageDisk.state c.args.disk.now))) (format_of sections) (versions sections) (records sections) (pages_of sections) (rows_of sections) (c.requires.sections h)
     (c.requires.sized ∙ ap (device_pages (format_of sections) (length (rows_of sections)) (pages_of sections)) (sym (length-map sections (λ (it : Superblock). it.version)))) RootLost
     root.version root.commands root.runs.items
-    (subst (λ (f : ℕ). SpellsRoot (page (seen (g.D.PageDisk.state c.args.disk.now)) 1) f root.version root.commands root.runs.items) c.format_of.ensures (c.in-Ok.ensures.read h)) refl
+    (subst (λ (f : ℕ). SpellsRoot (page (seen (g.D.PageDisk.state c.args.disk.now)) 1) f root.version root.commands root.runs.items) c.format_of_sections.ensures (c.in-Ok.ensures.read h)) refl
     later.0 (subst (λ (n : ℕ). later.0 < n) (sym (length-map sections (λ (it : Superblock). it.version))) later.1) later.2
 
 pub returns-then-is_root_lost-clause-number : goal.returns-then-is_root_lost-clause-number

@@ -1,5 +1,5 @@
 use Rattle.std.proofs.Common.{◌∙◌, ap, subst, sym}
-use Rattle.cs_chunk.proofs.OnlyRead.{reads_on}
+use Rattle.cs_disk.proofs.OnlyRead.{reads_on}
 use Rattle.cs_disk.specs.Disk.{Image, page, seen}
 use Rattle.cs_frame.specs.FirstFormat.{SpellsPageZero}
 use Rattle.cs_core.proofs.Opening.{first_damaged, other_device, some_made}

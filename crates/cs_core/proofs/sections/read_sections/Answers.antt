@@ -1,11 +1,11 @@
 use Rattle.std.proofs.Common.{◌≡◌, ◌∙◌, ◌⊎◌, ◌+◌, ◌*◌, ◌<◌, ◌≤◌, ◌++◌, ◌∷◌, ℕ, [], ap, arith, length, subst, sym}
-use Rattle.cs_chunk.proofs.OnlyRead.{reads_on}
 use Rattle.cs_chunk.specs.Reads.{IsNoAnswer}
+use Rattle.cs_disk.proofs.OnlyRead.{reads_none, reads_on}
 use Rattle.cs_disk.specs.Disk.{State, page, seen}
 use Rattle.cs_frame.proofs.FirstFormatLaws.{page_zero_fits}
 use Rattle.cs_frame.specs.Superblocks.{SpellsSuperblock}
 use Rattle.cs_core.specs.Openings.{IsWhyNoSection}
-use Rattle.cs_core.proofs.SectionReads.{AreReadTo, all_read, all_sections, all_sized, first_read, more_read, none_more, reads_none}
+use Rattle.cs_core.proofs.SectionReads.{AreReadTo, all_read, all_sections, all_sized, first_read, more_read, none_more}
 use Rattle.cs_core.proofs.sections.read_sections.Goals as goal
 
 pub alone-requires : goal.alone-requires

@@ -1,8 +1,8 @@
 use Rattle.std.proofs.Common.{◌≡◌, ◌≤◌, length, vec_capacity}
-use Rattle.cs_chunk.specs.Reads.{OnlyReads}
 use Rattle.cs_disk.specs.Disk.{page, seen}
 use Rattle.cs_core.proofs.SectionReads.{AreReadTo}
 use Rattle.cs_core.proofs.sections.read_sections.Given as goal
+use Rattle.cs_disk.specs.Reads.{OnlyReads}
 
 abbrev pub invariant-loop-k : goal.invariant-loop-k
 invariant-loop-k g l = record {

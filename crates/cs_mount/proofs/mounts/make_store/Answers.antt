@@ -11,8 +11,7 @@ use Rattle.cs_pair.specs.Stores.{store_pairs, store_version}
 use Rattle.cs_pair.proofs.Blank.{new_shows}
 use Rattle.cs_pair.proofs.Mounting.{shown_behind}
 use Rattle.cs_mount.specs.Looks.{IsTaken}
-use Rattle.cs_mount.proofs.Looking.{free}
-use Rattle.cs_mount.proofs.Refused.{free_fits}
+use Rattle.cs_mount.proofs.Looking.{free, free_fits}
 use Rattle.cs_mount.proofs.mounts.make_store.Goals as goal
 
 pub returns-in-Ok-format-clause-start : goal.returns-in-Ok-format-clause-start

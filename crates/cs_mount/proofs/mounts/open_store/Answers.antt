@@ -1,19 +1,15 @@
-use Rattle.std.proofs.Common.{ap, subst, sym, ⊎_elim, ◌∙◌, ◌≡◌, ◌⊎◌}
+use Rattle.std.proofs.Common.{ap, inr, subst, sym, ⊎_elim, ◌∙◌, ◌≡◌, ◌⊎◌}
 use Rattle.cs_chunk.specs.Reads.{IsNoAnswer}
 use Rattle.cs_core.specs.Openings.{IsWhyNotOpened}
-use Rattle.cs_disk.specs.Disk.{Image, State, flushed, page, seen}
+use Rattle.cs_disk.specs.Disk.{Image, flushed, page, seen}
 use Rattle.cs_frame.specs.Formats.{formats_of}
 use Rattle.cs_frame.specs.Geometries.{section_size}
 use Rattle.cs_model.specs.Geometry.{shape_of}
 use Rattle.cs_model.specs.Recovery.{Recovers}
-use Rattle.cs_disk.proofs.Images.{length-applied}
-use Rattle.cs_pair.specs.Kept.{IsOfStore}
-use Rattle.cs_pair.specs.Pairs.{ArePairs}
 use Rattle.cs_pair.specs.Paired.{left_as_shown, moment_of, state_shown}
 use Rattle.cs_pair.specs.Showing.{shown_on}
 use Rattle.cs_pair.specs.Stores.{dimensions_on, pairs_where, store_version}
 use Rattle.cs_pair.proofs.Mounting.{shows_later}
-use Rattle.cs_mount.proofs.Refused.{refused_shows}
 use Rattle.cs_mount.proofs.Opened.{opened_by}
 use Rattle.cs_mount.proofs.mounts.open_store.Goals as goal
 
@@ -55,21 +51,13 @@ returns-in-Err-open-clause-refusals g c = λ h.
     subst (λ n. IsNoAnswer r ⊎ IsWhyNotOpened n (page (shown_on (D.page_count disk) (seen (D.state disk)))) r) c.in-Ok.ensures.pages
     (subst (λ (image : Image). IsNoAnswer r ⊎ IsWhyNotOpened (D.page_count c.in-Ok.paired.disk) (page image) r) (ap seen (c.in-Ok.ensures.shown h)) (c.in-Err-open.ensures.refusals (c.in-Ok.ensures.honest.0 h)))
 
-pub returns-in-Err-open-clause-kept : goal.returns-in-Err-open-clause-kept
-returns-in-Err-open-clause-kept g c = λ h some.
+pub returns-in-Ok-open-clause-unwritten : goal.returns-in-Ok-open-clause-unwritten
+returns-in-Ok-open-clause-unwritten g c = λ h. c.in-Ok-open.ensures.unwritten (c.in-Ok.ensures.honest.0 h) ∙ ap flushed (c.in-Ok.ensures.state h)
+
+pub returns-in-Err-open-clause-unwritten : goal.returns-in-Err-open-clause-unwritten
+returns-in-Err-open-clause-unwritten g c = λ h.
     let D = g.D.PageDisk in
     let disk = c.args.disk in
-    let n = D.page_count disk in
-    let p = c.in-Ok.paired in
-    let q = c.in-Err-open.paired in
-    let mid = c.in-Ok.ensures.honest.0 h in
-    let size = length-applied (D.state disk).durable (D.state disk).volatile ∙ g.met.D.PageDisk.sized disk h in
-    let fits = subst (λ m. ∥ IsOfStore q.rules.geometry q.pairs.items m (D.state q.disk).durable ∥₁) (c.in-Err-open.ensures.pages ∙ c.in-Ok.ensures.pages) (q.fit (c.in-Err-open.ensures.honest.0 mid)).durable in
-    let shows = refused_shows n (seen (D.state disk)) p.pairs.items size (subst (λ m. ArePairs p.pairs.items m) c.in-Ok.ensures.pages p.apart) (c.in-Ok.ensures.pairs h) q.rules.geometry q.pairs.items (D.state q.disk) (state_shown p) fits
-    (c.in-Ok.ensures.shown h) (c.in-Err-open.ensures.kept mid) some in
-    subst (λ (below : _). shown_on n (seen (D.state below)) ≡ shown_on n (seen (D.state disk))) (sym c.into_disk.ensures) shows
-
-pub returns-in-Err-clause-kept : goal.returns-in-Err-clause-kept
-returns-in-Err-clause-kept g c = λ h some.
-    let D = g.D.PageDisk in
-    ⊎_elim (λ same. ap (λ (s : State). shown_on (D.page_count c.args.disk) (seen s)) same) (λ flush. ap (λ (s : State). shown_on (D.page_count c.args.disk) (seen s)) flush) (c.in-Err.ensures.state h)
+    let once = c.in-Ok.ensures.state h in
+    subst (λ (below : _). (D.state below ≡ D.state disk) ⊎ (D.state below ≡ flushed (D.state disk))) (sym c.into_disk.ensures)
+    (inr (⊎_elim (λ same. same ∙ once) (λ again. again ∙ ap flushed once) (c.in-Err-open.ensures.unwritten (c.in-Ok.ensures.honest.0 h))))

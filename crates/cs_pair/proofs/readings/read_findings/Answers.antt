@@ -1,6 +1,6 @@
 use Rattle.std.proofs.Common.{arith, false, true}
+use Rattle.cs_disk.proofs.OnlyRead.{reads_on}
 use Rattle.cs_pair.proofs.Holding.{found_more, inside_at}
-use Rattle.cs_pair.proofs.OnlyRead.{reads_on}
 use Rattle.cs_pair.proofs.readings.read_findings.Goals as goal
 
 pub read_pair-requires-clause-own : goal.read_pair-requires-clause-own

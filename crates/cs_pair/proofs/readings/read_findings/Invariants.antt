@@ -1,7 +1,7 @@
 use Rattle.std.proofs.Common.{◌≡◌, ◌≤◌, length, map, take, vec_capacity}
 use Rattle.cs_disk.specs.Disk.{seen}
+use Rattle.cs_disk.specs.Reads.{OnlyReads}
 use Rattle.cs_pair.specs.Findings.{finding_in}
-use Rattle.cs_pair.specs.Reads.{OnlyReads}
 use Rattle.cs_pair.proofs.readings.read_findings.Given as goal
 
 abbrev pub invariant-loop-pair : goal.invariant-loop-pair

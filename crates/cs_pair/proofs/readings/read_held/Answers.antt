@@ -1,7 +1,7 @@
 use Rattle.std.proofs.Common.{false, length-set, true, ◌∙◌}
+use Rattle.cs_disk.proofs.OnlyRead.{reads_on}
 use Rattle.cs_disk.specs.Disk.{seen}
 use Rattle.cs_pair.proofs.Holding.{found_held, held_more, inside_at}
-use Rattle.cs_pair.proofs.OnlyRead.{reads_on}
 use Rattle.cs_pair.proofs.readings.read_held.Goals as goal
 
 pub read_pair-requires-clause-own : goal.read_pair-requires-clause-own

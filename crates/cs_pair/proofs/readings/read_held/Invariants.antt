@@ -1,7 +1,7 @@
 use Rattle.std.proofs.Common.{◌≡◌, length, map, take}
 use Rattle.cs_disk.specs.Disk.{seen}
+use Rattle.cs_disk.specs.Reads.{OnlyReads}
 use Rattle.cs_pair.specs.Pairs.{held_in}
-use Rattle.cs_pair.specs.Reads.{OnlyReads}
 use Rattle.cs_pair.proofs.readings.read_held.Given as goal
 
 abbrev pub invariant-loop-k : goal.invariant-loop-k

@@ -1,4 +1,4 @@
-use Rattle.cs_pair.proofs.OnlyRead.{reads_on}
+use Rattle.cs_disk.proofs.OnlyRead.{reads_on}
 use Rattle.cs_pair.proofs.stores.find_geometry.Goals as goal
 
 pub returns-in-Ok-None-clause-disk : goal.returns-in-Ok-None-clause-disk

@@ -1,5 +1,5 @@
 use Rattle.std.proofs.Common.{◌∙◌, List, ap, arith, length, subst, sym}
-use Rattle.cs_chunk.proofs.OnlyRead.{reads_on}
+use Rattle.cs_disk.proofs.OnlyRead.{reads_on}
 use Rattle.cs_disk.specs.Disk.{Image, page, seen}
 use Rattle.cs_extent.specs.Sections.{AreSections, format_of, pages_of, rows_of}
 use Rattle.cs_frame.specs.Geometries.{device_pages}

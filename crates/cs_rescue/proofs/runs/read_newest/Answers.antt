@@ -1,9 +1,8 @@
 use Rattle.std.proofs.Common.{◌≡◌, ◌+◌, ◌-◌, ◌⊎◌, ◌∷◌, List, Some, drop, length, map, refl, subst, sym}
 use Rattle.std.specs.List.{AllByRecursion}
 use Rattle.std.specs.Prelude.{slice_get}
-use Rattle.cs_chunk.proofs.OnlyRead.{reads_on}
 use Rattle.cs_chunk.specs.Reads.{IsNoAnswer}
-use Rattle.cs_core.proofs.SectionReads.{reads_none}
+use Rattle.cs_disk.proofs.OnlyRead.{reads_none, reads_on}
 use Rattle.cs_disk.specs.Disk.{State, page, seen}
 use Rattle.cs_extent.specs.State.{shape}
 use Rattle.cs_frame.specs.declared.locators.Locator.{Locator}

@@ -1,7 +1,7 @@
 use Rattle.std.proofs.Common.{◌≡◌, ◌-◌, drop, length, map}
 use Rattle.std.specs.List.{AllByRecursion}
-use Rattle.cs_chunk.specs.Reads.{OnlyReads}
 use Rattle.cs_disk.specs.Disk.{page, seen}
+use Rattle.cs_disk.specs.Reads.{OnlyReads}
 use Rattle.cs_extent.specs.State.{shape}
 use Rattle.cs_frame.specs.Runs.{IsRun}
 use Rattle.cs_image.specs.Reads.{IsRunRead}

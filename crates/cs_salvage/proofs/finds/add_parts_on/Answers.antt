@@ -1,8 +1,8 @@
 use Rattle.std.proofs.Common.{◌≡◌, ◌+◌, ℕ, arith, subst, sym}
+use Rattle.cs_disk.proofs.OnlyRead.{reads_on}
 use Rattle.cs_disk.specs.Disk.{State, seen}
 use Rattle.cs_salvage.specs.Parts.{ArePartsBefore}
 use Rattle.cs_salvage.proofs.Finding.{next_extent}
-use Rattle.cs_salvage.proofs.OnlyRead.{reads_on}
 use Rattle.cs_salvage.proofs.finds.add_parts_on.Goals as goal
 
 pub loop-page-preserved : goal.loop-page-preserved

@@ -1,8 +1,8 @@
 use Rattle.std.proofs.Common.{All}
 use Rattle.cs_disk.specs.Disk.{seen}
+use Rattle.cs_disk.specs.Reads.{OnlyReads}
 use Rattle.cs_salvage.specs.Frames.{IsOfFrame}
 use Rattle.cs_salvage.specs.Parts.{ArePartsBefore}
-use Rattle.cs_salvage.specs.Reads.{OnlyReads}
 use Rattle.cs_salvage.proofs.finds.add_parts_on.Given as goal
 
 abbrev pub invariant-loop-page : goal.invariant-loop-page

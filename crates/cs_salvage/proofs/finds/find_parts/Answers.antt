@@ -1,11 +1,11 @@
 use Rattle.std.proofs.Common.{All, ◌≡◌, ◌+◌, ℕ, List, arith, subst, sym}
 use Rattle.std.proofs.lemmas.List.Elements.{All-nil}
+use Rattle.cs_disk.proofs.OnlyRead.{reads_none, reads_on}
 use Rattle.cs_disk.specs.Disk.{State, seen}
 use Rattle.cs_salvage.specs.Frames.{IsOfFrame}
 use Rattle.cs_salvage.specs.Parts.{ArePartsBefore}
 use Rattle.cs_salvage.specs.declared.parts.Part.{Part}
 use Rattle.cs_salvage.proofs.Finding.{all_before, none_before}
-use Rattle.cs_salvage.proofs.OnlyRead.{reads_none, reads_on}
 use Rattle.cs_salvage.proofs.finds.find_parts.Goals as goal
 
 pub loop-extent-preserved : goal.loop-extent-preserved

@@ -1,7 +1,7 @@
 use Rattle.std.proofs.Common.{◌≡◌, ◌≤◌, length, vec_capacity}
 use Rattle.cs_disk.specs.Disk.{page, seen}
+use Rattle.cs_disk.specs.Reads.{OnlyReads}
 use Rattle.cs_salvage.specs.Frames.{AreReadAs}
-use Rattle.cs_salvage.specs.Reads.{OnlyReads}
 use Rattle.cs_salvage.proofs.frames.read_pages.Given as goal
 
 abbrev pub invariant-loop-i : goal.invariant-loop-i

@@ -1,11 +1,11 @@
 use Rattle.std.proofs.Common.{◌∙◌, ◌++◌, ◌∷◌, [], ◌<◌, ◌≤◌, List, ℕ, ap, ap₂, arith, get_or, length, subst, sym}
+use Rattle.cs_disk.proofs.OnlyRead.{reads_on}
 use Rattle.cs_disk.specs.Disk.{State, seen}
 use Rattle.cs_frame.specs.Heads.{body_in}
 use Rattle.cs_salvage.specs.Frames.{IsMeant}
 use Rattle.cs_salvage.specs.Parts.{IsPart, formats_in}
 use Rattle.cs_salvage.specs.declared.parts.Part.{Part}
 use Rattle.cs_salvage.proofs.Meaning.{meant_more}
-use Rattle.cs_salvage.proofs.OnlyRead.{reads_on}
 use Rattle.cs_salvage.proofs.Sames.{at_any, no_part}
 use Rattle.cs_salvage.proofs.Zips.{bodies_push, zip_all, zip_at, zip_more}
 use Rattle.cs_salvage.proofs.reads.read_whole.Goals as goal

@@ -1,10 +1,10 @@
 use Rattle.std.proofs.Common.{◌≡◌, ℕ, List, take}
 use Rattle.std.specs.List.{AllZip}
 use Rattle.cs_disk.specs.Disk.{seen}
+use Rattle.cs_disk.specs.Reads.{OnlyReads}
 use Rattle.cs_model.specs.Index.{joined_bodies}
 use Rattle.cs_salvage.specs.Frames.{IsMeant}
 use Rattle.cs_salvage.specs.Parts.{IsPart, formats_in}
-use Rattle.cs_salvage.specs.Reads.{OnlyReads}
 use Rattle.cs_salvage.proofs.reads.read_whole.Given as goal
 
 abbrev pub invariant-loop-part : goal.invariant-loop-part

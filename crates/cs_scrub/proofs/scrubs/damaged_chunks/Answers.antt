@@ -1,7 +1,7 @@
 use Rattle.std.proofs.Common.{[], ℕ, List, get_or, refl, ap, Vec, ◌∙◌}
 use Rattle.std.proofs.lemmas.List.{get_or_default}
 use Rattle.std.specs.declared.alloc.Global.{Global}
-use Rattle.cs_chunk.proofs.OnlyRead.{reads_on}
+use Rattle.cs_disk.proofs.OnlyRead.{reads_on}
 use Rattle.cs_frame.specs.declared.frames.FrameKind.TheVariants as kind
 use Rattle.cs_index.specs.declared.live.LiveChunk.{LiveChunk}
 use Rattle.cs_survey.specs.Chunks.{chunk_of}

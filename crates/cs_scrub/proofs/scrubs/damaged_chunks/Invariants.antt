@@ -1,7 +1,7 @@
 use Rattle.std.proofs.Common.{◌≡◌, ℕ, List, map, take}
 use Rattle.cs_chunk.specs.Newest.{AreNewest}
-use Rattle.cs_chunk.specs.Reads.{OnlyReads}
 use Rattle.cs_disk.specs.Disk.{seen}
+use Rattle.cs_disk.specs.Reads.{OnlyReads}
 use Rattle.cs_survey.specs.Chunks.{chunk_of}
 use Rattle.cs_survey.specs.Failures.{RisesBy}
 use Rattle.cs_scrub.specs.Scrubs.{AreCaused, AreNamed, OfChunk, device_faults}

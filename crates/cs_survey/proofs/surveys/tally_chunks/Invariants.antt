@@ -1,7 +1,7 @@
 use Rattle.std.proofs.Common.{◌≡◌, ℕ, List, length, map, take}
 use Rattle.cs_chunk.specs.Newest.{AreNewest}
-use Rattle.cs_chunk.specs.Reads.{OnlyReads}
 use Rattle.cs_disk.specs.Disk.{seen}
+use Rattle.cs_disk.specs.Reads.{OnlyReads}
 use Rattle.cs_extent.specs.State.{shape}
 use Rattle.cs_survey.specs.Chunks.{chunk_of}
 use Rattle.cs_survey.specs.Uses.{AreRead, AreTallied, Head, heads_of}

@@ -1,5 +1,5 @@
 use Rattle.std.proofs.Common.{List, subst, take_all}
-use Rattle.cs_chunk.proofs.OnlyRead.{reads_on}
+use Rattle.cs_disk.proofs.OnlyRead.{reads_on}
 use Rattle.cs_frame.specs.declared.identifiers.ShardId.{ShardId}
 use Rattle.cs_model.specs.State.{map_now}
 use Rattle.cs_tools.proofs.Exporting.{ArePrinted, all_at, shard_printed, synced}

@@ -1,7 +1,7 @@
 use Rattle.std.specs.Prelude.{◌≡◌, ◌≢◌, []}
 use Rattle.std.specs.List.{AllByRecursion}
-use Rattle.cs_chunk.specs.Reads.{OnlyReads}
 use Rattle.cs_core.specs.Views.{IsIn}
+use Rattle.cs_disk.specs.Reads.{OnlyReads}
 use Rattle.cs_index.specs.State.{id_number, index_of}
 use Rattle.cs_model.specs.Index.{live_at}
 use Rattle.cs_model.specs.State.{State, map_now}

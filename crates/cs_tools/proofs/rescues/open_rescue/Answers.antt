@@ -1,6 +1,6 @@
-use Rattle.std.proofs.Common.{◌∙◌, ◌⊎◌, ℕ, ap, subst}
+use Rattle.std.proofs.Common.{◌∙◌, ◌≡◌, ◌⊎◌, ℕ, ap, inr, subst, sym}
 use Rattle.cs_chunk.specs.Reads.{IsNoAnswer}
-use Rattle.cs_disk.specs.Disk.{Image, page, seen}
+use Rattle.cs_disk.specs.Disk.{Image, flushed, page, seen}
 use Rattle.cs_pair.specs.Paired.{disk_below, state_shown}
 use Rattle.cs_pair.specs.Showing.{shown_on}
 use Rattle.cs_rescue.specs.Rescued.{IsRescued, IsWhyNotRescued}
@@ -22,10 +22,20 @@ returns-in-Ok-open-clause-found g c = λ h.
 pub returns-in-Ok-open-clause-shown : goal.returns-in-Ok-open-clause-shown
 returns-in-Ok-open-clause-shown g c = λ h. c.in-Ok-open.ensures.disk.same (c.in-Ok.ensures.honest.0 h) ∙ c.in-Ok.ensures.shown h
 
-pub returns-in-Ok-clause-why : goal.returns-in-Ok-clause-why
-returns-in-Ok-clause-why g c = λ h.
+pub returns-in-Err-open-clause-why : goal.returns-in-Err-open-clause-why
+returns-in-Err-open-clause-why g c = λ h.
     let D = g.D.PageDisk in
     let disk = c.args.disk in
     let r = c.in-Err-open.refusal in
     subst (λ (n : ℕ). IsNoAnswer r ⊎ IsWhyNotRescued n (page (shown_on (D.page_count disk) (seen (D.state disk)))) r) c.in-Ok.ensures.pages
     (subst (λ (i : Image). IsNoAnswer r ⊎ IsWhyNotRescued (D.page_count (disk_below c.in-Ok.paired)) (page i) r) (ap seen (c.in-Ok.ensures.shown h)) (c.in-Err-open.ensures.why (c.in-Ok.ensures.honest.0 h)))
+
+pub returns-in-Ok-open-clause-unwritten : goal.returns-in-Ok-open-clause-unwritten
+returns-in-Ok-open-clause-unwritten g c = λ h. c.in-Ok-open.ensures.disk.device (c.in-Ok.ensures.honest.0 h) ∙ c.in-Ok.ensures.state h
+
+pub returns-in-Err-open-clause-unwritten : goal.returns-in-Err-open-clause-unwritten
+returns-in-Err-open-clause-unwritten g c = λ h.
+    let D = g.D.PageDisk in
+    let disk = c.args.disk in
+    subst (λ (below : _). (D.state below ≡ D.state disk) ⊎ (D.state below ≡ flushed (D.state disk))) (sym c.into_disk.ensures)
+    (inr (c.in-Err-open.ensures.disk.device (c.in-Ok.ensures.honest.0 h) ∙ c.in-Ok.ensures.state h))

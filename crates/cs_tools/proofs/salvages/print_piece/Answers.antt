@@ -1,4 +1,4 @@
-use Rattle.cs_salvage.proofs.OnlyRead.{reads_on}
+use Rattle.cs_disk.proofs.OnlyRead.{reads_on}
 use Rattle.cs_tools.proofs.Salvaging.{shard_told}
 use Rattle.cs_tools.proofs.salvages.print_piece.Goals as goal
 

@@ -1,7 +1,7 @@
 use Rattle.std.proofs.Common.{List, true, ap, subst, sym, ◌∙◌}
 use Rattle.std.specs.declared.slice.Chunks.{Chunks}
+use Rattle.cs_disk.proofs.OnlyRead.{reads_none, reads_on}
 use Rattle.cs_disk.specs.Disk.{seen}
-use Rattle.cs_salvage.proofs.OnlyRead.{reads_none, reads_on}
 use Rattle.cs_salvage.specs.declared.shards.WholeShard.{WholeShard}
 use Rattle.cs_tools.specs.Salvages.{IsToldOf}
 use Rattle.cs_tools.proofs.Exporting.{IsPrintedUpTo, all_printed, nothing_printed}

@@ -1,7 +1,7 @@
 use Rattle.std.specs.Prelude.{◌≡◌}
 use Rattle.std.specs.List.{AllByRecursion}
 use Rattle.cs_disk.specs.Disk.{seen}
-use Rattle.cs_salvage.specs.Reads.{OnlyReads}
+use Rattle.cs_disk.specs.Reads.{OnlyReads}
 use Rattle.cs_tools.specs.Salvages.{IsToldOf, Stands}
 use Rattle.cs_tools.proofs.Exporting.{IsPrintedUpTo}
 use Rattle.cs_tools.proofs.salvages.print_shards.Given as goal

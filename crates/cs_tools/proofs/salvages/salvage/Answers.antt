@@ -1,13 +1,12 @@
-use Rattle.cs_salvage.proofs.OnlyRead.{reads_on}
-use Rattle.cs_tools.proofs.Salvaging.{read_pairs}
+use Rattle.cs_disk.proofs.OnlyRead.{reads_on}
 use Rattle.cs_tools.proofs.salvages.salvage.Goals as goal
 
 pub returns-in_ok-spelled_by-in-Ok-clause-disk : goal.returns-in_ok-spelled_by-in-Ok-clause-disk
 returns-in_ok-spelled_by-in-Ok-clause-disk g c =
     let disks = g.D.PageDisk in
-    reads_on disks c.args.disk.now c.find_geometry.new.disk c.find_parts.new.disk (read_pairs disks c.args.disk.now c.find_geometry.new.disk c.find_geometry.ensures.disk) c.find_parts.ensures.disk
+    reads_on disks c.args.disk.now c.find_geometry.new.disk c.find_parts.new.disk c.find_geometry.ensures.disk c.find_parts.ensures.disk
 
 pub returns-in-Err-find_parts-clause-disk : goal.returns-in-Err-find_parts-clause-disk
 returns-in-Err-find_parts-clause-disk g c =
     let disks = g.D.PageDisk in
-    reads_on disks c.args.disk.now c.find_geometry.new.disk c.find_parts.new.disk (read_pairs disks c.args.disk.now c.find_geometry.new.disk c.find_geometry.ensures.disk) c.find_parts.ensures.disk
+    reads_on disks c.args.disk.now c.find_geometry.new.disk c.find_parts.new.disk c.find_geometry.ensures.disk c.find_parts.ensures.disk

@@ -5,7 +5,7 @@ use Rattle.cs_pair.specs.declared.places.Place.TheVariants.{OfPair, Own}
 use Rattle.cs_pair.specs.Fitting.{IsFit}
 use Rattle.cs_pair.specs.Noted.{AreNotes, AreRight, IsPlace}
 use Rattle.cs_pair.specs.Pairs.{ArePairs}
-use Rattle.cs_pair.proofs.Fits.{fit_below, fit_own}
+use Rattle.cs_pair.proofs.Fits.{fit_below, fit_own, own_lies, own_may_lie, pair_lies, pair_may_lie}
 use Rattle.cs_pair.proofs.Over.{own_either, own_ok, pair_either, shows_here, time_here, whole_here}
 use Rattle.cs_pair.proofs.Right.{own_right, still_noted, still_right}
 use Rattle.cs_pair.proofs.paired.PairedPageDisk.write.Goals as goal
@@ -115,3 +115,19 @@ returns-in-OfPair-clause-time g c = λ h.
     let right = subst (λ (ps : List Pair). AreRight (g.R.PageRules.version self.rules) ps c.write_newer.new.self (g.D.PageDisk.state disk)) c.deref-in-OfPair.ensures.value (c.write_newer.ensures.right later) in
     time_here (g.R.PageRules.version self.rules) self.pairs.items (g.D.PageDisk.page_count disk) (g.D.PageDisk.state disk) (subst (λ n. ArePairs self.pairs.items n) (sym c.write_newer.ensures.pages) self.apart) (g.met.D.PageDisk.sized disk later) right.newer
     _ _ _ _ (c.write_newer.ensures.time h)
+
+pub returns-then-allows-clause-device_ok : goal.returns-then-allows-clause-device_ok
+returns-then-allows-clause-device_ok g c = λ h. own_lies c.write.result (g.D.PageDisk.state c.args.self.now.disk) (g.D.PageDisk.state c.write.new.self) c.args.number c.args.bytes.now (c.write.ensures.ok h)
+
+pub returns-then-allows-clause-device_fault : goal.returns-then-allows-clause-device_fault
+returns-then-allows-clause-device_fault g c = λ h. own_may_lie (g.D.PageDisk.state c.args.self.now.disk) (g.D.PageDisk.state c.write.new.self) c.args.number c.args.bytes.now (c.write.ensures.fault h)
+
+pub returns-in-OfPair-clause-device_ok : goal.returns-in-OfPair-clause-device_ok
+returns-in-OfPair-clause-device_ok g c = λ h.
+    let at = subst (λ (ps : List Pair). IsPlace ps c.args.number (OfPair c.in-OfPair.k)) (c.deref.ensures.value ∙ sym c.deref-in-OfPair.ensures.value) c.in-OfPair.ensures in
+    pair_lies c.write_newer.result (g.D.PageDisk.state c.args.self.now.disk) (g.D.PageDisk.state c.write_newer.new.disk) at.0 c.args.bytes.now (c.write_newer.ensures.below_ok h at.0 at.1)
+
+pub returns-in-OfPair-clause-device_fault : goal.returns-in-OfPair-clause-device_fault
+returns-in-OfPair-clause-device_fault g c = λ h.
+    let at = subst (λ (ps : List Pair). IsPlace ps c.args.number (OfPair c.in-OfPair.k)) (c.deref.ensures.value ∙ sym c.deref-in-OfPair.ensures.value) c.in-OfPair.ensures in
+    pair_may_lie (g.D.PageDisk.state c.args.self.now.disk) (g.D.PageDisk.state c.write_newer.new.disk) at.0 c.args.bytes.now (c.write_newer.ensures.below h at.0 at.1)

@@ -2,7 +2,7 @@ use Rattle.std.proofs.Common.{◌≡◌, ◌∙◌, List, [], ◌∷◌, Some, a
 use Rattle.std.proofs.lemmas.Option.{same_Some, slice_get_read}
 use Rattle.cs_extent.specs.Sections.{format_of}
 use Rattle.cs_frame.specs.declared.superblocks.Superblock.{Superblock}
-use Rattle.cs_core.proofs.openings.format_of.Goals as goal
+use Rattle.cs_core.proofs.openings.format_of_sections.Goals as goal
 
 of_first : (sections : List Superblock) (it : Superblock) → slice_get sections 0 ≡ Some it → it.format ≡ format_of sections
 of_first [] it at = absurd (cc at)
