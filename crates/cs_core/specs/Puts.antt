@@ -24,8 +24,8 @@ MeansTheSame old new = (id : ℕ) → marks_at new id ≡ marks_at old id
 abbrev pub MeansTheSameBut : (id : ℕ) → (old new : IndexState) → Type 0
 MeansTheSameBut id old new = (d : ℕ) → d ≢ id → marks_at new d ≡ marks_at old d
 
--- What an event makes of what places mean: those of an identifier under which bytes were put mean these bytes, those of one that was deleted
--- are gone, and all others mean what they meant.
+-- What an event makes of what places mean: those of an identifier under which bytes were put mean these bytes, and those of all others mean what
+-- they meant. Of one that was deleted nothing is said.
 abbrev pub ChangesMeaning : (old : Stored) → Event → Reply → (new : Stored) → Type 0
 ChangesMeaning old (Put id bytes) (Accepted n) new = AreMeantBytes new (id_number id) bytes × MeansTheSameBut (id_number id) old.index new.index
 ChangesMeaning old (Delete id) (Accepted n) new = MeansTheSameBut (id_number id) old.index new.index

@@ -65,8 +65,9 @@ const LIST_EXAMPLES: &str = "Examples:
 
 /// What help says after the options of `export`.
 const EXPORT_EXAMPLES: &str = "Example, a copy in another geometry:
-  cs_cli export --file a.store | cs_cli run --file b.store --new --extents 128 --pages 64
+  cs_cli export --file a.store | cs_cli run --file b.store --new --format 3 --extents 128 --pages 256 > answers
 
+The copy is whole where export ended with 0 and no line of answers begins with `refused`: run ends with 0 all the same.
 A shard that can't be read is a remark in the script, `# ID refused N Name`, and the exit status is 5 then. With --salvage shards that were deleted since,
 or never acknowledged, may be in the script.";
 
@@ -88,8 +89,9 @@ root that isn't whole has a line too; its other copy is taken.";
 const RECLAIM_EXAMPLES: &str = "Example:
   cs_cli reclaim --file s.store
 
-It moves what lives on extents of which half or more is dead, so that all their pages can be written anew. Each line tells of an extent, the last one
-how many are empty then and were before.";
+It moves what lives on extents of which half or more is dead, so that all their pages can be written anew. In format 3 it moves what lives on the extent of
+shards with least, as long as that and what lives on another one have room on one. Each line tells of an extent, the last one how many are empty then and
+were before.";
 
 /// What help says after the options of `graph`.
 const GRAPH_EXAMPLES: &str = "Example:

@@ -15,8 +15,8 @@ pub fn a_sweep_can_be_made()
         × (swept.all ≡ all) }
 {}
 
-/// Where less than half of the device lives, but for J + 1 + n extents, and no sweep is unfinished, sweeps of at most n pairs
-/// leave n extents for puts.
+/// Where less than half of the device lives, but for J + 1 + n extents, two extents or more are left beside those, and no sweep is unfinished, sweeps
+/// of at most n pairs leave n extents for puts.
 pub fn two_sweeps_an_extent_are_enough()
     ensures { (S : Shape) (J n : ℕ) (s : Room) → Keeps S J s → 1 ≤ J → s.sweep ≡ None → J + n + 3 ≤ S.extents
         → 2 * all_pages s.chunks < (S.extents - (J + 1 + n)) * (S.pages + 1)
@@ -41,7 +41,7 @@ pub fn pairs_of_sweeps_gain()
 {}
 
 /// Sweeps of chosen extents, two for each of n, leave n extents for puts: each two of them give one, whatever the second one is of. Where less
-/// than half of the device lives, but for J + 1 + n extents, fewer do if none can be chosen after them.
+/// than half of the device lives, but for J + 1 + n extents, and two or more are left beside those, fewer do if none can be chosen after them.
 pub fn chosen_sweeps_gain()
     ensures gain { (S : Shape) (J n : ℕ) (s t : Room) → Keeps S J s → 1 ≤ J → s.sweep ≡ None → ChosenSwept S J (2 * n) s t
         → chunk_extents t S.extents + n + J + 2 ≤ S.extents }

@@ -19,7 +19,7 @@ use cs_disk::PageDisk;
 
 /// A sync and 2n calls of reclaim that sweep leave n extents for puts, with syncs between them or none: of two that follow one another the first or the
 /// second gives an extent, since what it chooses fits behind what the first one copied. Where one finds nothing to sweep before that, n extents are left
-/// already, as long as less than (E - J - 1 - n)(P + 1) / 2 pages of chunks live. All that, where no shard is damaged and none of the disk's calls failed
+/// already, as long as less than (E - J - 1 - n)(P + 1) / 2 pages of chunks live and E - J - 1 - n is 2 or more. All that, where no shard is damaged and none of the disk's calls failed
 /// meanwhile.
 pub fn reclaims_leave_room_for_puts<D: PageDisk>()
     ensures all { (v w : View D) (n : ℕ) → IsRoomyCore D.PageDisk v → NoneWornIn w → IsIdle v → ReclaimsBy D.PageDisk (2 * n) v w

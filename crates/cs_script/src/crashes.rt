@@ -108,7 +108,9 @@ fn reopen<D: CrashDisk + Drop>(
     }
 }
 
-/// The core's disk, after a crash that kept of its volatile writes what the mask says.
+/// The core's disk, after a crash that kept of its volatile writes what the mask says. It isn't inlined, and neither is a line's
+/// run: with all that a script does in one function LLVM's vectorizer takes minutes.
+#[inline(never)]
 fn crashed_disk<D: CrashDisk>(core: Core<D>, mask: &[bool]) -> D
     requires { D.can_crash core.disk × (length mask.now ≡ D.volatile_count core.disk) }
     ensures { IsCrashed D.PageDisk D.can_crash D.volatile_count mask.now core.disk result }

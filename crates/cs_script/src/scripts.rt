@@ -114,6 +114,7 @@ fn without_line_feed(line: &[u8]) -> &[u8]
 }
 
 /// Runs a line. It gives the core and the status with which the script goes on, or what it left behind.
+#[inline(never)]
 fn run_line<D: CrashDisk + Drop, W: Write>(
     alloc: Global,
     core: Core<D>,

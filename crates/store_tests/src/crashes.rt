@@ -31,7 +31,7 @@ fn stops<D: PageDisk>(
         writes_round(rt, core);
     }
     answer(rt, core, &Event::Begin);
-    assert_eq!(rt; members(core), size);
+    assert!(rt; members(core) == size);
     for _ in 0..issued {
         answer(rt, core, &Event::Issue);
     }

@@ -1,5 +1,6 @@
-//! Tests of disks, formats, graphs, plans and their documents, of the parts of a store and of the core, by the public calls of the crates
-//! below alone, one file a subject. Most are scripts: a line each, with what is done or asked, and what is printed then.
+//! Tests of disks, formats, graphs, plans, their documents and pictures, of the parts of a store and of the core, and of what is read of damaged
+//! stores, by the public calls of the crates below alone, one file a subject. Most are scripts: a line each, with what is done or asked, and what is
+//! printed then.
 #![tactic(auto)]
 
 #[cfg(test)]
@@ -12,6 +13,8 @@ mod cores;
 mod crashes;
 #[cfg(test)]
 mod damage;
+#[cfg(test)]
+mod devices;
 #[cfg(test)]
 mod disks;
 #[cfg(test)]
@@ -35,9 +38,15 @@ mod machines;
 #[cfg(test)]
 mod migrations;
 #[cfg(test)]
+mod pictures;
+#[cfg(test)]
 mod plans;
 #[cfg(test)]
+mod rescues;
+#[cfg(test)]
 mod sections;
+#[cfg(test)]
+mod shards;
 #[cfg(test)]
 mod stores;
 #[cfg(test)]

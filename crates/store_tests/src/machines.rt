@@ -171,7 +171,7 @@ pub fn writes_back<D: PageDisk>(rt: &(impl Abort + AllocGlobal), core: &mut Core
         writes_round(rt, core);
     }
     let persistent = core.frontier();
-    assert_eq!(rt; persistent, core.accepted());
+    assert!(rt; persistent == core.accepted());
     persistent
 }
 

@@ -1,6 +1,0 @@
-//! Tests of pictures of plans, by the public calls of `cs_graph` and of the crates below it alone. They stand in a crate of their own because
-//! a crate that has tests is proved twice.
-#![tactic(auto)]
-
-#[cfg(test)]
-mod tests;

@@ -1,3 +1,0 @@
-//! What the program does of itself.
-mod options;
-mod races;

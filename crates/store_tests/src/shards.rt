@@ -1,0 +1,124 @@
+//! What is salvaged of a device.
+use crate::devices::{Device, bytes, damage, id, missing, new_device, parts, put, salvaged};
+use cs_frame::ChunkHead;
+use cs_salvage::{newest_whole, what_stands_is_whole, whole_shards_are_what_was_put};
+use std::process::Abort;
+
+/// The head of a chunk of the shard with this last byte.
+fn head(last: u8, number: u8, count: u8, command: u64) -> ChunkHead {
+    ChunkHead {
+        id: id(last),
+        number,
+        count,
+        command,
+    }
+}
+
+/// Asserts what is salvaged.
+fn gives(rt: &(impl Abort + AllocGlobal), device: &mut Device, wanted: &str) {
+    let text = salvaged(rt, device);
+    assert!(rt; text.as_str() == wanted);
+}
+
+/// A device with two shards: 1 has three chunks, of which the first has two pages, and lies scattered; 2 was put twice, the older put has two
+/// chunks.
+fn two_shards(rt: &(impl Abort + AllocGlobal)) -> Device {
+    let mut device = new_device(rt, 3);
+    put(rt, &mut device, (3, 0), head(1, 0, 3, 7), &[5; 5000]);
+    put(rt, &mut device, (0, 2), head(1, 1, 3, 7), &[6, 6]);
+    put(rt, &mut device, (0, 0), head(1, 2, 3, 7), &[9]);
+    put(rt, &mut device, (1, 0), head(2, 0, 2, 4), &[1]);
+    put(rt, &mut device, (1, 1), head(2, 1, 2, 4), &[2]);
+    put(rt, &mut device, (1, 2), head(2, 0, 1, 6), &[3, 4]);
+    device
+}
+
+#[test]
+fn the_newest_of_each_identifier_is_salvaged(rt: HostRuntime) {
+    let mut device = two_shards(&rt);
+    gives(
+        &rt,
+        &mut device,
+        "1 by 7 3:0 0:2 0:0 5003 bytes 5..9; 2 by 6 1:2 2 bytes 3..4; ",
+    );
+}
+
+#[test]
+fn where_a_part_is_damaged_an_older_put_is_salvaged(rt: HostRuntime) {
+    let mut device = two_shards(&rt);
+    // A bit of the payload's second page, of the header, and of the padding.
+    damage(&rt, &mut device, (3, 1), 7);
+    damage(&rt, &mut device, (1, 2), 3);
+    gives(&rt, &mut device, "2 by 4 1:0 1:1 2 bytes 1..2; ");
+    damage(&rt, &mut device, (1, 1), 4095);
+    gives(&rt, &mut device, "");
+}
+
+#[test]
+fn a_copy_is_the_same_part(rt: HostRuntime) {
+    let mut device = two_shards(&rt);
+    put(&rt, &mut device, (4, 1), head(1, 1, 3, 7), &[6, 6]);
+    damage(&rt, &mut device, (0, 2), 40);
+    gives(
+        &rt,
+        &mut device,
+        "1 by 7 3:0 4:1 0:0 5003 bytes 5..9; 2 by 6 1:2 2 bytes 3..4; ",
+    );
+}
+
+#[test]
+fn two_payloads_of_one_head_are_ambiguous(rt: HostRuntime) {
+    let mut device = two_shards(&rt);
+    put(&rt, &mut device, (4, 1), head(2, 0, 1, 6), &[3, 5]);
+    // The number of chunks differs.
+    put(&rt, &mut device, (4, 2), head(1, 0, 1, 7), &[5]);
+    gives(
+        &rt,
+        &mut device,
+        "2 by 4 1:0 1:1 2 bytes 1..2; ambiguous 1 by 7; ambiguous 2 by 6; ",
+    );
+}
+
+#[test]
+fn a_newest_put_that_is_not_whole_is_missing(rt: HostRuntime) {
+    let mut device = two_shards(&rt);
+    assert!(rt; missing(&rt, &mut device).as_str() == "");
+    // An older put of 2 is whole, and of 2 by 6 there are two payloads.
+    damage(&rt, &mut device, (3, 1), 7);
+    put(&rt, &mut device, (4, 1), head(2, 0, 1, 6), &[3, 5]);
+    assert!(rt; missing(&rt, &mut device).as_str() == "1 by 7; 2 by 6 ambiguous; ");
+    // Of 2 by 6 there is nothing left.
+    damage(&rt, &mut device, (4, 1), 60);
+    damage(&rt, &mut device, (1, 2), 60);
+    assert!(rt; missing(&rt, &mut device).as_str() == "1 by 7; ");
+}
+
+#[test]
+fn heads_that_no_put_writes_are_no_parts(rt: HostRuntime) {
+    let mut device = new_device(&rt, 3);
+    put(&rt, &mut device, (0, 0), head(1, 1, 1, 7), &[5]);
+    put(&rt, &mut device, (0, 1), head(1, 0, 9, 7), &[5]);
+    // It would end on the next extent.
+    put(&rt, &mut device, (1, 2), head(2, 0, 1, 7), &[5; 5000]);
+    assert!(rt; parts(&rt, &mut device).is_empty());
+}
+
+#[test]
+fn an_older_format_has_no_parts(rt: HostRuntime) {
+    let mut device = new_device(&rt, 2);
+    put(&rt, &mut device, (0, 0), head(1, 0, 1, 7), &[5; 100]);
+    assert!(rt; parts(&rt, &mut device).is_empty());
+}
+
+#[test]
+fn a_part_that_is_written_over_is_gone(rt: HostRuntime) {
+    let mut device = two_shards(&rt);
+    let found = parts(&rt, &mut device);
+    put(&rt, &mut device, (1, 2), head(2, 0, 1, 6), &[3, 5]);
+    for shard in &newest_whole(rt.alloc(), &found).expect(&rt, "memory") {
+        let is_there = bytes(&rt, &mut device, shard).is_some();
+        assert!(rt; is_there == (shard.put.id == id(1)));
+    }
+    whole_shards_are_what_was_put();
+    what_stands_is_whole();
+}
