@@ -15,6 +15,7 @@ use cs_frame::{Geometry, Root, Superblock, encode_root, encode_superblock};
 use cs_index::Index;
 use cs_reclaim::Copies;
 use std::alloc::{AllocError, Global};
+use std::mem;
 
 /// A section of a new store's superblock.
 fn new_section(alloc: Global, geometry: Geometry, section: u8) -> Result<Superblock, AllocError>
@@ -204,7 +205,12 @@ pub fn start_store<D: PageDisk>(
     let store = new_store(alloc, geometry, &sections)?;
     match write_heads(alloc, disk, geometry, &sections) {
         Ok(()) => Ok(store),
-        Err(DiskFault::DeviceFault) => Err(Refusal::DeviceFault),
-        Err(DiskFault::OutOfMemory) => Err(Refusal::OutOfMemory),
+        Err(fault) => {
+            mem::drop(store);
+            match fault {
+                DiskFault::DeviceFault => Err(Refusal::DeviceFault),
+                DiskFault::OutOfMemory => Err(Refusal::OutOfMemory),
+            }
+        }
     }
 }

@@ -27,6 +27,7 @@ use slab::Slab;
 use std::alloc::{AllocError, Global};
 use std::collections::HashMap;
 use std::marker::Model;
+use std::mem;
 
 /// What is persistent, what waits with its needs and its page write, and the round that is out.
 ///
@@ -140,9 +141,11 @@ impl Graph {
         ensures room { self.old.room ≤ self.new.room + 1 }
     {
         if !self.is_staged(&needs) {
+            mem::drop(needs);
             return Err(Refusal::UnknownNeed);
         }
         if self.staged >= LAST_NUMBER {
+            mem::drop(needs);
             return Err(Refusal::WornOut);
         }
         match make_room(
@@ -170,7 +173,10 @@ impl Graph {
                 self.staged = number;
                 Ok(number)
             }
-            Err(_) => Err(Refusal::OutOfMemory),
+            Err(_) => {
+                mem::drop(needs);
+                Err(Refusal::OutOfMemory)
+            }
         }
     }
 
@@ -202,13 +208,16 @@ impl Graph {
         ensures room { self.old.room ≤ self.new.room + 1 }
     {
         if !self.is_staged(&needs) {
+            mem::drop(needs);
             return Err(Refusal::UnknownNeed);
         }
         if needs.names_family(family) {
+            mem::drop(needs);
             return Err(Refusal::OwnFamily);
         }
         let before = self.latest[family];
         if before >= LAST_NUMBER {
+            mem::drop(needs);
             return Err(Refusal::WornOut);
         }
         match make_room(
@@ -238,7 +247,10 @@ impl Graph {
                 self.latest[family] = version;
                 Ok(version)
             }
-            Err(_) => Err(Refusal::OutOfMemory),
+            Err(_) => {
+                mem::drop(needs);
+                Err(Refusal::OutOfMemory)
+            }
         }
     }
 

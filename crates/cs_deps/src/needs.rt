@@ -1,5 +1,6 @@
 //! Needs as a graph keeps them.
-ghost use Rattle.std.specs.Prelude.{◌≡◌, [], ◌∷◌, IfOk, IfSome, IsTrue};
+ghost use Rattle.std.specs.Prelude.{◌≡◌, [], ◌∷◌, IfOk, IfSome, IsTrue, OnOk};
+ghost use Rattle.cs_deps.specs.Entries.{union};
 ghost use Rattle.cs_deps.specs.Needs.{named_by};
 ghost use Rattle.cs_deps.specs.Spent.{is_foldable};
 
@@ -135,6 +136,14 @@ impl Needs {
             ),
             Held::Many(all) => all.copy(),
         }
+    }
+
+    /// Adds what it names to a dependency.
+    pub fn join_into(&self, alloc: Global, all: &mut Dependency) -> Result<(), AllocError>
+        ensures { OnOk result (all.new ≡ union all.old self.now) }
+    {
+        let own = self.copy(alloc)?;
+        all.join(&own)
     }
 
     /// Whether it lists no span, and names versions of the first 16 families alone.

@@ -50,8 +50,7 @@ fn carried(
     for k in 0..entries.len() {
         let entry = &entries[k];
         if is_spent(entry, family, version) {
-            let own = entry.1.copy(alloc)?;
-            all.join(&own)?;
+            entry.1.join_into(alloc, &mut all)?;
         }
     }
     Ok(all)

@@ -7,8 +7,6 @@ mod accounting;
 mod accounts;
 mod numbers;
 mod stretches;
-#[cfg(test)]
-mod tests;
 
 pub use accounting::account;
 pub use accounts::Account;

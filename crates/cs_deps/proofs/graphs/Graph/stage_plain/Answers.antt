@@ -1,4 +1,4 @@
-use Rattle.std.proofs.Common.{◌∙◌, ◌+◌, ◌<◌, List, sym, ap, subst, arith}
+use Rattle.std.proofs.Common.{◌+◌, ◌<◌, List, sym, ap, subst, arith}
 use Rattle.std.proofs.Math.Nat.{le-max_right}
 use Rattle.std.specs.Prelude.{◌-◌}
 use Rattle.cs_deps.specs.contracts.graphs.Graph.{the_invariant}
@@ -11,7 +11,7 @@ use Rattle.cs_deps.proofs.Added.{TakesOne, IsAdded}
 use Rattle.cs_deps.proofs.Held.{MayBeAdded, high_enough}
 use Rattle.cs_deps.proofs.PlainAdded.{plain_added}
 use Rattle.cs_deps.proofs.Roomy.{IsRoomy, view_roomy, held_roomy, still_fits}
-use Rattle.cs_deps.proofs.graphs.Graph.stage_plain.Goals.{After-make_room, After-top-best, After-push_plain, in-Heap-6, in-Inline-6}
+use Rattle.cs_deps.proofs.graphs.Graph.stage_plain.Goals.{After-make_room, After-top-best, After-push_plain}
 use Rattle.cs_deps.proofs.graphs.Graph.stage_plain.Goals as goal
 
 -- the graph with the room that was made
@@ -79,11 +79,7 @@ returns-in-Ok-clause-others c = let at = goal.at.returns-in-Ok-clause-others c i
 pub invariant_of-self-in-Err : goal.invariant_of-self-in-Err
 invariant_of-self-in-Err c = still_held (goal.at.invariant_of-self-in-Err c).After-make_room
 
-pub invariant_of-self-in-Err-2 : goal.invariant_of-self-in-Err-2
-invariant_of-self-in-Err-2 c = still_held (goal.at.invariant_of-self-in-Err-2 c).After-make_room
-
 pub returns-in-Err-clause-refused : goal.returns-in-Err-clause-refused
 returns-in-Err-clause-refused c =
     let at = (goal.at.returns-in-Err-clause-refused c).After-make_room in
-    let same = view_roomy c.self.inside c.self.invariant (with_room at) (roomy at) in
-    rw (← c.self.view_is) (elim c.match-needs-6.branch [ in-Heap-6 w ↦ w.self-is ∙ same | in-Inline-6 w ↦ w.self-is ∙ same ])
+    rw (← c.self.view_is) (view_roomy c.self.inside c.self.invariant (with_room at) (roomy at))

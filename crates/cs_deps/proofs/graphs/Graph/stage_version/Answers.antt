@@ -14,7 +14,7 @@ use Rattle.cs_deps.proofs.Entries.{joined_next, next_needs}
 use Rattle.cs_deps.proofs.Held.{MayBeAdded, high_enough}
 use Rattle.cs_deps.proofs.Roomy.{IsRoomy, live_in, view_roomy, held_roomy, still_fits}
 use Rattle.cs_deps.proofs.VersionAdded.{next_in_range, version_added}
-use Rattle.cs_deps.proofs.graphs.Graph.stage_version.Goals.{After-index-before, After-make_room, After-top-best, After-next_of-kept, After-push_version, in-Heap-8, in-Inline-8}
+use Rattle.cs_deps.proofs.graphs.Graph.stage_version.Goals.{After-index-before, After-make_room, After-top-best, After-next_of-kept, After-push_version}
 use Rattle.cs_deps.proofs.graphs.Graph.stage_version.Goals as goal
 
 -- the version before the new one
@@ -111,9 +111,6 @@ still_held c =
 pub invariant_of-self-in-Err : goal.invariant_of-self-in-Err
 invariant_of-self-in-Err c = still_held (goal.at.invariant_of-self-in-Err c).After-make_room
 
-pub invariant_of-self-in-Err-2 : goal.invariant_of-self-in-Err-2
-invariant_of-self-in-Err-2 c = still_held (goal.at.invariant_of-self-in-Err-2 c).After-make_room
-
 pub returns-then-before-ge-LAST_NUMBER-clause-worn : goal.returns-then-before-ge-LAST_NUMBER-clause-worn
 returns-then-before-ge-LAST_NUMBER-clause-worn c =
     let says = rw (← c.self.view_is) at c.is_staged.ensures in
@@ -135,5 +132,4 @@ returns-in-Err-clause-own c = ((λ e. absurd (cc e)), (λ h. absurd (cc (c.names
 pub returns-in-Err-clause-refused : goal.returns-in-Err-clause-refused
 returns-in-Err-clause-refused c =
     let at = (goal.at.returns-in-Err-clause-refused c).After-make_room in
-    let same = view_roomy c.self.inside c.self.invariant (with_room at) (roomy at) in
-    rw (← c.self.view_is) (elim c.match-needs-8.branch [ in-Heap-8 w ↦ w.self-is ∙ same | in-Inline-8 w ↦ w.self-is ∙ same ])
+    rw (← c.self.view_is) (view_roomy c.self.inside c.self.invariant (with_room at) (roomy at))

@@ -1,6 +1,6 @@
 //! What no contract says: that calls succeed where memory is ample, that numbers which follow one another take one stretch, and worked
 //! examples of accounts.
-use super::*;
+use cs_numbers::{Account, Numbers, Stretch, account};
 use std::alloc::{AllocError, Global};
 use std::test::Fail;
 
