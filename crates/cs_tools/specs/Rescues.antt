@@ -3,6 +3,7 @@ use Rattle.std.specs.Prelude.{◌≡◌, ℕ, List, Option}
 use Rattle.std.specs.Io.KnownBytes.{Appends}
 use Rattle.cs_rescue.specs.Answers.{AreMeantBytes, AreReadBytes, IsAbsent, IsUnknown, IsWhyNoChunks, places_of}
 use Rattle.cs_rescue.specs.Founds.{Found}
+use Rattle.cs_tools.specs.Outcomes.{status_of}
 use Rattle.cs_tools.specs.declared.outcomes.Outcome.TheVariants.{Absent, Damaged, Done, Failed, NoStore, Refused, Unread}
 use Rattle.cs_tools.specs.declared.rescues.Got.{Got}
 use Rattle.cs_tools.specs.declared.rescues.Got.TheVariants.{Ended, RunLost}
@@ -18,3 +19,8 @@ Rescues f view id before after (Ended Damaged) = ⊥
 Rescues f view id before after (Ended (Refused r)) = ⊥
 Rescues f view id before after (Ended (NoStore r)) = ⊥
 Rescues f view id before after RunLost = IsUnknown f id × (after ≡ before)
+
+-- the exit status of each
+abbrev pub status_of_got : Got → ℕ
+status_of_got (Ended outcome) = status_of outcome
+status_of_got RunLost = 5

@@ -15,7 +15,7 @@ ghost use Rattle.cs_rescue.specs.Answers.{IsAbsent, IsUnknown};
 ghost use Rattle.cs_rescue.specs.Rescued.{IsRescued, IsWhyNotRescued};
 ghost use Rattle.cs_survey.specs.Listings.{AreFirst};
 ghost use Rattle.cs_tools.specs.Outputs.{id_line};
-ghost use Rattle.cs_tools.specs.Rescues.{Rescues};
+ghost use Rattle.cs_tools.specs.Rescues.{Rescues, status_of_got};
 ghost use Rattle.cs_tools.specs.declared.outcomes.Outcome.TheVariants.{Absent, Damaged, Done, Failed, Refused};
 ghost use Rattle.cs_tools.specs.declared.rescues.Got.TheVariants.{Ended, RunLost};
 
@@ -134,7 +134,8 @@ pub fn list_rescued<D: PageDisk, W: Write>(
 
 /// Tells on standard error why a get ended as it did, where it was refused, and what to do; and gives the exit status.
 pub fn explain_got<R: Eprint>(rt: &R, got: Got) -> u8
-    ensures { result ≤ 5 }
+    ensures status { result ≡ status_of_got got }
+    ensures most { result ≤ 5 }
 {
     match got {
         Got::Ended(outcome) => explain(rt, outcome),

@@ -1,7 +1,8 @@
 //! The command `export` over the frames of a device alone.
-ghost use Rattle.std.specs.Prelude.{◌≡◌, ◌≢◌, ◌⊎◌, ◌+◌, ◌*◌, ◌≤◌, ℕ, IfErr, IfOk, List, [], Some, true, false};
+ghost use Rattle.std.specs.Prelude.{◌≡◌, ◌≢◌, ◌⊎◌, ◌+◌, ◌*◌, ◌<◌, ◌≤◌, ℕ, Err, IfErr, IfOk, List, [], None, Some, true, false};
 ghost use Rattle.std.specs.Io.KnownBytes.{Appends};
 ghost use Rattle.std.specs.List.{AllByRecursion, list_all};
+ghost use Rattle.cs_chunk.specs.Reads.{IsCaused};
 ghost use Rattle.cs_disk.specs.Disk.{seen};
 ghost use Rattle.cs_disk.specs.Reads.{OnlyReads};
 ghost use Rattle.cs_pair.specs.Stores.{dimensions_on};
@@ -58,6 +59,10 @@ pub fn salvage<D: PageDisk>(alloc: Global, disk: &mut D) -> Result<Salvaged, Ref
     ensures geometry { D.honest disk.old → IfOk result (λ found. dimensions_on (D.page_count disk.old) (seen (D.state disk.old)) ≡ Some found.geometry) }
     ensures room { IfOk result (λ found. 2 + found.geometry.extents * found.geometry.pages ≤ D.page_count disk.new) }
     ensures refusals { IfErr result (λ r. (r ≡ Refusal.NotAStore) ⊎ (r ≡ Refusal.DeviceFault) ⊎ (r ≡ Refusal.OutOfMemory)) }
+    // Of a device of fewer pages it is said at once that it has no store, and of another one only where it has none.
+    ensures small { D.page_count disk.old < 10 → result ≡ Err Refusal.NotAStore }
+    ensures no_store { D.honest disk.old → 10 ≤ D.page_count disk.old → result ≡ Err Refusal.NotAStore → dimensions_on (D.page_count disk.old) (seen (D.state disk.old)) ≡ None }
+    ensures cause { IsCaused (D.failure_count disk.old) (D.failure_count disk.new) result }
     ensures disk { OnlyReads D.PageDisk disk.old disk.new }
 {
     if disk.pages() < 10 {
