@@ -214,7 +214,10 @@ fn in_older_file<R: AllocGlobal + Files<File = File> + Eprint>(
             warn_of_older(rt);
             Ok(core)
         }
-        Err(refusal) => Err(refusal),
+        Err(refusal) => {
+            warn_of_file(rt, path);
+            Err(refusal)
+        }
     }
 }
 
