@@ -1,13 +1,14 @@
 //! The command `reclaim`.
-ghost use Rattle.std.specs.Prelude.{◌≡◌, ◌⊎◌, ◌<◌, ◌↔◌, IfOk, IfSome, IsOk, MatchBool, OnOk, Some, length};
+ghost use Rattle.std.specs.Prelude.{◌≡◌, ◌⊎◌, ◌<◌, ◌↔◌, Err, IfErr, IfOk, IfSome, IsOk, MatchBool, OnOk, Some, length};
 ghost use Rattle.cs_deps.specs.declared.refusals.Refusal.{Refusal as Why};
 ghost use Rattle.cs_index.specs.State.{id_number};
 ghost use Rattle.cs_model.specs.Element.{Bytes as Held, Map};
 ghost use Rattle.cs_store.specs.Maps.{HasMap};
 ghost use Rattle.cs_store.specs.Reclaims.{ReadsOn};
 ghost use Rattle.cs_tools.specs.Changes.{LeavesPrefixAt, LeavesPrefixBetween};
-ghost use Rattle.cs_tools.specs.Reclaims.{IsPersistent, Tidies};
+ghost use Rattle.cs_tools.specs.Reclaims.{IsPersistent, MayRefuseReclaim, MayStop, Tidies};
 ghost use Rattle.cs_tools.specs.declared.outcomes.Outcome.TheVariants.{Done, Failed, Refused};
+ghost use Rattle.cs_tools.specs.declared.reclaims.Stop.TheVariants.{Failed as StopFailed, Refused as StopRefused};
 
 use crate::outcomes::Outcome;
 use crate::outputs::Style;
@@ -53,6 +54,8 @@ pub fn reclaim<D: PageDisk, W: Write>(
     writer: &mut W,
 ) -> Outcome
     ensures ends { (result ≡ Done) ⊎ ((r : Why) × (result ≡ Refused r)) ⊎ (result ≡ Failed) }
+    // It is refused as a sweep or a sync may be, or for want of memory.
+    ensures refusals { (r : Why) → result ≡ Refused r → MayRefuseReclaim r }
     // Where it ends well all is persistent, or nothing was worth it and nothing but reads was done.
     ensures kept { D.honest core.old.disk → result ≡ Done → IsPersistent core.new ⊎ ReadsOn D.PageDisk core.old core.new }
     ensures map { D.honest core.old.disk → (m : Map) → HasMap core.old m → HasMap core.new m }
@@ -73,6 +76,7 @@ pub fn reclaim<D: PageDisk, W: Write>(
 /// How it ended.
 fn outcome_of(ended: Result<(), Stop>) -> Outcome
     ensures done { result ≡ Done → IsOk ended }
+    ensures refused { (r : Why) → result ≡ Refused r → ended ≡ Err (StopRefused r) }
     ensures ends { (result ≡ Done) ⊎ ((r : Why) × (result ≡ Refused r)) ⊎ (result ≡ Failed) }
 {
     match ended {
@@ -90,6 +94,7 @@ fn reclaim_and_print<D: PageDisk, W: Write>(
     writer: &mut W,
 ) -> Result<(), Stop>
     ensures kept { D.honest core.old.disk → OnOk result (IsPersistent core.new ⊎ ReadsOn D.PageDisk core.old core.new) }
+    ensures refusals { IfErr result MayStop }
     ensures tidies { Tidies D.PageDisk core.old core.new }
 {
     let before = core.extents().empty_count();
@@ -106,6 +111,7 @@ fn empty_by_rule<D: PageDisk, W: Write>(
     writer: &mut W,
 ) -> Result<(), Stop>
     ensures kept { D.honest core.old.disk → OnOk result (IsPersistent core.new ⊎ ReadsOn D.PageDisk core.old core.new) }
+    ensures refusals { IfErr result MayStop }
     ensures tidies { Tidies D.PageDisk core.old core.new }
 {
     if core.extents().is_apart() {
@@ -122,6 +128,7 @@ fn empty_together<D: PageDisk, W: Write>(
     writer: &mut W,
 ) -> Result<(), Stop>
     ensures kept { D.honest core.old.disk → OnOk result (IsPersistent core.new ⊎ ReadsOn D.PageDisk core.old core.new) }
+    ensures refusals { IfErr result MayStop }
     ensures tidies { Tidies D.PageDisk core.old core.new }
 {
     // Called for its contract alone: what a crash leaves now.
@@ -146,6 +153,7 @@ fn empty_apart<D: PageDisk, W: Write>(
     writer: &mut W,
 ) -> Result<(), Stop>
     ensures kept { D.honest core.old.disk → OnOk result (IsPersistent core.new ⊎ ReadsOn D.PageDisk core.old core.new) }
+    ensures refusals { IfErr result MayStop }
     ensures tidies { Tidies D.PageDisk core.old core.new }
 {
     let most = core.extents().extent_count().saturating_mul(2);
@@ -167,6 +175,7 @@ fn empty_next<D: PageDisk, W: Write>(
     writer: &mut W,
 ) -> Result<bool, Stop>
     ensures rests { D.honest core.old.disk → IfOk result (λ more. MatchBool more (IsPersistent core.new) (ReadsOn D.PageDisk core.old core.new)) }
+    ensures refusals { IfErr result MayStop }
     ensures tidies { Tidies D.PageDisk core.old core.new }
 {
     // Called for its contract alone: what a crash leaves now.
@@ -199,6 +208,7 @@ fn empty_one<D: PageDisk, W: Write>(
     writer: &mut W,
 ) -> Result<(), Stop>
     ensures rests { D.honest core.old.disk → OnOk result (IsPersistent core.new) }
+    ensures refusals { IfErr result MayStop }
     ensures tidies { Tidies D.PageDisk core.old core.new }
 {
     let moved = sweep_and_sync(core, extent)?;
@@ -228,6 +238,7 @@ fn empty_all<D: PageDisk, W: Write>(
     writer: &mut W,
 ) -> Result<usize, Stop>
     ensures rests { D.honest core.old.disk → IfOk result (λ count. ((count ≡ 0) × (core.new ≡ core.old)) ⊎ ((0 < count) × IsPersistent core.new)) }
+    ensures refusals { IfErr result MayStop }
     ensures tidies { Tidies D.PageDisk core.old core.new }
 {
     let mut count: usize = 0;
@@ -247,6 +258,7 @@ fn empty_all<D: PageDisk, W: Write>(
 /// there is no shard that can be put again nothing is done.
 fn put_again<D: PageDisk>(alloc: Global, core: &mut Core<D>) -> Result<(), Stop>
     ensures rests { D.honest core.old.disk → IsPersistent core.old → OnOk result (IsPersistent core.new) }
+    ensures refusals { IfErr result MayStop }
     ensures tidies { Tidies D.PageDisk core.old core.new }
 {
     let Some((id, bytes)) = first_shard(alloc, core) else {
@@ -293,6 +305,7 @@ fn with_bytes(alloc: Global, id: ShardId, bytes: Vec<u8>) -> Option<(ShardId, By
 /// Makes all persistent.
 fn sync_all<D: PageDisk>(core: &mut Core<D>) -> Result<(), Stop>
     ensures rests { D.honest core.old.disk → OnOk result (IsPersistent core.new) }
+    ensures refusals { IfErr result MayStop }
     ensures tidies { Tidies D.PageDisk core.old core.new }
 {
     match sync(core) {
@@ -320,6 +333,7 @@ fn worth_emptying(uses: &[ExtentUse], pages: usize) -> Option<usize>
 /// Sweeps an extent, makes that persistent, and gives how many chunks were moved. Lets go of the history before, where it is long.
 fn sweep_and_sync<D: PageDisk>(core: &mut Core<D>, extent: usize) -> Result<usize, Stop>
     ensures rests { D.honest core.old.disk → OnOk result (IsPersistent core.new) }
+    ensures refusals { IfErr result MayStop }
     ensures tidies { Tidies D.PageDisk core.old core.new }
 {
     make_room(core);
@@ -332,7 +346,9 @@ fn sweep_and_sync<D: PageDisk>(core: &mut Core<D>, extent: usize) -> Result<usiz
 }
 
 /// A line was printed, or the writer failed.
-fn printed(line: io::Result<()>) -> Result<(), Stop> {
+fn printed(line: io::Result<()>) -> Result<(), Stop>
+    ensures { IfErr result (λ stop. stop ≡ StopFailed) }
+{
     match line {
         Ok(()) => Ok(()),
         Err(_) => Err(Stop::Failed),
