@@ -6,7 +6,7 @@ use crate::tools::style_of;
 use clap::ArgMatches;
 use cs_frame::Geometry;
 use cs_options::{Measure, geometry_of, measure_of};
-use cs_script::{new_in_file, statuses};
+use cs_script::new_in_file;
 use cs_tools::{Load, Outcome, Style, bench, explain};
 use std::fs::{self, File};
 use std::io;
@@ -26,19 +26,19 @@ pub fn bench_in_file<R: AllocGlobal + Clock + Files<File = File> + Print + Eprin
         let _ = eprintln!(rt;
             "error: calls are 1 to 100,000, batch 1 to 10,000, and bytes at most 8,388,280"
         );
-        return statuses::COMMAND_LINE;
+        return cs_status::COMMAND_LINE;
     };
     let Ok(geometry) = geometry_of(options) else {
         let _ = eprintln!(rt;
             "error: a store has 4 to 2,048 extents of 2 to 256 pages, or in format 3 5 to 7,680 of 2 to 65,535"
         );
-        return statuses::COMMAND_LINE;
+        return cs_status::COMMAND_LINE;
     };
     match fs::exists(rt, path) {
         Ok(false) => {}
         _ => {
             let _ = eprintln!(rt; "error: {path} is there already; name a file that isn't");
-            return statuses::COMMAND_LINE;
+            return cs_status::COMMAND_LINE;
         }
     }
     let style = style_of(options.get_flag("json"));

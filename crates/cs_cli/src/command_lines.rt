@@ -13,7 +13,7 @@ use cs_options::{command, geometry_of, race_of};
 use cs_race::{new_core as new_race_core, run_race};
 use cs_script::{
     new_in_file, new_in_memory, open_in_file, open_older_in_file, print_no_store, run_check,
-    run_over, statuses,
+    run_over,
 };
 use std::alloc::Global;
 use std::fs::File;
@@ -45,7 +45,7 @@ where
         Ok(words) => run_words(rt, &words, terminal),
         Err(error) => {
             let _ = eprintln!(rt; "{error}");
-            statuses::COMMAND_LINE
+            cs_status::COMMAND_LINE
         }
     }
 }
@@ -69,7 +69,7 @@ where
 {
     let Ok(command) = command(rt.alloc()) else {
         let _ = eprintln!(rt; "out of memory");
-        return statuses::COMMAND_LINE;
+        return cs_status::COMMAND_LINE;
     };
     match command.try_get_matches_from(words) {
         Ok(matches) => run_matches(rt, &matches, terminal),
@@ -82,9 +82,9 @@ fn print_error<R: Print + Eprint>(rt: &R, error: &clap::Error) -> u8
     ensures { result ≤ 4 }
 {
     match error.print(rt) {
-        Ok(()) if error.use_stderr() => statuses::COMMAND_LINE,
-        Ok(()) => statuses::DONE,
-        Err(_) => statuses::STREAM,
+        Ok(()) if error.use_stderr() => cs_status::COMMAND_LINE,
+        Ok(()) => cs_status::DONE,
+        Err(_) => cs_status::STREAM,
     }
 }
 
@@ -239,7 +239,7 @@ fn race_threads<R: AllocGlobal + Print + Eprint + Threads + Wait + Sync>(
 {
     let Some(race) = race_of(options) else {
         let _ = eprintln!(rt; "error: threads are 1 to 64, puts 0 to 1,000, and drop at most puts");
-        return statuses::COMMAND_LINE;
+        return cs_status::COMMAND_LINE;
     };
     let mut writer = io::writer(rt);
     match new_race_core(rt.alloc()) {

@@ -11,9 +11,9 @@ use cs_disk::{FileDisk, OpenFault};
 use cs_frame::ShardId;
 use cs_mount::{Finding, Mounted, mend};
 use cs_options::{Listing, id_of, listing_of};
-use cs_rescue::Rescue;
+use cs_tools::rescue::Rescue;
 use cs_script::open_in_file;
-use cs_store::LIMITS;
+use cs_tools::store::LIMITS;
 use cs_tools::{
     Outcome, explain_got, export_salvaged, get_rescued, list_rescued, open_rescue, salvage,
 };

@@ -12,8 +12,8 @@ use cs_disk::PageDisk;
 use cs_frame::ShardId;
 use cs_mount::Finding;
 use cs_options::{Listing, id_of, listing_of};
-use cs_script::{open_in_file, open_older_in_file, statuses};
-use cs_store::{LIMITS, Store};
+use cs_script::{open_in_file, open_older_in_file};
+use cs_tools::store::{LIMITS, Store};
 use cs_tools::{
     Outcome, Progress, Style, delete, explain, export, get, graph, list, put, reclaim, scrub, stat,
 };
@@ -55,13 +55,13 @@ where
     ensures { result ≤ 5 }
 {
     let Some((name, options)) = matches.subcommand() else {
-        return statuses::COMMAND_LINE;
+        return cs_status::COMMAND_LINE;
     };
     if name == "graph" {
         return explain(rt, graph_buffered(rt));
     }
     let Some(path) = options.get_str("file") else {
-        return statuses::COMMAND_LINE;
+        return cs_status::COMMAND_LINE;
     };
     if name == "bench" {
         bench_in_file(rt, path, options, terminal)
@@ -131,7 +131,7 @@ fn tell_no_repair<R: Eprint>(rt: &R) -> u8
     let _ = eprintln!(rt;
         "error: --repair writes to the file, and with --as-of nothing is written"
     );
-    statuses::COMMAND_LINE
+    cs_status::COMMAND_LINE
 }
 
 /// Tells that a word is no identifier, and gives the exit status.
@@ -141,7 +141,7 @@ pub fn tell_no_id<R: Eprint>(rt: &R) -> u8
     let _ = eprintln!(rt;
         "error: an identifier is a UUID, as 00000000-0000-0000-0000-00000000000a"
     );
-    statuses::COMMAND_LINE
+    cs_status::COMMAND_LINE
 }
 
 /// What the command of this name asks of a store, or does with the whole of it.

@@ -2,7 +2,7 @@
 
 use cs_frame::Locator;
 use cs_mount::Finding;
-use cs_rescue::DamagedRun;
+use cs_tools::rescue::DamagedRun;
 use cs_script::look_in_file;
 use cs_tools::Salvaged;
 use std::fs::File;

@@ -60,3 +60,4 @@ pub mod Unstaged
 pub mod Versions
 pub mod Causes
 pub mod TwoTexts
+pub use Rattle.cs_image.proofs as cs_image

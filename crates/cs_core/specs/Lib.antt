@@ -21,3 +21,5 @@ pub mod Sweepable
 pub mod Unstaged
 pub mod Views
 pub mod Writebacks
+pub use Rattle.cs_image.specs as cs_image
+pub use Rattle.cs_refine.specs as cs_refine

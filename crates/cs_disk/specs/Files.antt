@@ -8,4 +8,4 @@ file_pages d = d.pages
 
 -- how many of its calls failed
 abbrev pub file_failures : FileDisk → ℕ
-file_failures d = d.failures
+file_failures d = d.failures.count

@@ -5,5 +5,6 @@ pub mod Faults
 pub mod Files
 pub mod Memory
 pub mod Past
+pub mod ReadOnlyDisks
 pub mod Reads
 pub mod Unflushed

@@ -1,5 +1,5 @@
 // A disk in a file.
-ghost use Rattle.std.specs.Prelude.{◌≡◌, ◌<◌, ◌^◌, ◌↔◌, ◌*◌, [], IsOk, IfErr, IfOk, IsOkUnless, OnErr, OnOk, Some, List, ℕ};
+ghost use Rattle.std.specs.Prelude.{◌≡◌, ◌≢◌, ◌<◌, ◌^◌, ◌↔◌, ◌*◌, [], Err, IsOk, IfErr, IfOk, IsOkUnless, OnErr, OnOk, Some, List, ℕ};
 ghost use Rattle.std.specs.BTreeMap.{IsEmpty, get};
 ghost use Rattle.std.specs.Ordering.{nat_cmp};
 ghost use Rattle.cs_disk.specs.Ahead.{pages_ahead};
@@ -7,12 +7,12 @@ ghost use Rattle.cs_disk.specs.Unflushed.{bytes_at};
 ghost use Rattle.cs_disk.specs.Disk.{HasCause};
 
 use crate::ahead::Ahead;
+use crate::openings::{NewFault, existing, file_of_zeros, new_file};
 use crate::unflushed::Unflushed;
-use crate::{CrashDisk, DiskFault, OpenFault, PageDisk};
+use crate::{Access, CrashDisk, DiskFault, FileFault, OpenFault, PageDisk, SystemFault};
 use std::alloc::Global;
 use std::fs::File;
 use std::io;
-use std::os::unix::fs::FileExt;
 use std::rt::Files;
 
 /// A disk in a file, page 0 first. No clause can say what a file holds, so nothing says that it is honest: what is
@@ -25,48 +25,61 @@ use std::rt::Files;
 /// A read is the last write to the page that is kept, else what the file has there. Where pages are read one after another, up to 64 are
 /// taken from the file in one call, and answer the reads that follow, up to the next flush.
 ///
-/// A call of the operating system that fails is 1 DeviceFault, and counted.
+/// A call of the operating system that fails is 1 DeviceFault, and counted; `last_fault` tells why it did.
 ///
-/// The file is locked for as long as the value lives, so that one process at a time uses it. The lock binds those that ask for it, as
-/// this type does.
+/// The file is locked for as long as the value lives, so that one process at a time writes it, and nobody reads it then (`Access`). The lock binds those that
+/// ask for it, as this type does.
 #[derive(Drop)]
 pub struct FileDisk {
     file: File,
     unflushed: Unflushed,
     ahead: Ahead,
     pages: u64,
-    failures: u64,
+    access: Access,
+    failures: Failures,
     ghost small: { pages < 2 ^ 52 },
 }
 
 impl FileDisk {
     ghost use Rattle.cs_disk.specs.Files.{file_pages, file_failures};
 
-    // A body that always refuses, or opens another file, would be proved too: no clause can say what the operating
+    // A body that always refuses, or opens another file, would be proved too, here and in the next three: no clause can say what the operating
     // system answers. A test opens a file that is there.
-    /// Opens a file that is there, with as many pages as its length has. Refused 1 DeviceFault where the operating
+    /// Opens a file that is there to read and write it, with as many pages as its length has. Refused 1 DeviceFault where the operating
     /// system refuses it, as where there is none, where it is a folder or may not be written, and where another process has
     /// it open as a disk; and 6 OddLength where its length is no multiple of 4,096 bytes.
     pub fn open<R: Files<File = File>>(rt: &R, alloc: Global, path: &str) -> Result<Self, OpenFault>
         ensures pages { IfOk result (λ d. file_pages d < 2 ^ 52) }
         ensures failures { IfOk result (λ d. file_failures d ≡ 0) }
     {
-        let Ok((file, length)) = existing(rt, path) else {
-            return Err(OpenFault::DeviceFault);
-        };
-        if length % 4096 != 0 {
-            return Err(OpenFault::OddLength);
+        match FileDisk::open_for(rt, alloc, path, Access::Write) {
+            Ok(disk) => Ok(disk),
+            Err(FileFault::OddLength) => Err(OpenFault::OddLength),
+            Err(_) => Err(OpenFault::DeviceFault),
         }
-        Ok(FileDisk {
-            file,
-            unflushed: Unflushed::new(alloc),
-            ahead: Ahead::new(alloc),
-            pages: length / 4096,
-            failures: 0,
-        })
     }
 
-    // As at `open`, a test shows that it makes the file that is named.
+    /// Opens a file that is there, with as many pages as its length has, and tells what the operating system said where it refuses it.
+    /// Refused 1 DeviceFault and 6 OddLength as `open` is; to be only read a file needn't be one that may be written.
+    pub fn open_for<R: Files<File = File>>(
+        rt: &R,
+        alloc: Global,
+        path: &str,
+        access: Access,
+    ) -> Result<Self, FileFault>
+        ensures pages { IfOk result (λ d. file_pages d < 2 ^ 52) }
+        ensures failures { IfOk result (λ d. file_failures d ≡ 0) }
+        ensures fault { IfErr result (λ fault. fault ≢ FileFault.NotEmpty) }
+    {
+        match existing(rt, path, access) {
+            Ok((file, length)) if length % 4096 == 0 => {
+                Ok(FileDisk::over(alloc, file, length / 4096, access))
+            }
+            Ok(_) => Err(FileFault::OddLength),
+            Err(fault) => Err(FileFault::System(fault)),
+        }
+    }
+
     /// Makes a file of so many pages of zeros, writes all of it where that is a gibibyte or less, and syncs it and its folder. One that is there is emptied, but
     /// not while another process has it open as a disk. Refused 1 DeviceFault alone, also where so many pages are more than a
     /// file can have, and where the device hasn't room for them; a file may be there then, of any length.
@@ -84,14 +97,53 @@ impl FileDisk {
             return Err(OpenFault::DeviceFault);
         }
         match file_of_zeros(rt, path, pages) {
-            Ok(file) => Ok(FileDisk {
-                file,
-                unflushed: Unflushed::new(alloc),
-                ahead: Ahead::new(alloc),
-                pages,
-                failures: 0,
-            }),
+            Ok(file) => Ok(FileDisk::over(alloc, file, pages, Access::Write)),
             Err(_) => Err(OpenFault::DeviceFault),
+        }
+    }
+
+    /// Makes a file of so many pages of zeros as `create` does, with these permissions, less those that the process gives to no file. Nothing that is there is lost:
+    /// refused 46 NotEmpty where there is a file with something in it, or what is there is no file; a link to a file that isn't there isn't
+    /// followed. Refused 1 DeviceFault else, as `create`, and a file may be there then with nothing in it.
+    pub fn create_new<R: Files<File = File>>(
+        rt: &R,
+        alloc: Global,
+        path: &str,
+        pages: u64,
+        mode: u32,
+    ) -> Result<Self, FileFault>
+        ensures pages { IfOk result (λ d. file_pages d ≡ pages) }
+        ensures failures { IfOk result (λ d. file_failures d ≡ 0) }
+        ensures fault { IfErr result (λ fault. fault ≢ FileFault.OddLength) }
+    {
+        if pages.checked_mul(4096).is_none() {
+            return Err(FileFault::System(SystemFault::NoRoom));
+        }
+        match new_file(rt, path, pages, mode) {
+            Ok(file) => Ok(FileDisk::over(alloc, file, pages, Access::Write)),
+            Err(NewFault::NotEmpty) => Err(FileFault::NotEmpty),
+            Err(NewFault::System(fault)) => Err(FileFault::System(fault)),
+        }
+    }
+
+    /// What the operating system said as the last read, write or flush was refused 1 DeviceFault; none where none was.
+    pub fn last_fault(&self) -> Option<SystemFault> {
+        self.failures.last
+    }
+
+    /// A disk over a file of so many pages, of which nothing was read or written.
+    fn over(alloc: Global, file: File, pages: u64, access: Access) -> Self
+        requires { pages < 2 ^ 52 }
+        ensures pages { file_pages result ≡ pages }
+        ensures failures { file_failures result ≡ 0 }
+    {
+        FileDisk {
+            file,
+            unflushed: Unflushed::new(alloc),
+            ahead: Ahead::new(alloc),
+            pages,
+            access,
+            failures: Failures::none(),
         }
     }
 }
@@ -131,68 +183,44 @@ impl FileDisk {
     }
 }
 
-// Of this function and the next three no clause can say more than their types do; a test calls them.
-/// A file that is there, locked, and its length in bytes.
-fn existing<R: Files<File = File>>(rt: &R, path: &str) -> io::Result<(File, u64)> {
-    let file = File::options().read(true).write(true).open(rt, path)?;
-    file.try_lock()?;
-    let length = file.metadata()?.len();
-    Ok((file, length))
+/// How many calls failed, and what the operating system said of the last one.
+#[derive(Drop)]
+struct Failures {
+    count: u64,
+    last: Option<SystemFault>,
 }
 
-/// Up to how many pages a new file is written full: a gibibyte.
-const MOST_FILLED: u64 = 262_144;
+impl Failures {
+    /// None.
+    fn none() -> Self
+        ensures { result.count ≡ 0 }
+    {
+        Failures {
+            count: 0,
+            last: None,
+        }
+    }
 
-/// A new or emptied file of so many pages of zeros, locked. Up to a gibibyte it is written full, so that no later flush has to find room for
-/// it; a larger one gets its length alone, and takes room on the device as its pages are written. Its folder is synced too, so that a crash
-/// leaves its name there.
-fn file_of_zeros<R: Files<File = File>>(rt: &R, path: &str, pages: u64) -> io::Result<File> {
-    let mut options = File::options();
-    options.read(true).write(true).create(true);
-    let file = options.open(rt, path)?;
-    file.try_lock()?;
-    file.set_len(0)?;
-    if pages <= MOST_FILLED {
-        fill(&file, pages)?;
-    } else {
-        file.set_len(pages.saturating_mul(4096))?;
+    /// Counts a call that failed so, and answers 1 DeviceFault for it.
+    fn counted(&mut self, fault: SystemFault) -> Result<(), DiskFault>
+        ensures refused { result ≡ Err DiskFault.DeviceFault }
+        ensures cause { HasCause self.old.count self.new.count result }
+    {
+        self.count = self.count.saturating_add(1);
+        self.last = Some(fault);
+        Err(DiskFault::DeviceFault)
     }
-    file.sync_all()?;
-    folder_of(rt, path)?.sync_all()?;
-    Ok(file)
-}
 
-/// Writes so many pages of zeros, 16 in a call.
-fn fill(file: &File, pages: u64) -> io::Result<()> {
-    let zeros = [0; 16 * 4096];
-    for group in 0..pages / 16 {
-        file.write_all_at(&zeros, group.saturating_mul(16 * 4096))?;
+    /// Counts a call that failed, and answers 1 DeviceFault for it.
+    fn of(&mut self, answer: io::Result<()>) -> Result<(), DiskFault>
+        ensures ok { IsOk result ↔ IsOk answer }
+        ensures cause { HasCause self.old.count self.new.count result }
+    {
+        match answer {
+            Ok(()) => Ok(()),
+            Err(error) => self.counted(SystemFault::of(&error)),
+        }
     }
-    for page in pages - pages % 16..pages {
-        file.write_all_at(&zeros[..4096], page.saturating_mul(4096))?;
-    }
-    Ok(())
-}
-
-/// The folder that a file stands in.
-fn folder_of<R: Files<File = File>>(rt: &R, path: &str) -> io::Result<File> {
-    match path.rsplit_once('/') {
-        None => File::open(rt, "."),
-        Some(("", _)) => File::open(rt, "/"),
-        Some((folder, _)) => File::open(rt, folder),
-    }
-}
-
-/// Counts a call that failed, and answers 1 DeviceFault for it.
-fn counted(failures: &mut u64, answer: io::Result<()>) -> Result<(), DiskFault>
-    ensures ok { IsOk result ↔ IsOk answer }
-    ensures cause { HasCause failures.old failures.new result }
-{
-    if answer.is_err() {
-        *failures = failures.saturating_add(1);
-        return Err(DiskFault::DeviceFault);
-    }
-    Ok(())
 }
 
 impl PageDisk for FileDisk {
@@ -204,7 +232,7 @@ impl PageDisk for FileDisk {
 
     ghost page_count = { λ d. d.pages };
 
-    ghost failure_count = { λ d. d.failures };
+    ghost failure_count = { λ d. d.failures.count };
 
     ghost moment = { λ _. 0 };
 
@@ -215,24 +243,32 @@ impl PageDisk for FileDisk {
     }
 
     fn failures(&self) -> u64 {
-        self.failures
+        self.failures.count
     }
 
     // The body `Ok(())` would be proved here, in `write` and in `flush`, since nothing says that the disk is honest, nor
     // that a call of the operating system fails. A test reads back what was written.
     fn read(&mut self, number: u64, buffer: &mut [u8; 4096]) -> Result<(), DiskFault> {
         let answer = self.read_newest(number, buffer);
-        counted(&mut self.failures, answer)
+        self.failures.of(answer)
     }
 
+    /// Keeps the write in memory. Of a file that is only read it is refused.
     fn write(&mut self, number: u64, bytes: &[u8; 4096]) -> Result<(), DiskFault> {
+        if self.access != Access::Write {
+            return self.failures.counted(SystemFault::ReadOnly);
+        }
         self.unflushed.keep(number * 4096, bytes)?;
         Ok(())
     }
 
+    /// Writes out what is kept, and syncs the file. Of a file that is only read nothing is asked of the operating system.
     fn flush(&mut self) -> Result<(), DiskFault> {
+        if self.access != Access::Write {
+            return Ok(());
+        }
         let answer = self.write_out();
-        counted(&mut self.failures, answer)
+        self.failures.of(answer)
     }
 
     ghost sized = { λ d h. absurd h };

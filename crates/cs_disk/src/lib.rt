@@ -1,5 +1,5 @@
-//! Disks of pages of 4,096 bytes, with what a crash may leave of them: in memory, in a file, and with one call that
-//! fails.
+//! Disks of pages of 4,096 bytes, with what a crash may leave of them: in memory, in a file, with one call that
+//! fails, and such as are only read.
 #![tactic(auto)]
 
 mod ahead;
@@ -9,14 +9,18 @@ mod fail_at;
 mod fault;
 mod file;
 mod memory;
+mod openings;
 mod past;
+mod read_only;
 mod unflushed;
 
 pub use disk::{CrashDisk, PageDisk};
 pub use fail_at::FailAt;
-pub use fault::{DiskFault, ImageFault, OpenFault};
+pub use fault::{DiskFault, FileFault, ImageFault, OpenFault, SystemFault};
 pub use file::FileDisk;
 pub use memory::MemoryDisk;
+pub use openings::Access;
+pub use read_only::ReadOnly;
 
 /// The bytes of a page.
 pub const PAGE_BYTES: usize = 4096;

@@ -8,7 +8,7 @@ use Rattle.cs_deps.specs.declared.refusals.Refusal.TheVariants.{Halted, Unsettle
 use Rattle.cs_disk.specs.declared.disk.PageDisk.{Ghosts as PageDisk}
 use Rattle.cs_disk.specs.Disk.{GoesOn, LeavesOnly, page}
 use Rattle.cs_extent.specs.State.{shape}
-use Rattle.cs_refine.specs.Crashes.{IsPrefix}
+use Rattle.cs_core.specs.cs_refine.Crashes.{IsPrefix}
 use Rattle.cs_core.specs.Checkpoints.{IsNotReplaced, IsSettled, Replaces}
 use Rattle.cs_core.specs.Meanings.{commands_said}
 use Rattle.cs_core.specs.Views.{View, kept}

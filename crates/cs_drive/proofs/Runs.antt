@@ -4,7 +4,7 @@ use Rattle.std.specs.Prelude.{◌↔◌, Result, Ok, Err, IfOk, OnErr}
 use Rattle.cs_disk.specs.declared.disk.PageDisk.{Ghosts as PageDisk}
 use Rattle.cs_disk.specs.Disk.{GoesOn, LeavesOnly, page}
 use Rattle.cs_extent.specs.State.{shape}
-use Rattle.cs_refine.specs.Crashes.{IsPrefix}
+use Rattle.cs_core.specs.cs_refine.Crashes.{IsPrefix}
 use Rattle.cs_core.specs.declared.events.Event.{Event}
 use Rattle.cs_core.specs.declared.events.Reply.{Reply}
 use Rattle.cs_core.specs.Calls.{AreCalls, IsCall}

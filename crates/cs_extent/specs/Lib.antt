@@ -8,3 +8,4 @@ pub mod Puts
 pub mod Sections
 pub mod State
 pub mod Worn
+pub use Rattle.cs_deps.specs as cs_deps

@@ -1,6 +1,6 @@
 -- What a store that is opened on an image is found to be.
 use Rattle.std.specs.Prelude.{◌≡◌, ◌∷◌, ◌<◌, ℕ, List, [], None, length, replicate, slice_index}
-use Rattle.cs_deps.specs.State.{State as GraphState}
+use Rattle.cs_extent.specs.cs_deps.State.{State as GraphState}
 use Rattle.cs_extent.specs.State.{State as ExtentsState, extents_of}
 use Rattle.cs_frame.specs.Geometries.{section_length, section_size}
 use Rattle.cs_frame.specs.Superblocks.{SpellsSuperblock}

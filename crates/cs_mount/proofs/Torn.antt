@@ -12,7 +12,7 @@ use Rattle.cs_extent.specs.State.{shape}
 use Rattle.cs_frame.specs.FirstFormat.{SpellsPageZero}
 use Rattle.cs_frame.specs.Formats.{formats_of}
 use Rattle.cs_frame.specs.Geometries.{Dimensions, IsGeometry, section_size}
-use Rattle.cs_image.proofs.Readable.{section_spelled}
+use Rattle.cs_core.proofs.cs_image.Readable.{section_spelled}
 use Rattle.cs_model.specs.Element.{Map}
 use Rattle.cs_model.specs.Geometry.{shape_of}
 use Rattle.cs_model.specs.Recovery.{Recovers}
@@ -26,7 +26,7 @@ use Rattle.cs_pair.proofs.Refinding.{shows_again}
 use Rattle.cs_pair.proofs.Spelling.{section_read}
 use Rattle.cs_pair.proofs.Telling.{version_says}
 use Rattle.cs_pair.proofs.Unpaired.{torn_store_shows}
-use Rattle.cs_refine.specs.Crashes.{IsPrefix, IsTornFrom}
+use Rattle.cs_core.specs.cs_refine.Crashes.{IsPrefix, IsTornFrom}
 use Rattle.cs_mount.specs.Torn.{MayTearStore, dimensions_of}
 
 -- a crash may lose all that is volatile

@@ -7,7 +7,7 @@ ghost use Rattle.cs_mount.specs.Torn.{MayTearStore, dimensions_of};
 ghost use Rattle.cs_pair.specs.Paired.{disk_below};
 ghost use Rattle.cs_pair.specs.Showing.{shown_on};
 ghost use Rattle.cs_pair.specs.Stores.{pages_of};
-ghost use Rattle.cs_refine.specs.Crashes.{IsPrefix};
+ghost use Rattle.cs_core.specs.cs_refine.Crashes.{IsPrefix};
 
 use crate::mounts::Mounted;
 use cs_core::Core;

@@ -7,7 +7,7 @@ ghost use Rattle.cs_disk.specs.Disk.{Image, MayLeave, flushed, page, seen};
 ghost use Rattle.cs_extent.specs.State.{shape};
 ghost use Rattle.cs_frame.specs.Formats.{formats_of};
 ghost use Rattle.cs_frame.specs.Geometries.{IsGeometry, device_pages, section_size};
-ghost use Rattle.cs_image.specs.Counts.{HasCount};
+ghost use Rattle.cs_core.specs.cs_image.Counts.{HasCount};
 ghost use Rattle.cs_model.specs.Element.{Map};
 ghost use Rattle.cs_model.specs.Geometry.{shape_of};
 ghost use Rattle.cs_model.specs.Recovery.{Recovers};

@@ -12,3 +12,4 @@ pub mod Streams
 pub mod Sweeps
 pub mod Told
 pub mod Under
+pub use Rattle.cs_core.specs as cs_core

@@ -37,3 +37,4 @@ pub use reclaimers::{Next, Reclaimer};
 pub use rests::{Closed, NotClosed, Rest, Unclosed};
 pub use streams::Stream;
 pub use tickets::{Ack, Ticket};
+pub use cs_core as the_core;

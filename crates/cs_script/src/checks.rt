@@ -7,7 +7,6 @@ ghost use Rattle.cs_script.specs.Checks.{Checks, IsFaulty, IsOptimal, Reports, S
 
 use crate::bounded_readers::{BoundedReader, READS};
 use crate::outputs::{print_optimal, print_refusal};
-use crate::statuses;
 use cs_check::{CheckFault, Document, Verdict, check, from_document};
 use cs_deps::Refusal;
 use std::alloc::Global;
@@ -26,11 +25,11 @@ pub fn run_check<R: Read + Drop, W: Write>(alloc: Global, reader: R, writer: &mu
     let mut text = Vec::new(alloc);
     let mut reader = BoundedReader::new(reader, READS);
     let Ok(_) = reader.read_to_end(&mut text) else {
-        return statuses::STREAM;
+        return cs_status::STREAM;
     };
     match answer_check(alloc, &text, writer) {
         Ok(status) => status,
-        Err(_) => statuses::STREAM,
+        Err(_) => cs_status::STREAM,
     }
 }
 
@@ -51,11 +50,11 @@ fn print_check<W: Write>(writer: &mut W, found: Result<Verdict, CheckFault>) -> 
     match found {
         Ok(verdict) => {
             print_optimal(writer, verdict.flushes)?;
-            Ok(statuses::DONE)
+            Ok(cs_status::DONE)
         }
         Err(fault) => {
             print_refusal(writer, Refusal::from(fault))?;
-            Ok(statuses::REFUSED)
+            Ok(cs_status::REFUSED)
         }
     }
 }

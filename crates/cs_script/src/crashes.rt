@@ -8,7 +8,6 @@ ghost use Rattle.cs_script.specs.Outputs.{open_line};
 use crate::lines::Line;
 use crate::outputs::{print_crash, print_no_store, print_open};
 use crate::scripts::Ran;
-use crate::statuses;
 use cs_core::{Core, Limits};
 use cs_deps::Refusal;
 use cs_disk::CrashDisk;
@@ -58,7 +57,7 @@ pub fn crash<D: CrashDisk + Drop, W: Write>(
     match print_crash(writer, count_kept(mask), mask.len()) {
         Ok(()) => {}
         Err(_) => return Err(Ran {
-            status: statuses::STREAM,
+            status: cs_status::STREAM,
             core: Some(core),
         }),
     }
@@ -66,7 +65,7 @@ pub fn crash<D: CrashDisk + Drop, W: Write>(
         Ok(core) => match print_found(writer, &core) {
             Ok(()) => Ok((core, status)),
             Err(_) => Err(Ran {
-                status: statuses::STREAM,
+                status: cs_status::STREAM,
                 core: Some(core),
             }),
         },

@@ -14,7 +14,6 @@ use crate::outputs::{
     print_absent, print_bad_line, print_delete, print_put, print_refusal, print_value,
 };
 use crate::plans::plan;
-use crate::statuses;
 use crate::steps::step;
 use crate::sweeps::sweep;
 use crate::syncs::sync;
@@ -55,7 +54,7 @@ pub fn run_script<D: CrashDisk + Drop, R: Read + Drop, W: Write>(
     match BufReader::new(alloc, BoundedReader::new(reader, READS)) {
         Ok(mut reader) => run_lines(alloc, core, &mut reader, writer),
         Err(_) => Ran {
-            status: statuses::STREAM,
+            status: cs_status::STREAM,
             core: Some(core),
         },
     }
@@ -75,7 +74,7 @@ fn run_lines<D: CrashDisk + Drop, B: BufRead, W: Write>(
     ensures core { (result.status ≤ 1 → IsSome result.core) × (result.status ≡ 3 → result.core ≡ None) }
 {
     let mut core = core;
-    let mut status = statuses::DONE;
+    let mut status = cs_status::DONE;
     for _ in 0..u64::MAX {
         let mut line = Vec::new(alloc);
         match reader.read_until(b'\n', &mut line) {
@@ -85,7 +84,7 @@ fn run_lines<D: CrashDisk + Drop, B: BufRead, W: Write>(
             },
             Ok(_) => {}
             Err(_) => return Ran {
-                status: statuses::STREAM,
+                status: cs_status::STREAM,
                 core: Some(core),
             },
         }
@@ -98,7 +97,7 @@ fn run_lines<D: CrashDisk + Drop, B: BufRead, W: Write>(
         }
     }
     Ran {
-        status: statuses::STREAM,
+        status: cs_status::STREAM,
         core: Some(core),
     }
 }
@@ -130,7 +129,7 @@ fn run_line<D: CrashDisk + Drop, W: Write>(
 {
     let Ok(line) = Line::read(alloc, text) else {
         return Err(Ran {
-            status: statuses::STREAM,
+            status: cs_status::STREAM,
             core: Some(core),
         });
     };
@@ -173,7 +172,7 @@ fn answer_line<D: PageDisk, W: Write>(
     match answer_and_flush(alloc, &mut core, line, status, writer) {
         Ok(after) => Ok((core, after)),
         Err(_) => Err(Ran {
-            status: statuses::STREAM,
+            status: cs_status::STREAM,
             core: Some(core),
         }),
     }
@@ -201,7 +200,7 @@ fn after_line(line: &Line, status: u8) -> u8
     ensures { result ≡ status_after (said_by line.now) status }
 {
     match line {
-        Line::Crash { mask: _ } | Line::Bad => statuses::BAD_LINE,
+        Line::Crash { mask: _ } | Line::Bad => cs_status::BAD_LINE,
         _ => status,
     }
 }

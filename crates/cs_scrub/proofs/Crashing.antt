@@ -1,6 +1,6 @@
 -- What a crash leaves while frames are read.
 use Rattle.std.proofs.Common.{sym, subst}
-use Rattle.cs_core.proofs.Crashes.{only_before, still_before}
+use Rattle.cs_survey.proofs.cs_core.Crashes.{only_before, still_before}
 use Rattle.cs_disk.specs.Reads.{OnlyReads}
 use Rattle.cs_disk.specs.declared.disk.PageDisk.{Ghosts as PageDisk}
 use Rattle.cs_disk.specs.Disk.{Image, Leaves, LeavesOnly, MayLeave, State}

@@ -3,8 +3,8 @@ use Rattle.std.proofs.Common.{◌≡◌, ◌≢◌, ◌∙◌, ◌⊎◌, inl, i
 use Rattle.std.specs.Prelude.{IsOk, MatchOption, Option}
 use Rattle.cs_chunk.specs.Newest.{AreNewest}
 use Rattle.cs_chunk.specs.Reads.{AnswersFault, IsNoAnswer, IsOfFault, fault_in}
-use Rattle.cs_core.specs.Stored.{Stored}
-use Rattle.cs_core.specs.Views.{View}
+use Rattle.cs_survey.specs.cs_core.Stored.{Stored}
+use Rattle.cs_survey.specs.cs_core.Views.{View}
 use Rattle.cs_deps.specs.declared.refusals.Refusal.{Refusal}
 use Rattle.cs_deps.specs.declared.refusals.Refusal.TheVariants.{OutOfMemory}
 use Rattle.cs_disk.specs.Reads.{OnlyReads}

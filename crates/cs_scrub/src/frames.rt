@@ -5,11 +5,11 @@ ghost use Rattle.cs_chunk.specs.Reads.{IsCaused};
 ghost use Rattle.cs_disk.specs.Disk.{LeavesOnly, page, seen};
 ghost use Rattle.cs_disk.specs.Reads.{OnlyReads};
 ghost use Rattle.cs_extent.specs.State.{shape};
-ghost use Rattle.cs_refine.specs.Crashes.{IsPrefix};
-ghost use Rattle.cs_core.specs.Meanings.{commands_said};
+ghost use Rattle.cs_survey.specs.cs_refine.Crashes.{IsPrefix};
+ghost use Rattle.cs_survey.specs.cs_core.Meanings.{commands_said};
 ghost use Rattle.cs_scrub.specs.Scrubs.{IsInside, TellsFrame};
 
-use cs_core::Core;
+use cs_survey::the_core::Core;
 use cs_deps::Refusal;
 use cs_disk::PageDisk;
 use cs_extent::Extents;

@@ -46,3 +46,4 @@ pub use cs_index::LiveChunk;
 pub use cs_mount::{AsOf, Finding, Mounted};
 pub use cs_scrub::{Damage, Scrubbed};
 pub use cs_survey::{ExtentUse, RunUse, Stats};
+pub use cs_mount as mount;

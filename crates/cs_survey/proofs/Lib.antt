@@ -7,3 +7,4 @@ pub mod Reading
 pub mod Risen
 pub mod Counted
 pub mod Seeking
+pub use Rattle.cs_core.proofs as cs_core

@@ -17,3 +17,4 @@ pub use figures::{RunUse, Stats};
 pub use listings::{ids, ids_from};
 pub use quotas::Quota;
 pub use surveys::uses;
+pub use cs_core as the_core;

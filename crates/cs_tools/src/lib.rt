@@ -39,3 +39,5 @@ pub use stats::stat;
 // What callers need of the crate below.
 pub use cs_salvage::Missing;
 pub use cs_scrub::Progress;
+pub use cs_rescue as rescue;
+pub use cs_store as store;

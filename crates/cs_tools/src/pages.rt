@@ -4,7 +4,7 @@ ghost use Rattle.cs_pair.specs.Findings.{passed_over};
 ghost use Rattle.cs_tools.specs.Pages.{AreWhole, left_damaged};
 
 use crate::outputs::Style;
-use cs_mount::Finding;
+use cs_store::mount::Finding;
 use std::io;
 use std::io::Write;
 

@@ -27,7 +27,7 @@ use cs_chunk::refusal_of_disk;
 use cs_deps::Refusal;
 use cs_disk::PageDisk;
 use cs_frame::ShardId;
-use cs_mount::{Finding, Mounted};
+use cs_store::mount::{Finding, Mounted};
 use cs_pair::open_store;
 use cs_rescue::{Rescue, RescueRefusal};
 use cs_survey::ids_from;

@@ -14,7 +14,7 @@ use cs_core::Core;
 use cs_deps::Refusal;
 use cs_disk::PageDisk;
 use cs_frame::{Locator, ShardId};
-use cs_mount::Finding;
+use cs_store::mount::Finding;
 use cs_scrub::{Damage, Progress, Scrubbed, scrub as find_damages};
 use std::alloc::Global;
 use std::io;

@@ -1,5 +1,5 @@
 //! A script's run.
-use cs_core::Core;
+use cs_script::the_core::Core;
 use cs_deps::Refusal;
 use cs_disk::CrashDisk;
 use cs_frame::Geometry;

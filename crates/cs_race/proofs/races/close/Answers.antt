@@ -1,6 +1,6 @@
 use Rattle.std.proofs.Common.{◌∙◌, ℕ, ap, subst}
 use Rattle.std.specs.Io.KnownBytes.{Appends}
-use Rattle.cs_core.specs.Views.{View}
+use Rattle.cs_node.specs.cs_core.Views.{View}
 use Rattle.cs_race.specs.Races.{counts_lines}
 use Rattle.cs_race.proofs.RaceSteps.{closed}
 use Rattle.cs_race.proofs.races.close.Goals as goal

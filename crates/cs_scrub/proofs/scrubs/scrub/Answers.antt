@@ -1,6 +1,6 @@
 use Rattle.std.proofs.Common.{◌∙◌, map, sym, subst}
 use Rattle.std.proofs.lemmas.List.{length-map}
-use Rattle.cs_core.specs.Stored.{Stored}
+use Rattle.cs_survey.specs.cs_core.Stored.{Stored}
 use Rattle.cs_disk.proofs.OnlyRead.{reads_on}
 use Rattle.cs_frame.specs.Formats.{place_of}
 use Rattle.cs_survey.specs.Chunks.{chunk_of}
