@@ -12,7 +12,7 @@ use Rattle.cs_model.specs.Element.{Bytes, Map}
 use Rattle.cs_survey.specs.Listings.{AreAll}
 use Rattle.cs_tools.specs.Outputs.{id_text, payload_text, refusal_text}
 use Rattle.cs_tools.specs.declared.outcomes.Outcome.{Outcome}
-use Rattle.cs_tools.specs.declared.outcomes.Outcome.TheVariants.{Absent, Damaged, Done, Failed, NoStore, Refused, Unread}
+use Rattle.cs_tools.specs.declared.outcomes.Outcome.TheVariants.{Absent, Damaged, Done, Failed, MayBeLost, NoStore, Refused, Unopened, Unread}
 
 -- the line of a script that puts a shard
 abbrev pub put_line : ShardId → List ℕ → List ℕ
@@ -97,4 +97,6 @@ Exports m failed failed_then before after (Refused r) = r ≡ OutOfMemory
 Exports m failed failed_then before after Failed = Unit {0}
 Exports m failed failed_then before after Absent = ⊥
 Exports m failed failed_then before after (NoStore r) = ⊥
+Exports m failed failed_then before after (Unopened f) = ⊥
+Exports m failed failed_then before after MayBeLost = ⊥
 Exports m failed failed_then before after (Unread r) = ⊥

@@ -13,7 +13,7 @@ use Rattle.cs_salvage.specs.declared.parts.Part.{Part}
 use Rattle.cs_salvage.specs.declared.shards.WholeShard.{WholeShard}
 use Rattle.cs_tools.specs.Exports.{IsScript, Shard, is_whole}
 use Rattle.cs_tools.specs.declared.outcomes.Outcome.{Outcome}
-use Rattle.cs_tools.specs.declared.outcomes.Outcome.TheVariants.{Absent, Damaged, Done, Failed, NoStore, Refused, Unread}
+use Rattle.cs_tools.specs.declared.outcomes.Outcome.TheVariants.{Absent, Damaged, Done, Failed, MayBeLost, NoStore, Refused, Unopened, Unread}
 use Rattle.cs_tools.specs.declared.salvages.Salvaged.{Salvaged}
 
 -- This is what frames on a device spell: of each identifier the newest shard that is whole, and each newest put that isn't.
@@ -60,4 +60,6 @@ Salvages image found failed failed_then before after Failed = Unit {0}
 Salvages image found failed failed_then before after Absent = ⊥
 Salvages image found failed failed_then before after (Refused r) = ⊥
 Salvages image found failed failed_then before after (NoStore r) = ⊥
+Salvages image found failed failed_then before after (Unopened f) = ⊥
+Salvages image found failed failed_then before after MayBeLost = ⊥
 Salvages image found failed failed_then before after (Unread r) = ⊥

@@ -8,6 +8,7 @@ mod deletes;
 mod exports;
 mod gets;
 mod graphs;
+mod knowns;
 mod lists;
 mod outcomes;
 mod outputs;
@@ -18,16 +19,18 @@ mod rescues;
 mod salvages;
 mod scrubs;
 mod stats;
+mod tellings;
 mod timings;
 
-pub use advices::advice;
+pub use advices::{Advice, advice};
 pub use benches::{Load, bench};
 pub use deletes::delete;
 pub use exports::export;
 pub use gets::get;
 pub use graphs::graph;
+pub use knowns::{Content, Known, known_of};
 pub use lists::list;
-pub use outcomes::{Outcome, explain};
+pub use outcomes::Outcome;
 pub use outputs::Style;
 pub use puts::put;
 pub use reclaims::reclaim;
@@ -35,9 +38,12 @@ pub use rescues::{Got, explain_got, get_rescued, list_rescued, open_rescue};
 pub use salvages::{Salvaged, export_salvaged, salvage};
 pub use scrubs::scrub;
 pub use stats::stat;
+pub use tellings::{explain, tell, warn};
 
 // What callers need of the crate below.
 pub use cs_salvage::Missing;
 pub use cs_scrub::Progress;
 pub use cs_rescue as rescue;
 pub use cs_store as store;
+#[cfg(test)]
+mod tests;
