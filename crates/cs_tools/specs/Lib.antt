@@ -10,3 +10,5 @@ pub mod Rescues
 pub mod Salvages
 pub mod Scrubs
 pub mod Stats
+pub mod Repairs
+pub mod Tellings

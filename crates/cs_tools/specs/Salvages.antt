@@ -50,12 +50,14 @@ pub record IsWrittenOut (image : Image) (found : Salvaged) (failed failed_then :
   pub script : IsScript shards text
   pub written : Appends before after text
 
--- With these counts of the disk's failures before and after: the script of all that was found was written out, all could be read, and nothing is missing; or
--- some couldn't be, or something is missing; or the writer failed.
+-- With these counts of the disk's failures before and after: the script of all that was found was written out, something was, all could be read, and nothing is
+-- missing; or nothing was found, or some couldn't be read, or something is missing; or the writer failed.
 abbrev pub Salvages : Image → Salvaged → (failed failed_then : ℕ) → (before after : Option (List ℕ)) → Outcome → Type 0
-Salvages image found failed failed_then before after Done = IsWrittenOut image found failed failed_then before after true × (found.missing.items ≡ [])
+Salvages image found failed failed_then before after Done =
+    IsWrittenOut image found failed failed_then before after true × (found.shards.items ≢ []) × (found.missing.items ≡ [])
 Salvages image found failed failed_then before after Damaged =
-    (whole : Bool) × IsWrittenOut image found failed failed_then before after whole × ((whole ≡ false) ⊎ (found.missing.items ≢ []))
+    (whole : Bool) × IsWrittenOut image found failed failed_then before after whole
+    × ((whole ≡ false) ⊎ (found.shards.items ≡ []) ⊎ (found.missing.items ≢ []))
 Salvages image found failed failed_then before after Failed = Unit {0}
 Salvages image found failed failed_then before after Absent = ⊥
 Salvages image found failed failed_then before after (Refused r) = ⊥

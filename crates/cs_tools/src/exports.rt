@@ -20,7 +20,7 @@ use cs_deps::Refusal;
 use cs_disk::PageDisk;
 use cs_frame::ShardId;
 use cs_scrub::Progress;
-use cs_survey::ids;
+use cs_survey::ids_from;
 use std::alloc::Global;
 use std::io;
 use std::io::Write;
@@ -28,15 +28,16 @@ use std::io::Write;
 /// How many lines are between two syncs.
 pub const LINES: usize = 1_000;
 
-/// Prints a script that puts all shards that are there, by rising identifiers, with a sync behind each 1,000 of them and at the end. A shard that
-/// can't be read has a remark in its place.
+/// Prints a script that puts all shards that are there from one identifier on, by rising identifiers, with a sync behind each 1,000 of them and at the end. A
+/// shard that can't be read has a remark in its place.
 pub fn export<D: PageDisk, P: Progress, W: Write>(
     alloc: Global,
     core: &mut Core<D>,
+    from: ShardId,
     progress: &P,
     writer: &mut W,
 ) -> Outcome
-    ensures script { (m : Map) → HasMap core.old m → D.honest core.old.disk → Exports m (D.failure_count core.old.disk) (D.failure_count core.new.disk) (W.contents writer.old) (W.contents writer.new) result }
+    ensures script { (m : Map) → HasMap core.old m → D.honest core.old.disk → Exports m (id_number from) (D.failure_count core.old.disk) (D.failure_count core.new.disk) (W.contents writer.old) (W.contents writer.new) result }
     ensures ends { (result ≡ Done) ⊎ (result ≡ Damaged) ⊎ (result ≡ Refused Refusal.OutOfMemory) ⊎ (result ≡ Failed) }
     // Where it is refused nothing was written.
     ensures untouched { (r : Why) → result ≡ Refused r → writer.new ≡ writer.old }
@@ -46,7 +47,7 @@ pub fn export<D: PageDisk, P: Progress, W: Write>(
     // Called for their contracts alone: which state of the machine the store is in, and what all extents keep.
     core.progress();
     core.extents().extent_count();
-    let Ok(ids) = ids(alloc, core.index()) else {
+    let Ok(ids) = ids_from(alloc, core.index(), from, usize::MAX) else {
         return Outcome::Refused(Refusal::OutOfMemory);
     };
     match print_shards(core, &ids, progress, writer) {

@@ -15,8 +15,10 @@ mod outputs;
 mod pages;
 mod puts;
 mod reclaims;
+mod repairs;
 mod rescues;
 mod salvages;
+mod scans;
 mod scrubs;
 mod stats;
 mod tellings;
@@ -32,18 +34,21 @@ pub use knowns::{Content, Known, known_of};
 pub use lists::list;
 pub use outcomes::Outcome;
 pub use outputs::Style;
-pub use puts::put;
+pub use puts::{most_bytes, put};
 pub use reclaims::reclaim;
+pub use repairs::{may_be_lost, stop_repair};
 pub use rescues::{Got, explain_got, get_rescued, list_rescued, open_rescue};
 pub use salvages::{Salvaged, export_salvaged, salvage};
+pub use scans::greatest_command;
 pub use scrubs::scrub;
 pub use stats::stat;
 pub use tellings::{explain, tell, warn};
 
 // What callers need of the crate below.
-pub use cs_salvage::Missing;
-pub use cs_scrub::Progress;
 pub use cs_rescue as rescue;
+pub use cs_salvage::{Missing, Patience, Scanned};
+pub use cs_scrub::Progress;
 pub use cs_store as store;
+
 #[cfg(test)]
 mod tests;

@@ -80,7 +80,7 @@ pub fn salvage<D: PageDisk>(alloc: Global, disk: &mut D) -> Result<Salvaged, Ref
 }
 
 /// Prints a script that puts these shards, by rising identifiers, with a sync behind each 1,000 of them and at the end. A shard that can't be read has a remark in its
-/// place.
+/// place. Shards that were deleted may be among them, and an older put of a shard whose newest is lost. If there is none it ends as damaged.
 pub fn export_salvaged<D: PageDisk, P: Progress, W: Write>(
     alloc: Global,
     disk: &mut D,
@@ -94,16 +94,16 @@ pub fn export_salvaged<D: PageDisk, P: Progress, W: Write>(
     ensures disk { OnlyReads D.PageDisk disk.old disk.new }
 {
     match print_shards(alloc, disk, found, progress, writer) {
-        Ok(whole) => outcome_of(whole, &found.missing),
+        Ok(whole) => outcome_of(whole, &found.shards, &found.missing),
         Err(_) => Outcome::Failed,
     }
 }
 
-/// How an export ends whose lines were written: as damaged where not all could be read, or something is missing.
-fn outcome_of(whole: bool, missing: &[Missing]) -> Outcome
-    ensures { ((result ≡ Done) × (whole ≡ true) × (missing.now ≡ [])) ⊎ ((result ≡ Damaged) × ((whole ≡ false) ⊎ (missing.now ≢ []))) }
+/// How an export ends whose lines were written: as damaged where not all could be read, where something is missing, or where there was nothing to print.
+fn outcome_of(whole: bool, shards: &[WholeShard], missing: &[Missing]) -> Outcome
+    ensures { ((result ≡ Done) × (whole ≡ true) × (shards.now ≢ []) × (missing.now ≡ [])) ⊎ ((result ≡ Damaged) × ((whole ≡ false) ⊎ (shards.now ≡ []) ⊎ (missing.now ≢ []))) }
 {
-    if whole && missing.is_empty() {
+    if whole && !shards.is_empty() && missing.is_empty() {
         Outcome::Done
     } else {
         Outcome::Damaged

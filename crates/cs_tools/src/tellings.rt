@@ -96,12 +96,7 @@ pub fn print_reason<W: Write>(writer: &mut W, reason: &Reason, style: Style) -> 
 }
 
 /// Prints the number and the name of a refusal, up to what it is.
-fn print_head<W: Write>(
-    writer: &mut W,
-    number: u8,
-    name: &str,
-    style: Style,
-) -> io::Result<()>
+fn print_head<W: Write>(writer: &mut W, number: u8, name: &str, style: Style) -> io::Result<()>
     ensures { OnOk result (Appends (W.contents writer.old) (W.contents writer.new) (head_text style number name.now)) }
 {
     match style {
@@ -122,11 +117,7 @@ fn print_rest<W: Write>(writer: &mut W, reason: &Reason, style: Style) -> io::Re
 }
 
 /// Prints what a refusal is, and why the system refused a call.
-fn print_text<W: Write>(
-    writer: &mut W,
-    text: &str,
-    system: Option<SystemFault>,
-) -> io::Result<()>
+fn print_text<W: Write>(writer: &mut W, text: &str, system: Option<SystemFault>) -> io::Result<()>
     ensures { OnOk result (GoesOn (W.contents writer.old) (W.contents writer.new)) }
 {
     match system {

@@ -30,9 +30,19 @@ fn refusals_are_told(rt: HostRuntime) -> Result<(), Fail> {
         },
         system: None,
     };
-    let text = told(&rt, Outcome::NoStore(Refusal::NotAStore), &known, Style::Text)?;
+    let text = told(
+        &rt,
+        Outcome::NoStore(Refusal::NotAStore),
+        &known,
+        Style::Text,
+    )?;
     assert_eq!(&rt; text.as_str(), "x");
-    let text = told(&rt, Outcome::NoStore(Refusal::NotAStore), &known, Style::Json)?;
+    let text = told(
+        &rt,
+        Outcome::NoStore(Refusal::NotAStore),
+        &known,
+        Style::Json,
+    )?;
     assert_eq!(&rt; text.as_str(), "x");
     let text = told(
         &rt,
