@@ -12,3 +12,4 @@ pub mod Scrubs
 pub mod Stats
 pub mod Repairs
 pub mod Tellings
+pub mod Copies

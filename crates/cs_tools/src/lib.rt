@@ -4,6 +4,7 @@
 mod advices;
 mod benches;
 mod commits;
+mod copies;
 mod deletes;
 mod exports;
 mod gets;
@@ -26,6 +27,7 @@ mod timings;
 
 pub use advices::{Advice, advice};
 pub use benches::{Load, bench};
+pub use copies::copy;
 pub use deletes::delete;
 pub use exports::export;
 pub use gets::get;
