@@ -112,7 +112,8 @@ pub fn system_text(fault: SystemFault) -> &'static str
     }
 }
 
-/// What to do about a refusal, by what is known of the file. To make a store is advised only where the file has no byte.
+/// What to do about a refusal, by what is known of the file. To make a store is advised only where the file has no
+/// byte.
 pub fn advice(refusal: Refusal, known: &Known) -> Advice
     ensures make { result ≡ Make → known.now.content ≡ Empty }
 {
