@@ -25,7 +25,7 @@ mod stats;
 mod tellings;
 mod timings;
 
-pub use advices::{Advice, advice, meaning};
+pub use advices::{Todo, advice, meaning};
 pub use benches::{Load, bench};
 pub use copies::copy;
 pub use deletes::delete;
