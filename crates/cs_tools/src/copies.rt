@@ -19,11 +19,13 @@ use cs_frame::ShardId;
 use cs_scrub::Progress;
 use cs_store::Store;
 
-/// Puts all shards of a store into another one, which is to have none, with a sync after every 1,000 puts and at the end; then reads all of them back from both and
-/// compares them. It is done only if both stores have the same shards with the same bytes, and all of the copy is persistent.
+/// Puts all shards of a store into another one, which is to have none, with a sync after every 1,000 puts and at the
+/// end; then reads all of them back from both and compares them. It is done only if both stores have the same shards
+/// with the same bytes, and all of the copy is persistent.
 ///
-/// Refused as `Store::put` and `Store::sync` of the other store are, 30 Full among them, and 9 OutOfMemory; the other store has some of the shards then. It ends as
-/// unread if a shard of either store can't be read, and as damaged if the other store has other shards than this one, or other bytes.
+/// Refused as `Store::put` and `Store::sync` of the other store are, 30 Full among them, and 9 OutOfMemory; the other
+/// store has some of the shards then. It ends as unread if a shard of either store can't be read, and as damaged if the
+/// other store has other shards than this one, or other bytes.
 pub fn copy<D: PageDisk, E: PageDisk, P: Progress>(
     from: &mut Store<D>,
     to: &mut Store<E>,
@@ -70,7 +72,8 @@ fn put_all<D: PageDisk, E: PageDisk, P: Progress>(
     finish(to)
 }
 
-/// Puts a shard of a store into another one, where so many were put before it, and makes all persistent after every 1,000 of them.
+/// Puts a shard of a store into another one, where so many were put before it, and makes all persistent after every
+/// 1,000 of them.
 fn put_next<D: PageDisk, E: PageDisk>(
     from: &mut Store<D>,
     to: &mut Store<E>,

@@ -25,18 +25,20 @@ fn may_hide_root(finding: Finding) -> bool
     finding.pair.page == ROOT && finding.passed_over().is_some()
 }
 
-/// Whether a repair may make a loss of commands final: one of the two pages of the root isn't whole, and it may have held the newer root. The repair would write the
-/// older root over it.
+/// Whether a repair may make a loss of commands final: one of the two pages of the root isn't whole, and it may have
+/// held the newer root. The repair would write the older root over it.
 ///
-/// A section of the superblock needs no such care while both pages of the root are whole. A section is written before the root that counts on it, and the newest root
-/// that was ever persistent is then one of the two. If it needed the damaged section, the store wouldn't open.
+/// A section of the superblock needs no such care while both pages of the root are whole. A section is written before
+/// the root that counts on it, and the newest root that was ever persistent is then one of the two. If it needed the
+/// damaged section, the store wouldn't open.
 pub fn may_be_lost(findings: &[Finding]) -> bool
     ensures { result ≡ list_any may_hide_root findings.now }
 {
     findings.iter().any(|finding| may_hide_root(*finding))
 }
 
-/// Ends a repair that may make a loss final, before it writes anything: prints after which command the others may be lost, and then the pages that aren't whole.
+/// Ends a repair that may make a loss final, before it writes anything: prints after which command the others may be
+/// lost, and then the pages that aren't whole.
 pub fn stop_repair<D: PageDisk, W: Write>(
     core: &Core<D>,
     findings: &[Finding],
