@@ -51,6 +51,3 @@ pub use cs_rescue as rescue;
 pub use cs_salvage::{Missing, Patience, Scanned};
 pub use cs_scrub::Progress;
 pub use cs_store as store;
-
-#[cfg(test)]
-mod tests;
