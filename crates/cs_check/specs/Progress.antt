@@ -59,7 +59,7 @@ AreLatest g latest = (f : ℕ) → slice_index latest f ≡ slice_index g.persis
 abbrev pub StandsBelow : List Element → ℕ → Element → Type 0
 StandsBelow xs n x = (i : ℕ) × (i < n) × (slice_get xs i ≡ Some x)
 
--- the version at place k lacks no waiting need of the next version
+-- the next version, if it waits, needs each waiting element that the version at place k needs
 abbrev pub IsNestedAt : Pending → ℕ → Type 0
 IsNestedAt g k = (f v : ℕ) (d : Named) (x : Element) → WaitsAt g k (Version f v) d → Names d x → Waits g x → Waits g (Version f (v + 1)) → Needs g (Version f (v + 1)) x
 
