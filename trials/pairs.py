@@ -106,17 +106,42 @@ def page_lines(image):
     return [f"page {it.page} not whole, page {it.other} has version {it.version}" for it in pairs_of(image).passed()]
 
 
+def greatest_command(image):
+    """The greatest number of a command that the head of a whole chunk in the extents has, wherever it lies, 0 where there is none."""
+    extents, pages, _ = pairs_of(image).named
+    greatest = 0
+    for extent in range(extents):
+        for page in range(pages):
+            first, end = 2 + extent * pages + page, 2 + (extent + 1) * pages
+            try:
+                payload = reader.frame(image[first * PAGE:end * PAGE], 0, None)
+            except reader.Unread:
+                continue
+            greatest = max(greatest, reader.head(payload).command)
+    return greatest
+
+
+def root_warnings(image, page, newest):
+    """What is told where a page of the root isn't whole and the store is opened as of the other one: as of which, and which commands may be lost."""
+    version, commands, _ = reader.root(page_of(image, newest), 3)
+    greatest = greatest_command(image)
+    if greatest > commands:
+        lost = f"commands {commands + 1} to {greatest} may be lost, or were never acknowledged (found)"
+    else:
+        lost = f"no put after command {commands} was found; deletions after it may be lost"
+    return [f"warning: THE NEWEST ROOT MAY BE LOST: page {page} is not whole; the store opens as of root {version}, with {commands} commands", f"warning: {lost}"]
+
+
 def warnings(image, is_opened):
-    """What is told of a store's pairs: which half is passed over, as of which root the store is opened where that is one of the root's, and which pair has no
-    half that is whole."""
-    pairs, told = pairs_of(image), []
+    """What is told of a store's pairs: as of which root the store is opened where a page of the root isn't whole, then which half is passed over, and which pair has
+    no half that is whole."""
+    pairs, first, told = pairs_of(image), [], []
     passed = pairs.passed_over()
     for own, newest, other in pairs.newest():
-        version = pairs.version(own, newest)
         if other in passed:
-            told.append(f"warning: page {other} is not whole; its other copy was taken")
-        if version == 0:
+            told.append(f"warning: page {other} is not whole; its other copy is used")
+        if pairs.version(own, newest) == 0:
             told.append(f"warning: neither page {own} nor its other copy, page {newest}, is whole")
         if other in passed and own == ROOT and is_opened:
-            told.append(f"warning: the store opens as of root {version}; if the newest root is the one that is not whole, commands after root {version} are lost")
-    return told
+            first = root_warnings(image, other, newest)
+    return first + told
