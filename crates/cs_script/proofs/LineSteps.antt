@@ -1,6 +1,6 @@
 -- The lines of a script, one after another.
-use Rattle.std.proofs.Common.{◌≡◌, ◌≢◌, ◌⊎◌, ◌∙◌, ℕ, ◌+◌, ◌<◌, ◌≤◌, Bool, List, [], ◌++◌, length, Some, None, sym, ap, subst, inl, inr, arith, append_assoc}
-use Rattle.std.specs.Prelude.{Option, Result, Ok, Err, IfErr, IfOk, IfSome}
+use Rattle.std.proofs.Common.{◌≡◌, ◌≢◌, ◌⊎◌, ◌∙◌, ℕ, ◌+◌, ◌<◌, ◌≤◌, List, [], ◌++◌, length, Some, None, sym, ap, subst, inl, inr, arith, append_assoc}
+use Rattle.std.specs.Prelude.{Option, IfSome}
 use Rattle.std.proofs.lemmas.List.{append-nil}
 use Rattle.std.specs.Io.BufRead.{strip_last, take_through, drop_through, first_piece, DropsThrough}
 use Rattle.std.specs.Io.KnownBytes.{Appends, IsAtEnd}

@@ -19,7 +19,7 @@ fn opening_fails(rt: HostRuntime) -> Result<(), Fail> {
 }
 
 /// A new store of 6 extents of 2 pages, opened on a disk of which a call fails, counted from the one that opens it on.
-fn core_that_fails(
+pub fn core_that_fails(
     rt: &(impl Abort + AllocGlobal),
     call: u64,
 ) -> Result<Core<FailAt<MemoryDisk>>, Fail> {

@@ -39,7 +39,7 @@ fn make(rt: &(impl Abort + AllocGlobal + Files<File = File>), path: &str) -> Res
 }
 
 /// A new store in a file, which is made, or emptied where it is there.
-fn new_in_file<R: Files<File = File>>(
+pub fn new_in_file<R: Files<File = File>>(
     rt: &R,
     alloc: Global,
     path: &str,

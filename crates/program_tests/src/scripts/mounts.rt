@@ -52,7 +52,7 @@ fn no_store_is_made_over_another(rt: HostRuntime) -> Result<(), Fail> {
         Ok(disk) => match made(alloc, disk, geometry) {
             Ok(_) => panic!(&rt; "made over another"),
             Err((refusal, disk)) => {
-                assert_eq!(&rt; refusal, Refusal::DeviceFault);
+                assert_eq!(&rt; refusal, Refusal::Occupied);
                 assert_eq!(&rt; commands_on(alloc, disk), Some(0));
             }
         },
