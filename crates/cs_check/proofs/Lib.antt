@@ -16,3 +16,9 @@ pub mod WrittenEntries
 pub mod Agrees
 pub mod Bound
 pub mod Documented
+mod Held
+mod RunSteps
+mod Permuted
+mod BeforeSteps
+mod Backs
+mod Holders

@@ -45,11 +45,11 @@ pub listed_not_persistent : (g : Pending) → IsListing g → (k : ℕ) (x : Ele
 listed_not_persistent g listing k (Plain n) d at p = p (k, d, at)
 listed_not_persistent g listing k (Version f v) d at p = absurd (omega (arith, (listing k (Version f v) d at).number.2, p))
 
-number_from : (g : Pending) (k plain : ℕ) (latest : List ℕ) (x : Element) → IsUpTo g k plain latest → IsNext plain latest x → IsNumberedAt g k x
+pub number_from : (g : Pending) (k plain : ℕ) (latest : List ℕ) (x : Element) → IsUpTo g k plain latest → IsNext plain latest x → IsNumberedAt g k x
 number_from g k plain latest (Plain n) up next = (omega (arith, next.0), next.1, λ j m d lt at. omega (arith, up.below j m d lt at, next.0))
 number_from g k plain latest (Version f v) up next = (omega (arith, next.0, up.families), next.1, omega (arith, next.2, up.versions f))
 
-next_from : (g : Pending) (k plain : ℕ) (latest : List ℕ) (x : Element) → IsUpTo g k plain latest → IsNumberedAt g k x → IsNext plain latest x
+pub next_from : (g : Pending) (k plain : ℕ) (latest : List ℕ) (x : Element) → IsUpTo g k plain latest → IsNumberedAt g k x → IsNext plain latest x
 next_from g k plain latest (Plain n) up number = (
   ⊎_elim (λ (e : plain ≡ 0). omega (arith, e, number.0)) (λ (b : WaitsBefore g k (Plain plain)). number.2 b.0 plain b.1 b.2 b.3) up.found,
   number.1,

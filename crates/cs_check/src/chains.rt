@@ -6,40 +6,47 @@ ghost use Rattle.cs_deps.specs.View.{pending_of};
 ghost use Rattle.cs_check.specs.Listing.{IsListing};
 ghost use Rattle.cs_check.specs.Progress.{IsLink};
 
-use cs_deps::{Dependency, Element, GraphView, find};
+use crate::noted::Places;
+use cs_deps::{Dependency, Element, GraphView};
 
 /// Whether the second is a need of the first.
-fn needs(view: &GraphView, first: Element, second: Element) -> bool
+fn needs(view: &GraphView, places: &Places, first: Element, second: Element) -> bool
     requires { IsListing (pending_of view.now) }
     ensures { IsTrue result ↔ Needs (pending_of view.now) first second }
 {
-    match find(&view.waiting, first) {
+    match places.find(&view.waiting, first) {
         Some(k) => view.waiting[k].1.names(second),
         None => false,
     }
 }
 
 /// Whether the member at place i is a need of the next, or the last one and named by the target.
-fn is_link(view: &GraphView, target: &Dependency, chain: &[Element], i: usize) -> bool
+fn is_link(
+    view: &GraphView,
+    places: &Places,
+    target: &Dependency,
+    chain: &[Element],
+    i: usize,
+) -> bool
     requires place { i < length chain.now }
     requires listing { IsListing (pending_of view.now) }
     ensures { IsTrue result ↔ IsLink (pending_of view.now) target.now chain.now i }
 {
     if i + 1 < chain.len() {
-        needs(view, chain[i + 1], chain[i])
+        needs(view, places, chain[i + 1], chain[i])
     } else {
         target.names(chain[i])
     }
 }
 
 /// Whether each member is a need of the next, and the last is named by the target.
-pub fn is_chain(view: &GraphView, target: &Dependency, chain: &[Element]) -> bool
+pub fn is_chain(view: &GraphView, places: &Places, target: &Dependency, chain: &[Element]) -> bool
     requires listing { IsListing (pending_of view.now) }
     requires waits { All (Waits (pending_of view.now)) chain.now }
     ensures { IsTrue result ↔ IsChainOf (pending_of view.now) target.now chain.now }
 {
     for i in 0..chain.len() {
-        if !is_link(view, target, chain, i) {
+        if !is_link(view, places, target, chain, i) {
             return false;
         }
     }

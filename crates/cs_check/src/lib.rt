@@ -1,15 +1,21 @@
 //! A checker of plans, which knows nothing of the planner, and the documents in which they are passed on.
 #![tactic(auto)]
 
+mod befores;
 mod chains;
 mod coverings;
 mod documents;
+mod earliest;
 mod faults;
 mod listings;
+mod named_back;
 mod names;
 mod nestings;
+mod noted;
+mod orders;
 mod plans;
 mod readings;
+mod runs;
 mod texts;
 mod values;
 mod verdicts;

@@ -5,8 +5,9 @@ ghost use Rattle.cs_check.specs.Listing.{IsListing, NamesOthers};
 ghost use Rattle.cs_check.specs.Progress.{NamesFrom, IsKnown, IsNext, MayStand, plain_after, latest_after, AreLatest};
 
 use crate::faults::CheckFault;
+use crate::named_back::named_back;
 use cs_deps::{Dependency, Element, GraphView};
-use std::alloc::Global;
+use std::alloc::{AllocError, Global};
 
 /// One more than the greatest number of a plain write or a version.
 pub const LIMIT: u64 = 1 << 63;
@@ -21,6 +22,14 @@ fn names_from(view: &GraphView, needs: &Dependency, k: usize) -> bool
         }
     }
     false
+}
+
+/// Whether it names no element at place k or later. It looks at each where that isn't known.
+fn names_none_from(view: &GraphView, needs: &Dependency, k: usize, is_back: bool) -> bool
+    requires { IsTrue is_back → ¬ NamesFrom (pending_of view.now) needs.now k }
+    ensures { IsTrue result ↔ (¬ NamesFrom (pending_of view.now) needs.now k) }
+{
+    is_back || !names_from(view, needs, k)
 }
 
 /// Whether it names no version past the last of its family.
@@ -72,14 +81,16 @@ fn may_stand(
     k: usize,
     element: Element,
     needs: &Dependency,
+    is_back: bool,
     plain: u64,
     latest: &[u64],
 ) -> bool
+    requires { IsTrue is_back → ¬ NamesFrom (pending_of view.now) needs.now k }
     ensures { IsTrue result ↔ MayStand (pending_of view.now) k plain latest.now element needs.now }
 {
     is_next(element, plain, latest)
         && is_known(needs, latest)
-        && !names_from(view, needs, k)
+        && names_none_from(view, needs, k, is_back)
         && names_others(view, element, needs)
 }
 
@@ -104,16 +115,38 @@ fn raise(latest: &mut Vec<u64>, element: Element)
     }
 }
 
+/// Whether the elements have the numbers that follow on one another.
+fn are_numbered(alloc: Global, view: &GraphView) -> Result<bool, AllocError>
+    ensures { IfOk result (λ yes. IsListing (pending_of view.now) → IsTrue yes) }
+{
+    let mut latest = Vec::from_slice(alloc, &view.persistent)?;
+    let mut plain = 0;
+    for k in 0..view.waiting.len() {
+        let element = view.waiting[k].0;
+        if !is_next(element, plain, &latest) {
+            return Ok(false);
+        }
+        plain = last_plain(plain, element);
+        raise(&mut latest, element);
+    }
+    Ok(true)
+}
+
 /// The last version that is listed of each family, or the persistent one.
 pub fn latest_versions(alloc: Global, view: &GraphView) -> Result<Vec<u64>, CheckFault>
     ensures ok { IfOk result (λ latest. IsListing (pending_of view.now) × AreLatest (pending_of view.now) latest.items) }
     ensures err { IfErr result (λ fault. (fault ≡ CheckFault.OutOfMemory) ⊎ ((fault ≡ CheckFault.BadDocument) × (¬ IsListing (pending_of view.now)))) }
 {
+    let numbered = are_numbered(alloc, view)?;
+    if !numbered {
+        return Err(CheckFault::BadDocument);
+    }
+    let back = named_back(alloc, view)?;
     let mut latest = Vec::from_slice(alloc, &view.persistent)?;
     let mut plain = 0;
     for k in 0..view.waiting.len() {
         let entry = &view.waiting[k];
-        if !may_stand(view, k, entry.0, &entry.1, plain, &latest) {
+        if !may_stand(view, k, entry.0, &entry.1, back[k], plain, &latest) {
             return Err(CheckFault::BadDocument);
         }
         plain = last_plain(plain, entry.0);

@@ -13,25 +13,27 @@ ghost use Rattle.cs_check.specs.Progress.{elements_of};
 
 use crate::documents::Document;
 use crate::faults::CheckFault;
-use crate::values::{element, elements, items, letters, member, named, rounds, versions};
+use crate::noted::{Places, places_of};
+use crate::runs::named;
+use crate::values::{element, elements, items, letters, member, rounds, versions};
 use crate::verdicts::well_formed;
-use cs_deps::{Dependency, Element, GraphView, Plan, find};
+use cs_deps::{Dependency, Element, GraphView, Plan};
 use serde_json::Value;
 use std::alloc::Global;
 
 /// Whether the element is listed.
-fn is_listed(waiting: &[(Element, Dependency)], element: Element) -> bool
+fn is_listed(waiting: &[(Element, Dependency)], places: &Places, element: Element) -> bool
     ensures { IsTrue result ↔ Contains (elements_in waiting.now) element }
 {
-    find(waiting, element).is_some()
+    places.find(waiting, element).is_some()
 }
 
 /// Whether each of the elements is listed.
-fn all_listed(waiting: &[(Element, Dependency)], elements: &[Element]) -> bool
+fn all_listed(waiting: &[(Element, Dependency)], places: &Places, elements: &[Element]) -> bool
     ensures { IsTrue result ↔ All (Contains (elements_in waiting.now)) elements.now }
 {
     for element in elements {
-        if !is_listed(waiting, *element) {
+        if !is_listed(waiting, places, *element) {
             return false;
         }
     }
@@ -43,6 +45,7 @@ fn entry(
     alloc: Global,
     letters: &[char],
     waiting: &[(Element, Dependency)],
+    places: &Places,
     value: &Value,
 ) -> Result<(Element, Dependency), CheckFault>
     requires { AreLetters letters.now }
@@ -51,7 +54,7 @@ fn entry(
 {
     let element = element(letters, member(value, "e")?)?;
     let needs = elements(alloc, letters, member(value, "needs")?)?;
-    if !all_listed(waiting, &needs) {
+    if !all_listed(waiting, places, &needs) {
         return Err(CheckFault::BadDocument);
     }
     let needs = named(alloc, &needs)?;
@@ -71,8 +74,10 @@ fn entries(
 {
     let values = items(value)?;
     let mut waiting = Vec::new(alloc);
+    let mut places = Places::new(alloc);
     for i in 0..values.len() {
-        let entry = entry(alloc, letters, &waiting, &values[i])?;
+        let entry = entry(alloc, letters, &waiting, &places, &values[i])?;
+        places.note(entry.0, i)?;
         waiting.push(entry)?;
     }
     Ok(waiting)
@@ -90,7 +95,8 @@ fn target(
     ensures err { IfErr result (λ fault. Blames fault ((xs : List Item) × All (IsName letters.now) xs × All (Contains (elements_in waiting.now)) xs × (view value.now ≡ names_data letters.now xs))) }
 {
     let elements = elements(alloc, letters, value)?;
-    if !all_listed(waiting, &elements) {
+    let places = places_of(alloc, waiting)?;
+    if !all_listed(waiting, &places, &elements) {
         return Err(CheckFault::BadDocument);
     }
     Ok(named(alloc, &elements)?)

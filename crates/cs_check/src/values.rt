@@ -3,18 +3,17 @@ ghost use Rattle.std.specs.Prelude.{◌≡◌, ℕ, ◌≤◌, length, slice_ind
 ghost use Rattle.serde_json.specs.Data.{Data, number, string, array, unsigned};
 ghost use Rattle.serde_json.specs.View.{view, items_view, items_of};
 ghost use Rattle.cs_deps.specs.declared.elements.Element.{Element as Item};
-ghost use Rattle.cs_deps.specs.Named.{Names};
 ghost use Rattle.cs_check.specs.Names.{AreLetters, IsLetter, IsName, name_of};
 ghost use Rattle.cs_check.specs.Faults.{Blames};
-ghost use Rattle.cs_check.specs.Documents.{HasMember, NamesToo, NamesThese, names_data, numbers_data, letters_data, rounds_data};
+ghost use Rattle.cs_check.specs.Documents.{HasMember, names_data, numbers_data, letters_data, rounds_data};
 ghost use Rattle.cs_check.specs.Progress.{elements_of};
 
 use crate::faults::CheckFault;
 use crate::listings::LIMIT;
 use crate::names::element_from;
-use cs_deps::{Dependency, Element};
+use cs_deps::Element;
 use serde_json::Value;
-use std::alloc::{AllocError, Global};
+use std::alloc::Global;
 
 /// The member of an object.
 pub fn member<'v>(value: &'v Value, key: &str) -> Result<&'v Value, CheckFault>
@@ -186,30 +185,4 @@ pub fn letters(alloc: Global, value: &Value) -> Result<Vec<char>, CheckFault>
     } else {
         Err(CheckFault::BadDocument)
     }
-}
-
-/// What one name names.
-fn one(alloc: Global, element: Element) -> Result<Dependency, AllocError>
-    ensures { IfOk result (λ d. (y : Item) → Names d y ↔ NamesToo element y) }
-{
-    match element {
-        Element::Plain(number) => Dependency::on_write(alloc, number),
-        Element::Version(family, version) => Dependency::on_version(alloc, family, version),
-    }
-}
-
-/// What these names name.
-pub fn named(alloc: Global, elements: &[Element]) -> Result<Dependency, AllocError>
-    ensures { IfOk result (λ d. NamesThese d elements.now) }
-{
-    if elements.is_empty() {
-        return Ok(Dependency::none(alloc));
-    }
-    if elements.len() == 1 {
-        return one(alloc, elements[0]);
-    }
-    let (front, back) = elements.split_at(elements.len() / 2);
-    let first = named(alloc, front)?;
-    let second = named(alloc, back)?;
-    first.and(&second)
 }

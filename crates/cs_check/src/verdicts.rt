@@ -8,10 +8,12 @@ ghost use Rattle.cs_check.specs.Faults.{FirstFailed};
 ghost use Rattle.cs_check.specs.Progress.{AreLatest, HaveFamilies, elements_of};
 
 use crate::chains::is_chain;
-use crate::coverings::{are_in_time, first_rounds, is_covered};
+use crate::coverings::{are_in_time, is_covered};
+use crate::earliest::first_rounds;
 use crate::faults::CheckFault;
 use crate::listings::{LIMIT, latest_versions};
 use crate::nestings::is_nested;
+use crate::noted::places_of;
 use crate::plans::{all_wait, are_rounds};
 use cs_deps::{Dependency, Element, GraphView, Plan};
 use std::alloc::Global;
@@ -49,10 +51,12 @@ pub fn well_formed(
     if !has_families(view) {
         return Err(CheckFault::BadDocument);
     }
-    if !are_rounds(view, rounds) {
+    let places = places_of(alloc, &view.waiting)?;
+    let rounded = are_rounds(alloc, view, &places, rounds)?;
+    if !rounded {
         return Err(CheckFault::BadDocument);
     }
-    if !all_wait(view, chain) {
+    if !all_wait(view, &places, chain) {
         return Err(CheckFault::BadDocument);
     }
     Ok(latest)
@@ -71,21 +75,22 @@ fn test(
 {
     let latest = well_formed(alloc, view, target, rounds, chain)?;
     let latest = latest.as_slice();
-    if !is_nested(view) {
+    let places = places_of(alloc, &view.waiting)?;
+    if !is_nested(view, &places) {
         return Err(CheckFault::NotNested);
     }
-    let firsts = match first_rounds(alloc, view, rounds) {
+    let firsts = match first_rounds(alloc, view, &places, rounds) {
         Ok(firsts) => firsts,
         Err(_) => return Err(CheckFault::OutOfMemory),
     };
     let firsts = firsts.as_slice();
-    if !is_covered(view, latest, firsts, rounds, target) {
+    if !is_covered(view, &places, latest, firsts, rounds, target) {
         return Err(CheckFault::Uncovered);
     }
-    if !are_in_time(view, firsts, rounds) {
+    if !are_in_time(view, &places, firsts, rounds) {
         return Err(CheckFault::TooEarly);
     }
-    if !is_chain(view, target, chain) {
+    if !is_chain(view, &places, target, chain) {
         return Err(CheckFault::ChainBroken);
     }
     if chain.len() < rounds.len() {
@@ -101,7 +106,9 @@ fn test(
 /// the view is passed over, and so is a plain write that the view doesn't list, number 0 too. A version past the last
 /// one listed is 10 as a need and 12 in the target. 9 OutOfMemory where a growth was refused.
 ///
-/// With n waiting elements, m members in all rounds and names of size d, it takes time in the order of n * (n + m) * d.
+/// It takes time in the order of all that it is given, but for sorting: the waiting elements, the members of rounds and chain,
+/// and the plain writes that needs and target name. If a need or the target names a plain write that does not wait, it
+/// looks at each waiting element for that one list of names. A span of them costs one step more for each.
 pub fn check(
     alloc: Global,
     view: &GraphView,

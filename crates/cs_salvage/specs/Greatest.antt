@@ -34,7 +34,8 @@ pub record IsScannedTo (g : Dimensions) (image : Image) (extent first number end
       → (part.head.command ≤ number) ⊎ IsWithinAPart g image extent part.page
   pub within : (page : ℕ) → first ≤ page → page < end → IsWithinAPart g image extent page
 
--- A part has this number, or it is 0; and if the extents before this one were read, no part on them that begins outside of others has a greater one.
+-- A part has this number, or it is 0; and if the extents before this one were read, no part on them that begins outside
+-- of others has a greater one.
 pub record IsScanUpTo (g : Dimensions) (image : Image) (end : ℕ) (scanned : Scanned) : Type 0 where
   pub sound : (extent : ℕ) × IsOfAPart g image extent scanned.greatest
   pub greatest : scanned.is_whole ≡ true → (part : Part) (payload : List ℕ) → IsPart g image part payload → part.extent < end

@@ -47,8 +47,9 @@ fn scan_at<D: PageDisk>(
     }
 }
 
-/// The greatest number of a command that the head of a part on an extent names, and 0 if no part is on it; commands are counted from 1. A part that begins within
-/// another one, in the bytes of a shard, doesn't count. So a store whose root counts fewer commands than this has lost some of them, or they were never acknowledged.
+/// The greatest number of a command that the head of a part on an extent names, and 0 if no part is on it; commands are
+/// counted from 1. A part that begins within another one, in the bytes of a shard, doesn't count. So a store whose root
+/// counts fewer commands than this has lost some of them, or they were never acknowledged.
 ///
 /// Each page of the extent is read once, those of a part that isn't whole twice, and each part's digest is tested.
 ///

@@ -54,8 +54,8 @@ fn scan_on<D: PageDisk, P: Patience>(
     }
 }
 
-/// The greatest number of a command that the head of a part on a device of this geometry names, extent after extent, as long as patience lasts: it is asked before each
-/// extent. A part that begins within another one doesn't count.
+/// The greatest number of a command that the head of a part on a device of this geometry names, extent after extent, as
+/// long as patience lasts: it is asked before each extent. A part that begins within another one doesn't count.
 ///
 /// 1 `DeviceFault` where a read failed, 9 `OutOfMemory`. The disk holds what it held.
 pub fn scan_commands<D: PageDisk, P: Patience>(

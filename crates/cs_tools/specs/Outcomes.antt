@@ -8,7 +8,8 @@ use Rattle.cs_disk.specs.declared.fault.SystemFault.TheVariants as fault
 use Rattle.cs_tools.specs.declared.outcomes.Outcome.{Outcome}
 use Rattle.cs_tools.specs.declared.outcomes.Outcome.TheVariants.{Absent, Damaged, Done, Failed, MayBeLost, NoStore, Refused, Unopened, Unread}
 
--- the exit status where the system refused a file: another process has it open, it isn't there or may not be used so, or there is no store to be had
+-- the exit status where the system refused a file: another process has it open, it isn't there or may not be used so,
+-- or there is no store to be had
 abbrev pub status_of_fault : SystemFault → ℕ
 status_of_fault InUse = 6
 status_of_fault NotThere = 7

@@ -1,16 +1,15 @@
 //! Copies of a whole store into another one.
-ghost use Rattle.std.specs.Prelude.{◌≡◌, ◌≢◌, ◌↔◌, IfErr, IfOk, OnOk, None, Some, length, map};
+ghost use Rattle.std.specs.Prelude.{◌≡◌, ◌≢◌, ◌⊎◌, ◌↔◌, IfErr, IfOk, OnOk, None, Some, length, map};
 ghost use Rattle.std.specs.List.{AllByRecursion};
 ghost use Rattle.cs_disk.specs.Reads.{OnlyReads};
 ghost use Rattle.cs_index.specs.State.{id_number};
 ghost use Rattle.cs_model.specs.Element.{Bytes, Map};
 ghost use Rattle.cs_store.specs.Maps.{HasMap};
 ghost use Rattle.cs_survey.specs.Listings.{AreAll};
-ghost use Rattle.cs_tools.specs.Copies.{Agree, HasAMap, MayEndCopy};
+ghost use Rattle.cs_tools.specs.Copies.{Agree, HasAMap, MayStopCopy};
 ghost use Rattle.cs_tools.specs.Reclaims.{IsPersistent};
 ghost use Rattle.cs_tools.specs.declared.outcomes.Outcome.TheVariants.{Done};
 
-use crate::commits::commit;
 use crate::exports::LINES;
 use crate::outcomes::Outcome;
 use cs_deps::Refusal;
@@ -19,18 +18,20 @@ use cs_frame::ShardId;
 use cs_scrub::Progress;
 use cs_store::Store;
 
-/// Puts all shards of a store into another one, which is to have none, with a sync after every 1,000 puts and at the end; then reads all of them back from both and
-/// compares them. It is done only if both stores have the same shards with the same bytes, and all of the copy is persistent.
+/// Puts all shards of a store into another one, which is to have none, with a sync after every 1,000 puts and at the
+/// end; then reads all of them back from both and compares them. It is done only if both stores have the same shards
+/// with the same bytes, and all of the copy is persistent.
 ///
-/// Refused as `Store::put` and `Store::sync` of the other store are, 30 Full among them, and 9 OutOfMemory; the other store has some of the shards then. It ends as
-/// unread if a shard of either store can't be read, and as damaged if the other store has other shards than this one, or other bytes.
+/// Refused as `Store::put` and `Store::sync` of the other store are, 30 Full among them, and 9 OutOfMemory; the other
+/// store has some of the shards then. It ends as unread if a shard of either store can't be read, and as damaged if the
+/// other store has other shards than this one, or other bytes.
 pub fn copy<D: PageDisk, E: PageDisk, P: Progress>(
     from: &mut Store<D>,
     to: &mut Store<E>,
     progress: &P,
 ) -> Outcome
     ensures copied { (m : Map) → HasMap from.old m → HasAMap to.old → D.honest from.old.disk → E.honest to.old.disk → result ≡ Done → HasMap to.new m × IsPersistent to.new }
-    ensures ends { MayEndCopy result }
+    ensures ends { (result ≡ Done) ⊎ MayStopCopy result }
     // The store that is copied is only read.
     ensures same { from.new ≡ record from.old { disk = from.new.disk } }
     ensures disk { OnlyReads D.PageDisk from.old.disk from.new.disk }
@@ -54,7 +55,7 @@ fn put_all<D: PageDisk, E: PageDisk, P: Progress>(
 ) -> Result<(), Outcome>
     ensures persistent { E.honest to.old.disk → OnOk result (IsPersistent to.new) }
     ensures map { HasAMap to.old → HasAMap to.new }
-    ensures ends { IfErr result MayEndCopy }
+    ensures ends { IfErr result MayStopCopy }
     ensures same { from.new ≡ record from.old { disk = from.new.disk } }
     ensures disk { OnlyReads D.PageDisk from.old.disk from.new.disk }
     ensures honest { E.honest to.old.disk ↔ E.honest to.new.disk }
@@ -70,7 +71,8 @@ fn put_all<D: PageDisk, E: PageDisk, P: Progress>(
     finish(to)
 }
 
-/// Puts a shard of a store into another one, where so many were put before it, and makes all persistent after every 1,000 of them.
+/// Puts a shard of a store into another one, where so many were put before it, and makes all persistent after every
+/// 1,000 of them.
 fn put_next<D: PageDisk, E: PageDisk>(
     from: &mut Store<D>,
     to: &mut Store<E>,
@@ -78,7 +80,7 @@ fn put_next<D: PageDisk, E: PageDisk>(
     done: usize,
 ) -> Result<(), Outcome>
     ensures map { HasAMap to.old → HasAMap to.new }
-    ensures ends { IfErr result MayEndCopy }
+    ensures ends { IfErr result MayStopCopy }
     ensures same { from.new ≡ record from.old { disk = from.new.disk } }
     ensures disk { OnlyReads D.PageDisk from.old.disk from.new.disk }
     ensures honest { E.honest to.old.disk ↔ E.honest to.new.disk }
@@ -96,7 +98,7 @@ fn put_one<D: PageDisk, E: PageDisk>(
     id: ShardId,
 ) -> Result<(), Outcome>
     ensures map { HasAMap to.old → HasAMap to.new }
-    ensures ends { IfErr result MayEndCopy }
+    ensures ends { IfErr result MayStopCopy }
     ensures same { from.new ≡ record from.old { disk = from.new.disk } }
     ensures disk { OnlyReads D.PageDisk from.old.disk from.new.disk }
     ensures honest { E.honest to.old.disk ↔ E.honest to.new.disk }
@@ -115,19 +117,19 @@ fn put_one<D: PageDisk, E: PageDisk>(
 fn finish<E: PageDisk>(to: &mut Store<E>) -> Result<(), Outcome>
     ensures persistent { E.honest to.old.disk → OnOk result (IsPersistent to.new) }
     ensures map { HasAMap to.old → HasAMap to.new }
-    ensures ends { IfErr result MayEndCopy }
+    ensures ends { IfErr result MayStopCopy }
     ensures honest { E.honest to.old.disk ↔ E.honest to.new.disk }
 {
-    match commit(to) {
-        Outcome::Done => Ok(()),
-        outcome => Err(outcome),
+    match to.sync() {
+        Ok(_) => Ok(()),
+        Err(error) => Err(Outcome::Refused(error.refusal())),
     }
 }
 
 /// The bytes of a shard that a store has.
 fn read_one<D: PageDisk>(store: &mut Store<D>, id: ShardId) -> Result<Vec<u8>, Outcome>
     ensures bytes { (m : Map) → HasMap store.old m → D.honest store.old.disk → IfOk result (λ bytes. m (id_number id) ≡ Some (Bytes bytes.items)) }
-    ensures ends { IfErr result MayEndCopy }
+    ensures ends { IfErr result MayStopCopy }
     ensures same { store.new ≡ record store.old { disk = store.new.disk } }
     ensures disk { OnlyReads D.PageDisk store.old.disk store.new.disk }
 {
@@ -147,7 +149,7 @@ fn compare_all<D: PageDisk, E: PageDisk, P: Progress>(
 ) -> Outcome
     ensures agree { (m n : Map) → HasMap from.old m → HasMap to.old n → D.honest from.old.disk → E.honest to.old.disk → AreAll (λ id. m id ≢ None) (map id_number ids.now)
         → result ≡ Done → Agree m n }
-    ensures ends { MayEndCopy result }
+    ensures ends { (result ≡ Done) ⊎ MayStopCopy result }
     ensures same { from.new ≡ record from.old { disk = from.new.disk } }
     ensures disk { OnlyReads D.PageDisk from.old.disk from.new.disk }
     ensures to_same { to.new ≡ record to.old { disk = to.new.disk } }
@@ -174,7 +176,7 @@ fn compare_each<D: PageDisk, E: PageDisk, P: Progress>(
     ensures ids { result ≡ Done → copied.now ≡ ids.now }
     ensures agree { (m n : Map) → HasMap from.old m → HasMap to.old n → D.honest from.old.disk → E.honest to.old.disk
         → result ≡ Done → AllByRecursion (λ id. n (id_number id) ≡ m (id_number id)) ids.now }
-    ensures ends { MayEndCopy result }
+    ensures ends { (result ≡ Done) ⊎ MayStopCopy result }
     ensures same { from.new ≡ record from.old { disk = from.new.disk } }
     ensures disk { OnlyReads D.PageDisk from.old.disk from.new.disk }
     ensures to_same { to.new ≡ record to.old { disk = to.new.disk } }
@@ -201,7 +203,7 @@ fn compare_one<D: PageDisk, E: PageDisk>(
 ) -> Result<(), Outcome>
     ensures id { OnOk result (copied ≡ id) }
     ensures agree { (m n : Map) → HasMap from.old m → HasMap to.old n → D.honest from.old.disk → E.honest to.old.disk → OnOk result (n (id_number id) ≡ m (id_number id)) }
-    ensures ends { IfErr result MayEndCopy }
+    ensures ends { IfErr result MayStopCopy }
     ensures same { from.new ≡ record from.old { disk = from.new.disk } }
     ensures disk { OnlyReads D.PageDisk from.old.disk from.new.disk }
     ensures to_same { to.new ≡ record to.old { disk = to.new.disk } }
@@ -220,7 +222,7 @@ fn compare_bytes<D: PageDisk, E: PageDisk>(
     id: ShardId,
 ) -> Result<(), Outcome>
     ensures agree { (m n : Map) → HasMap from.old m → HasMap to.old n → D.honest from.old.disk → E.honest to.old.disk → OnOk result (n (id_number id) ≡ m (id_number id)) }
-    ensures ends { IfErr result MayEndCopy }
+    ensures ends { IfErr result MayStopCopy }
     ensures same { from.new ≡ record from.old { disk = from.new.disk } }
     ensures disk { OnlyReads D.PageDisk from.old.disk from.new.disk }
     ensures to_same { to.new ≡ record to.old { disk = to.new.disk } }
@@ -231,8 +233,19 @@ fn compare_bytes<D: PageDisk, E: PageDisk>(
         Err(outcome) => return Err(outcome),
     };
     match read_one(to, id) {
-        Ok(read) if read.as_slice() == put.as_slice() => Ok(()),
-        Ok(_) => Err(Outcome::Damaged),
+        Ok(read) => check_same(&read, &put),
         Err(outcome) => Err(outcome),
+    }
+}
+
+/// Checks that these are the same bytes.
+fn check_same(read: &[u8], put: &[u8]) -> Result<(), Outcome>
+    ensures same { OnOk result (read.now ≡ put.now) }
+    ensures ends { IfErr result MayStopCopy }
+{
+    if read == put {
+        Ok(())
+    } else {
+        Err(Outcome::Damaged)
     }
 }

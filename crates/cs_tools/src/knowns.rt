@@ -84,7 +84,8 @@ fn named_by(superblock: &Superblock) -> Option<Named> {
     })
 }
 
-/// The store that the bytes of this page name: on page 0 in any format, elsewhere in format 3, whose second copy is the last page of its store.
+/// The store that the bytes of this page name: on page 0 in any format, elsewhere in format 3, whose second copy is the
+/// last page of its store.
 fn named_in(alloc: Global, number: u64, bytes: &[u8; 4096]) -> Option<Named> {
     let read = if number == 0 {
         decode_superblock(alloc, bytes)
@@ -127,7 +128,7 @@ fn named_at_end<D: PageDisk>(alloc: Global, disk: &mut D) -> Option<Named>
 }
 
 /// The store that a page of the device names: page 0, or else one of the last.
-fn named<D: PageDisk>(alloc: Global, disk: &mut D) -> Option<Named>
+fn find_named<D: PageDisk>(alloc: Global, disk: &mut D) -> Option<Named>
     requires { 0 < D.page_count disk.old }
     ensures disk { OnlyReads D.PageDisk disk.old disk.new }
 {
@@ -186,7 +187,7 @@ fn content_of<D: PageDisk>(alloc: Global, disk: &mut D) -> Content
     ensures disk { OnlyReads D.PageDisk disk.old disk.new }
 {
     let pages = disk.pages();
-    match named(alloc, disk) {
+    match find_named(alloc, disk) {
         None => content_without(alloc, disk),
         Some(named) if named.pages != pages => Content::Length {
             pages,
@@ -199,8 +200,9 @@ fn content_of<D: PageDisk>(alloc: Global, disk: &mut D) -> Content
     }
 }
 
-/// What is known of a device by its pages: which store a superblock on it names, and whether that is of the device's pages. It reads page 0, some of the
-/// last pages if page 0 isn't a superblock, and the pages that a store of format 3 has twice. Pages that can't be read are taken for damaged ones.
+/// What is known of a device by its pages: which store a superblock on it names, and whether that is of the device's
+/// pages. It reads page 0, some of the last pages if page 0 isn't a superblock, and the pages that a store of format 3
+/// has twice. Pages that can't be read are taken for damaged ones.
 pub fn known_of<D: PageDisk>(alloc: Global, disk: &mut D) -> Known
     ensures empty { (result.content ≡ Empty) ↔ (D.page_count disk.old ≡ 0) }
     ensures length { (pages wanted : _) → result.content ≡ Length pages wanted → (pages ≡ D.page_count disk.old) × (wanted ≢ pages) }

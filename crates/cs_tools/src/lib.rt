@@ -25,7 +25,7 @@ mod stats;
 mod tellings;
 mod timings;
 
-pub use advices::{Advice, advice};
+pub use advices::{Todo, advice, meaning};
 pub use benches::{Load, bench};
 pub use copies::copy;
 pub use deletes::delete;
@@ -44,13 +44,10 @@ pub use salvages::{Salvaged, export_salvaged, salvage};
 pub use scans::greatest_command;
 pub use scrubs::scrub;
 pub use stats::stat;
-pub use tellings::{explain, tell, warn};
+pub use tellings::{explain, print_outcome, tell, warn};
 
 // What callers need of the crate below.
 pub use cs_rescue as rescue;
 pub use cs_salvage::{Missing, Patience, Scanned};
 pub use cs_scrub::Progress;
 pub use cs_store as store;
-
-#[cfg(test)]
-mod tests;

@@ -22,7 +22,8 @@ pub enum Outcome {
     Unread(Refusal),
     /// Some of what is there couldn't be read, and which was told. Status 5.
     Damaged,
-    /// The operating system refused the file. Status 6 if another process has it open; 7 if it isn't there, or may not be used so; else 3.
+    /// The operating system refused the file. Status 6 if another process has it open; 7 if it isn't there, or may not
+    /// be used so; else 3.
     Unopened(SystemFault),
     /// A repair stopped before it wrote anything, since it could make a loss of commands final. Status 5.
     MayBeLost,

@@ -1,5 +1,5 @@
 //! Scans of a device for the greatest number of a command.
-ghost use Rattle.std.specs.Prelude.{◌≡◌, ◌⊎◌, ◌<◌, ◌≤◌, Err, IfErr, IfOk, MatchOption, None, ⊥};
+ghost use Rattle.std.specs.Prelude.{◌≡◌, ◌⊎◌, ◌<◌, ◌≤◌, Err, IfErr, IfOk, MatchOption, None};
 ghost use Rattle.cs_chunk.specs.Reads.{IsCaused};
 ghost use Rattle.cs_disk.specs.Disk.{seen};
 ghost use Rattle.cs_disk.specs.Reads.{OnlyReads};
@@ -13,8 +13,9 @@ use cs_pair::find_geometry;
 use cs_salvage::{Patience, Scanned, scan_commands};
 use std::alloc::Global;
 
-/// The greatest number of a command among the whole frames on a device of a store of format 3, extent after extent, as long as patience lasts. If it is above the number
-/// of commands that the root counts, the commands between them are lost, or were never acknowledged.
+/// The greatest number of a command among the whole frames on a device of a store of format 3, extent after extent, as
+/// long as patience lasts. If it is above the number of commands that the root counts, the commands between them are
+/// lost, or were never acknowledged.
 ///
 /// Refused 43 NotAStore where there is no store of format 3 of that many pages, 1 DeviceFault, and 9 OutOfMemory.
 pub fn greatest_command<D: PageDisk, P: Patience>(

@@ -1,9 +1,12 @@
-use Rattle.std.proofs.Common.{ℕ, subst, sym}
+use Rattle.std.proofs.Common.{ℕ, arith, subst, sym}
 use Rattle.std.proofs.lemmas.List.{length-map}
 use Rattle.cs_deps.specs.View.{pending_of}
 use Rattle.cs_check.specs.Progress.{elements_of, AllBefore}
 use Rattle.cs_check.proofs.Covered.{covers_from, covers_to}
 use Rattle.cs_check.proofs.coverings.is_covered.Goals as goal
+
+pub are_before-requires-clause-firsts : goal.are_before-requires-clause-firsts
+are_before-requires-clause-firsts c = (elements_of c.args.rounds.now, c.requires.firsts, omega (arith, length-map c.args.rounds.now (λ round. round.items)))
 
 pub returns-then-is_known : goal.returns-then-is_known
 returns-then-is_known c =
@@ -11,8 +14,8 @@ returns-then-is_known c =
     let rounds = elements_of c.args.rounds.now in
     let count = length-map c.args.rounds.now (λ round. round.items) in (
       (λ yes. covers_from g c.requires.listing c.args.latest.now c.requires.latest rounds c.args.firsts.now c.requires.firsts c.args.target.now (c.is_known.ensures.0 c.if-is_known.true)
-          (subst (λ (n : ℕ). AllBefore g c.args.firsts.now c.args.target.now n) (sym count) (c.all_before.ensures.0 yes))),
-      (λ covers. c.all_before.ensures.1
+          (subst (λ (n : ℕ). AllBefore g c.args.firsts.now c.args.target.now n) (sym count) (c.are_before.ensures.0 yes))),
+      (λ covers. c.are_before.ensures.1
           (subst (λ (n : ℕ). AllBefore g c.args.firsts.now c.args.target.now n) count
           (covers_to g c.requires.listing c.args.latest.now c.requires.latest rounds c.requires.schedule c.args.firsts.now c.requires.firsts c.args.target.now covers).1)),
     )

@@ -12,7 +12,7 @@ returns-in-Some c =
     let same = c.index.ensures ∙ get_or_from_slice_get c.args.view.now.waiting.items c.in-Some.k (c.args.element, found.0) c.index.result.now found.1 in
     let both = needs_before_at g c.requires.listing c.args.firsts.now c.args.element c.args.i c.in-Some.k c.index.result.now.1
     (subst (λ d. WaitsAt g c.in-Some.k c.args.element d) (sym (ap (λ w. w.1) same)) found.1) in
-    ((λ yes. both.0 (c.all_before.ensures.0 yes)), (λ needs. c.all_before.ensures.1 (both.1 needs)))
+    ((λ yes. both.0 (c.are_before.ensures.0 yes)), (λ needs. c.are_before.ensures.1 (both.1 needs)))
 
 pub returns-in-None : goal.returns-in-None
 returns-in-None c =

@@ -1,9 +1,23 @@
-use Rattle.std.proofs.Common.{◌∙◌, ◌+◌, List, length, sym, subst, inr, refl, arith, ℕ}
-use Rattle.std.proofs.lemmas.Option.{slice_get_read}
+use Rattle.std.proofs.Common.{false, ◌∙◌, ◌+◌, List, length, sym, subst, inr, refl, arith, ℕ}
+use Rattle.std.proofs.lemmas.Option.{slice_get_read, get_or_from_slice_get}
 use Rattle.cs_deps.specs.View.{pending_of}
 use Rattle.cs_check.specs.Progress.{IsUpTo, MayStand, plain_after}
 use Rattle.cs_check.proofs.ListingSteps.{up_to_none, may_stand_from, listed_from, up_to_next, listed_next, all_listed, latest_at_end}
 use Rattle.cs_check.proofs.listings.latest_versions.Goals as goal
+
+pub index-requires : goal.index-requires
+index-requires c = omega (arith, c.in_ok-back.ensures.count)
+
+pub may_stand-requires : goal.may_stand-requires
+may_stand-requires c shown =
+    let x = c.index-entry.result.now.0 in
+    let d = c.index-entry.result.now.1 in
+    let at = slice_get_read c.args.view.now.waiting.items (length c.args.view.now.waiting.items) c.loop-k.k c.index-entry.result.now refl (omega arith) c.index-entry.ensures in
+    let flag = slice_get_read c.in_ok-back.back.items (length c.in_ok-back.back.items) c.loop-k.k c.index.result.now refl (omega (arith, c.in_ok-back.ensures.count)) c.index.ensures in
+    c.in_ok-back.ensures.back c.loop-k.k x d at (get_or_from_slice_get c.in_ok-back.back.items c.loop-k.k c.index.result.now false flag ∙ shown)
+
+pub returns-then-not-numbered-clause-err : goal.returns-then-not-numbered-clause-err
+returns-then-not-numbered-clause-err c = inr (refl, λ listing. absurd (cc (c.in_ok-numbered.ensures listing, c.if-not-numbered.true)))
 
 pub loop-k-init : goal.loop-k-init
 loop-k-init c = record {

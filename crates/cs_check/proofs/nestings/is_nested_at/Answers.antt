@@ -16,7 +16,7 @@ returns-in-Some c =
     let same = c.index.ensures ∙ get_or_from_slice_get items c.in-Some.next (Version c.in-Version.family (c.in-Version.version + 1), found.0) c.index.result.now found.1 in
     let both = nested_next g c.requires.listing c.args.k c.in-Some.next c.in-Version.family c.in-Version.version c.index-entry.result.now.1 c.index.result.now.1 at
     (subst (λ d. WaitsAt g c.in-Some.next (Version c.in-Version.family (c.in-Version.version + 1)) d) (sym (ap (λ w. w.1) same)) found.1) in
-    ((λ yes. both.0 (c.names_as_much.ensures.0 yes)), (λ nested. c.names_as_much.ensures.1 (both.1 nested)))
+    ((λ yes. both.0 (c.names_all.ensures.0 yes)), (λ nested. c.names_all.ensures.1 (both.1 nested)))
 
 pub returns-in-None : goal.returns-in-None
 returns-in-None c =

@@ -15,17 +15,17 @@ returns-then-not-all_wait c =
     let at = elements_at c.args.rounds.now c.loop-i.i c.index-rounds-i.result (slice_get_read c.args.rounds.now (length c.args.rounds.now) c.loop-i.i c.index-rounds-i.result refl c.loop-i-test.true c.index-rounds-i.is) in
     ((λ e. cc e), (λ both. absurd (cc (c.all_wait.ensures.1 (subst (λ (xs : List Element). All (Waits (pending_of c.args.view.now)) xs) (sym c.deref.ensures.value) (at_from (λ (xs : List Element). All (Waits (pending_of c.args.view.now)) xs) (elements_of c.args.rounds.now) c.loop-i.i c.index-rounds-i.result.items both.0 at)), c.if-not-all_wait.true))))
 
-pub returns-then-not-is_once : goal.returns-then-not-is_once
-returns-then-not-is_once c =
+pub returns-then-not-once : goal.returns-then-not-once
+returns-then-not-once c =
     let at = elements_at c.args.rounds.now c.loop-i.i c.index-rounds-i.result (slice_get_read c.args.rounds.now (length c.args.rounds.now) c.loop-i.i c.index-rounds-i.result refl c.loop-i-test.true c.index-rounds-i.is) in
-    ((λ e. cc e), (λ both. absurd (cc (c.is_once.ensures.1 (subst (λ (xs : List Element). IsOnce xs) (sym c.deref-in-loop-i.ensures.value) (at_from IsOnce (elements_of c.args.rounds.now) c.loop-i.i c.index-rounds-i.result.items both.1 at)), c.if-not-is_once.true))))
+    ((λ e. cc e), (λ both. absurd (cc (c.in_ok-once.ensures.1 (subst (λ (xs : List Element). IsOnce xs) (sym c.deref-in-loop-i.ensures.value) (at_from IsOnce (elements_of c.args.rounds.now) c.loop-i.i c.index-rounds-i.result.items both.1 at)), c.if-not-once.true))))
 
 pub loop-i-preserved : goal.loop-i-preserved
 loop-i-preserved c =
     let at = elements_at c.args.rounds.now c.loop-i.i c.index-rounds-i.result (slice_get_read c.args.rounds.now (length c.args.rounds.now) c.loop-i.i c.index-rounds-i.result refl c.loop-i-test.true c.index-rounds-i.is) in
     each_next (λ _ xs. All (Waits (pending_of c.args.view.now)) xs × IsOnce xs) (elements_of c.args.rounds.now) c.loop-i.i c.index-rounds-i.result.items at (
       subst (λ (xs : List Element). All (Waits (pending_of c.args.view.now)) xs) c.deref.ensures.value (c.all_wait.ensures.0 c.if-not-all_wait.false),
-      subst (λ (xs : List Element). IsOnce xs) c.deref-in-loop-i.ensures.value (c.is_once.ensures.0 c.if-not-is_once.false),
+      subst (λ (xs : List Element). IsOnce xs) c.deref-in-loop-i.ensures.value (c.in_ok-once.ensures.0 c.if-not-once.false),
     )
     c.loop-i.invariant
 
