@@ -1,11 +1,19 @@
 -- What stands against making a store, as it is found.
-use Rattle.std.proofs.Common.{◌≡◌, ◌∙◌, ◌↔◌, ◌-◌, ◌<◌, inl, inr, Some, Result, Ok, Err, IfOk, refl, ⊎_elim, ℕ, Bool, true, false, Option, None, List, Contains, IsTrue, ap, subst, sym, map, length, nat_lt, get_or, arith}
+use Rattle.std.proofs.Common.{◌≡◌, ◌⊎◌, ◌∙◌, ◌↔◌, ◌-◌, ◌<◌, inl, inr, Some, Result, Ok, Err, IfOk, refl, ⊎_elim, ℕ, Bool, true, false, Option, None, List, Contains, IsTrue, ap, subst, sym, map, length, nat_lt, get_or, arith}
 use Rattle.std.specs.List.{list_any}
 use Rattle.std.proofs.lemmas.Bool.{lt-ltb, ltb-true}
 use Rattle.std.proofs.lemmas.List.{get_or-map, length-map}
 use Rattle.std.proofs.lemmas.List.Elements.{Contains-get_or}
 use Rattle.std.proofs.lemmas.List.Folds.{Any-from_list_any, list_any_at}
+use Rattle.cs_deps.specs.Refusals.{number_of}
+use Rattle.cs_deps.specs.declared.refusals.Refusal.{Refusal}
+use Rattle.cs_deps.specs.declared.refusals.Refusal.TheVariants.{DeviceFault, NotAStore, Occupied, OutOfMemory}
+use Rattle.cs_disk.specs.declared.fault.DiskFault.{DiskFault}
+use Rattle.cs_disk.specs.declared.fault.DiskFault.TheVariants as disk
 use Rattle.cs_disk.specs.Disk.{Image, State, page, seen}
+use Rattle.cs_disk.specs.Faults.{disk_fault_number}
+use Rattle.cs_frame.specs.declared.faults.FormatFault.{FormatFault}
+use Rattle.cs_frame.specs.FirstFormat.{page_zero_fault}
 use Rattle.cs_frame.specs.Geometries.{Dimensions}
 use Rattle.cs_pair.specs.declared.findings.Finding.{Finding}
 use Rattle.cs_pair.specs.declared.pairs.Held.{Held}
@@ -14,7 +22,7 @@ use Rattle.cs_pair.specs.Findings.{finding_in}
 use Rattle.cs_pair.specs.Kept.{IsOfStore}
 use Rattle.cs_pair.specs.Pairs.{ArePairs, Versions, held_in}
 use Rattle.cs_pair.specs.Showing.{findings_on}
-use Rattle.cs_pair.specs.Stores.{dimensions_on, first_says, pages_of, store_pairs, store_version}
+use Rattle.cs_pair.specs.Stores.{dimensions_on, first_says, or_else, pages_of, store_pairs, store_version, zero_said}
 use Rattle.cs_pair.proofs.Holding.{held_found}
 use Rattle.cs_pair.proofs.Keeping.{made_of_store, not_both}
 use Rattle.cs_mount.specs.Looks.{IsLeftOver, IsTaken, is_whole}
@@ -58,12 +66,16 @@ module _ (pages : ℕ) (image : Image) (V : Versions) (pairs : List Pair) where
   pub last_left : (last : Option Dimensions) (d : Dimensions) → last ≡ first_says pages (page image (pages - 1)) → last ≡ Some d → IsLeftOver pages image V pairs
   last_left last d is some = inl (λ none. not_both last d (is ∙ none) some)
 
-  -- no store was found
-  pub left_taken : (store : Option Dimensions) (b : Bool) → store ≡ dimensions_on pages image → store ≡ None → IsTrue b ↔ IsLeftOver pages image V pairs → IsTrue b ↔ IsTaken pages image V pairs
-  left_taken store b is nothing left = (
+  -- page 0 is no first section
+  pub left_taken : (holds b : Bool) → IsTrue holds ↔ (page_zero_fault (page image 0) ≡ None) → holds ≡ false → IsTrue b ↔ IsLeftOver pages image V pairs → IsTrue b ↔ IsTaken pages image V pairs
+  left_taken holds b first not_first left = (
     (λ true_is. inr (left.0 true_is)),
-    (λ taken. ⊎_elim (λ some. absurd (some (sym is ∙ nothing))) (λ over. left.1 over) taken),
+    (λ taken. ⊎_elim (λ (spelled : page_zero_fault (page image 0) ≡ None). absurd (let clash : holds ≡ true = first.1 spelled in cc (clash, not_first))) (λ over. left.1 over) taken),
   )
+
+  -- page 0 is one
+  pub first_taken : (holds : Bool) → IsTrue holds ↔ (page_zero_fault (page image 0) ≡ None) → holds ≡ true → IsTaken pages image V pairs
+  first_taken holds first is = inl (first.0 is)
 
   -- nothing stands against it
   pub free : (b : Bool) → b ≡ false → IsTrue b ↔ IsTaken pages image V pairs → IsTaken pages image V pairs → ⊥
@@ -72,14 +84,7 @@ module _ (pages : ℕ) (image : Image) (V : Versions) (pairs : List Pair) where
       both : b ≡ true → ⊥
       both true_is = cc
 
-  -- so none is found, and the last page holds none
-  pub none_found : (IsTaken pages image V pairs → ⊥) → dimensions_on pages image ≡ None
-  none_found free = by_store (dimensions_on pages image) refl
-    where
-      by_store : (o : Option Dimensions) → dimensions_on pages image ≡ o → dimensions_on pages image ≡ None
-      by_store None is = is
-      by_store (Some d) is = absurd (free (inl (λ none. not_both (dimensions_on pages image) d none is)))
-
+  -- so the last page holds no first section, and there is no store
   pub none_last : (IsTaken pages image V pairs → ⊥) → first_says pages (page image (pages - 1)) ≡ None
   none_last free = by_last (first_says pages (page image (pages - 1))) refl
     where
@@ -87,12 +92,21 @@ module _ (pages : ℕ) (image : Image) (V : Versions) (pairs : List Pair) where
       by_last None is = is
       by_last (Some d) is = absurd (free (inr (last_left (Some d) d (sym is) refl)))
 
--- what is left over, by reads that found no store before
-pub left_behind : {E : Type 0} (r : Result Bool E) (n m : ℕ) (s after : State) (V : Versions) (pairs : List Pair) (store : Option Dimensions) → m ≡ n → after ≡ s → store ≡ dimensions_on n (seen s) → store ≡ None
+  pub none_found : (IsTaken pages image V pairs → ⊥) → dimensions_on pages image ≡ None
+  none_found free = by_first (page_zero_fault (page image 0)) refl
+    where
+      by_first : (o : Option FormatFault) → page_zero_fault (page image 0) ≡ o → dimensions_on pages image ≡ None
+      by_first None is = absurd (free (inl is))
+      by_first (Some fault) is =
+          ap (λ (o : Option FormatFault). or_else (zero_said pages o (page image 0)) (first_says pages (page image (pages - 1)))) is ∙ none_last free
+
+-- what is left over, by reads that found no first section on page 0 before
+pub left_behind : {E : Type 0} (r : Result Bool E) (n m : ℕ) (s after : State) (V : Versions) (pairs : List Pair) (holds : Bool) → m ≡ n → after ≡ s
+    → IsTrue holds ↔ (page_zero_fault (page (seen s) 0) ≡ None) → holds ≡ false
     → IfOk r (λ b. IsTrue b ↔ IsLeftOver m (seen after) V pairs) → IfOk r (λ b. IsTrue b ↔ IsTaken n (seen s) V pairs)
-left_behind (Err e) n m s after V pairs store count same is nothing left = tt
-left_behind (Ok b) n m s after V pairs store count same is nothing left =
-    left_taken n (seen s) V pairs store b is nothing
+left_behind (Err e) n m s after V pairs holds count same is nothing left = tt
+left_behind (Ok b) n m s after V pairs holds count same is nothing left =
+    left_taken n (seen s) V pairs holds b is nothing
     (subst (λ k. IsTrue b ↔ IsLeftOver k (seen s) V pairs) count (subst (λ (z : State). IsTrue b ↔ IsLeftOver m (seen z) V pairs) same left))
 
 -- a disk that was found free fits the store that is made on it
@@ -101,3 +115,11 @@ pub free_fits : (d : Dimensions) (pairs : List Pair) (n : ℕ) (image : Image) (
 free_fits d pairs n image b some size are its sized test taken =
     let none : IsTaken n image (store_version (Some d)) pairs → ⊥ = free n image (store_version (Some d)) pairs b test taken in
     made_of_store d pairs n image some size are its sized (none_found n image (store_version (Some d)) pairs none) (none_last n image (store_version (Some d)) pairs none) (λ x has whole. none (inr (inr (x, has, whole))))
+
+-- no fault of a device is told as 45, and neither is what else a making is refused for
+pub no_fault_is_occupied : (fault : DiskFault) (r : Refusal) → number_of r ≡ disk_fault_number fault → r ≡ Occupied → ⊥
+no_fault_is_occupied disk.DeviceFault r number is = let no : 45 ≡ 1 = sym (ap number_of is) ∙ number in cc no
+no_fault_is_occupied disk.OutOfMemory r number is = let no : 45 ≡ 9 = sym (ap number_of is) ∙ number in cc no
+
+pub never_occupied : (r : Refusal) → (r ≡ NotAStore) ⊎ (r ≡ DeviceFault) ⊎ (r ≡ OutOfMemory) → r ≡ Occupied → ⊥
+never_occupied r why is = ⊎_elim (λ (a : r ≡ NotAStore). cc (a, is)) (λ rest. ⊎_elim (λ (b : r ≡ DeviceFault). cc (b, is)) (λ (m : r ≡ OutOfMemory). cc (m, is)) rest) why

@@ -12,7 +12,9 @@ ghost use Rattle.cs_pair.specs.Stores.{store_version};
 use cs_chunk::refusal_of_disk;
 use cs_deps::Refusal;
 use cs_disk::{DiskFault, PageDisk};
-use cs_pair::{Finding, Pair, StoreRules, find_geometry, find_last, read_findings};
+use cs_pair::{
+    Finding, Pair, StoreRules, find_geometry, find_last, holds_superblock, read_findings,
+};
 use std::alloc::Global;
 
 /// What the pairs of the store hold that is on the disk.
@@ -83,7 +85,8 @@ fn is_left<D: PageDisk>(
     }
 }
 
-/// Whether there is a store of format 3 on the disk, or its last page holds the first section of one, or one of these pairs has a half that is whole. Nothing is flushed or written.
+/// Whether the disk holds a store, or what is left of one: page 0 is the first section of a store, of whatever format; or, of format 3, the last page is one, or one of these pairs has a half
+/// that is whole. Nothing is flushed or written.
 pub fn is_taken<D: PageDisk>(
     alloc: Global,
     disk: &mut D,
@@ -96,9 +99,9 @@ pub fn is_taken<D: PageDisk>(
     ensures disk { OnlyReads D.PageDisk disk.old disk.new }
     ensures cause { HasCause (D.failure_count disk.old) (D.failure_count disk.new) result }
 {
-    match find_geometry(alloc, disk) {
-        Ok(Some(_)) => Ok(true),
-        Ok(None) => is_left(alloc, disk, rules, pairs),
+    match holds_superblock(alloc, disk) {
+        Ok(true) => Ok(true),
+        Ok(false) => is_left(alloc, disk, rules, pairs),
         Err(fault) => Err(fault),
     }
 }

@@ -29,12 +29,12 @@ use std::alloc::Global;
 /// A disk over which a store lies: in format 3 its most important pages have two pages each.
 pub type Mounted<D> = Paired<D, StoreRules>;
 
-/// Makes a new store of this geometry on a disk that holds none of format 3: looks for one, flushes the disk, writes the superblock and the root, each of them once, and makes them
-/// durable. Over a store of an earlier format it is made as over anything else.
+/// Makes a new store of this geometry on a disk that holds none: looks for one, flushes the disk, writes the superblock and the root, each of them once, and makes them
+/// durable.
 ///
-/// The disk comes back where it is refused: 43 NotAStore where it hasn't the geometry's pages; 1 DeviceFault, or 9, where a store of format 3 is on the disk, of whatever dimensions
-/// that have the device's pages, or something is left of one, the first section on the last page or a whole page of those that the new store has twice, and then nothing is written or
-/// flushed; 1 where the device refuses a call, and 9 OutOfMemory, after which the superblock and the root may be there in part. That nothing else was written then is by its form.
+/// If it is refused, the disk comes back. 43 NotAStore: the disk hasn't the geometry's pages. 45 Occupied: a store is on the disk, or what is left of one. That is a first section of a
+/// superblock on page 0, of whatever format and geometry, or one of format 3 on the last page, or a whole page of those that the new store has twice. Nothing is written or flushed then.
+/// 1 DeviceFault: the device refused a call; and 9 OutOfMemory. After these two the superblock and the root may be there in part. That nothing else was written then is by its form.
 pub fn make_store<D: PageDisk + Drop>(
     alloc: Global,
     disk: D,
@@ -52,9 +52,11 @@ pub fn make_store<D: PageDisk + Drop>(
     ensures honest { MatchResult result (λ core. D.honest disk ↔ D.honest (disk_below core.disk)) (λ refused. D.honest disk ↔ D.honest refused.1) }
     ensures sized { OnOk result (D.page_count disk ≡ device_pages geometry.format geometry.extents geometry.pages geometry.sections) }
     ensures not_a_store { IfErr result (λ refused. (refused.0 ≡ Refusal.NotAStore) ↔ (D.page_count disk ≢ device_pages geometry.format geometry.extents geometry.pages geometry.sections)) }
-    ensures refusals { IfErr result (λ refused. (refused.0 ≡ Refusal.NotAStore) ⊎ (refused.0 ≡ Refusal.DeviceFault) ⊎ (refused.0 ≡ Refusal.OutOfMemory)) }
+    ensures refusals { IfErr result (λ refused. (refused.0 ≡ Refusal.NotAStore) ⊎ (refused.0 ≡ Refusal.Occupied) ⊎ (refused.0 ≡ Refusal.DeviceFault) ⊎ (refused.0 ≡ Refusal.OutOfMemory)) }
     ensures same { D.page_count disk ≢ device_pages geometry.format geometry.extents geometry.pages geometry.sections → result ≡ Err (Refusal.NotAStore, disk) }
-    // No store is made over one of format 3, nor over what is left of one, and it is as it was then.
+    // It is refused 45 only where a store is there, or what is left of one.
+    ensures occupied { D.honest disk → IfErr result (λ refused. refused.0 ≡ Refusal.Occupied → IsTaken (D.page_count disk) (seen (D.state disk)) (store_version (Some geometry)) (store_pairs geometry)) }
+    // No store is made there, and it is as it was then.
     ensures taken { D.honest disk → IsTaken (D.page_count disk) (seen (D.state disk)) (store_version (Some geometry)) (store_pairs geometry) → MatchResult result (λ core. ⊥) (λ refused. D.state refused.1 ≡ D.state disk) }
 {
     // Called for its contract alone: what every geometry keeps.
@@ -72,7 +74,7 @@ pub fn make_store<D: PageDisk + Drop>(
     let mut disk = disk;
     match is_taken(alloc, &mut disk, &rules, &pairs) {
         Ok(false) => {}
-        Ok(true) => return Err((Refusal::DeviceFault, disk)),
+        Ok(true) => return Err((Refusal::Occupied, disk)),
         Err(fault) => return Err((refusal_of_disk(fault), disk)),
     }
     match Paired::new(alloc, disk, rules, pairs) {

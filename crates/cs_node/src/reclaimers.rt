@@ -71,7 +71,8 @@ impl<K: Naming> Reclaimer<K> {
     }
 
     /// Does one event of a sweep under one lock. A sweep begins with the lowest extent above the one that was begun last that may be
-    /// swept, else with the lowest that may, else there is nothing to do. Its chunks are moved until none is live, and it is retired.
+    /// swept, else with the lowest that may, else there is nothing to do. It goes by numbers alone and doesn't look at garbage, so it sweeps extents
+    /// without any too, in every format. Its chunks are moved until none is live, and it is retired.
     /// After a move or a retirement that was refused the next turn abandons it.
     ///
     /// Refused as the event is, 9 OutOfMemory, and 41 HistoryFull where it is a sweep's begin or a move. A sweep that isn't gone on with leaves its
@@ -210,7 +211,8 @@ fn is_recorded(refusal: Refusal) -> bool
     !matches!(refusal, Refusal::OutOfMemory | Refusal::HistoryFull)
 }
 
-/// The lowest extent above the last one that may be swept, else the lowest that may.
+/// The lowest extent above the last one that may be swept, else the lowest that may. It goes by numbers alone, and looks at no
+/// garbage: an extent full of live chunks is swept, too (in format 3 also the one that is being filled).
 fn next_extent<D: PageDisk>(core: &Core<D>, last: Option<usize>) -> Option<usize>
     ensures { MatchOption result (NoneFrom core.now.store 0) (λ e. IsNextAfter core.now.store last e) }
 {

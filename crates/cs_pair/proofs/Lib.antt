@@ -21,4 +21,5 @@ pub mod Aging
 pub mod Blank
 pub mod Refinding
 pub mod Keeping
+pub mod First
 pub mod Fits

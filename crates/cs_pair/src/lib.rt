@@ -24,5 +24,7 @@ pub use older::AsOf;
 pub use paired::Paired;
 pub use pairs::{Held, PageRules, Pair};
 pub use readings::read_findings;
-pub use stores::{StoreRules, find_geometry, find_last, open_store, pairs_of_store};
+pub use stores::{
+    StoreRules, find_geometry, find_last, holds_superblock, open_store, pairs_of_store,
+};
 pub use tears::TearDisk;

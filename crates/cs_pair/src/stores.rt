@@ -1,5 +1,5 @@
 // The pairs of a store.
-ghost use Rattle.std.specs.Prelude.{◌≡◌, ◌≢◌, ◌==◌, ◌&&◌, ◌⊎◌, ◌↔◌, ◌+◌, ◌-◌, ◌<◌, ◌≤◌, ℕ, [], IfErr, IfOk, IfSome, MatchResult};
+ghost use Rattle.std.specs.Prelude.{◌≡◌, ◌≢◌, ◌==◌, ◌&&◌, ◌⊎◌, ◌↔◌, ◌+◌, ◌-◌, ◌<◌, ◌≤◌, ℕ, [], IfErr, IfOk, IfSome, IsTrue, MatchResult, None};
 ghost use Rattle.cs_disk.specs.Disk.{HasCause, Image, LeavesOnly, MayLeave, Rises, flushed, page, seen};
 ghost use Rattle.cs_disk.specs.Reads.{OnlyReads};
 ghost use Rattle.cs_frame.specs.FirstFormat.{page_zero_fault};
@@ -261,6 +261,20 @@ fn read_zero<D: PageDisk>(
     let mut buffer = [0; 4096];
     match disk.read(0, &mut buffer) {
         Ok(()) => zero_said(alloc, pages, &buffer),
+        Err(fault) => Err(fault),
+    }
+}
+
+/// Whether page 0 holds the first section of a store, of whatever format and geometry.
+pub fn holds_superblock<D: PageDisk>(alloc: Global, disk: &mut D) -> Result<bool, DiskFault>
+    requires { 0 < D.page_count disk.old }
+    ensures holds { D.honest disk.old → IfOk result (λ holds. IsTrue holds ↔ (page_zero_fault (page (seen (D.state disk.old)) 0) ≡ None)) }
+    ensures disk { OnlyReads D.PageDisk disk.old disk.new }
+    ensures cause { HasCause (D.failure_count disk.old) (D.failure_count disk.new) result }
+{
+    let pages = disk.pages();
+    match read_zero(alloc, disk, pages) {
+        Ok(said) => Ok(said.is_some()),
         Err(fault) => Err(fault),
     }
 }

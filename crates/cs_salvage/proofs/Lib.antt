@@ -11,3 +11,4 @@ pub mod Sames
 pub mod Missings
 pub mod Wholes
 pub mod Meaning
+pub mod Scanning

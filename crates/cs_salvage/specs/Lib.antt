@@ -3,3 +3,4 @@ pub mod Frames
 pub mod Shards
 pub mod Missing
 pub mod Puts
+pub mod Greatest

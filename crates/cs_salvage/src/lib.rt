@@ -4,10 +4,12 @@
 
 mod finds;
 mod frames;
+mod greatest;
 mod laws;
 mod missing;
 mod parts;
 mod reads;
+mod scans;
 mod shards;
 
 pub use finds::find_parts;
@@ -15,4 +17,5 @@ pub use laws::{what_a_part_means_is_one, what_stands_is_whole, whole_shards_are_
 pub use missing::{Missing, missing_puts};
 pub use parts::{Part, Put};
 pub use reads::read_whole;
+pub use scans::{Patience, Scanned, scan_commands};
 pub use shards::{WholeShard, ambiguous, newest_whole};

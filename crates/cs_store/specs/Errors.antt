@@ -85,6 +85,7 @@ open_refusal opening.OutOfOrder = refusal.OutOfOrder
 open_refusal opening.Misplaced = refusal.Misplaced
 open_refusal opening.RootLost = refusal.RootLost
 open_refusal opening.NotAStore = refusal.NotAStore
+open_refusal opening.Occupied = refusal.Occupied
 
 -- the refusals that a put may have: 1, 9, 30, 31, 32, 35, 40 and 41
 abbrev pub IsPutRefusal : Refusal → Type 0
@@ -120,7 +121,7 @@ IsGetRefusal refusal.BadVersion = Unit {0}
 IsGetRefusal refusal.Misplaced = Unit {0}
 IsGetRefusal other = ⊥
 
--- the refusals that making or opening a store may have: 1, 6, 7, 9, 20, 21, 22, 23, 24, 25, 26, 27 and 43
+-- the refusals that making or opening a store may have: 1, 6, 7, 9, 20, 21, 22, 23, 24, 25, 26, 27, 43 and 45
 abbrev pub IsOpenRefusal : Refusal → Type 0
 IsOpenRefusal refusal.DeviceFault = Unit {0}
 IsOpenRefusal refusal.OddLength = Unit {0}
@@ -135,4 +136,5 @@ IsOpenRefusal refusal.OutOfOrder = Unit {0}
 IsOpenRefusal refusal.Misplaced = Unit {0}
 IsOpenRefusal refusal.RootLost = Unit {0}
 IsOpenRefusal refusal.NotAStore = Unit {0}
+IsOpenRefusal refusal.Occupied = Unit {0}
 IsOpenRefusal other = ⊥

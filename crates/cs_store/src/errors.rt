@@ -380,6 +380,9 @@ pub enum OpenError {
     /// 43 NotAStore: there is no store of that many pages.
     #[error("the device holds no store")]
     NotAStore,
+    /// 45 Occupied: a new store would be made over one, or over what is left of one.
+    #[error("the device holds a store")]
+    Occupied,
 }
 
 impl OpenError {
@@ -401,6 +404,7 @@ impl OpenError {
             OpenError::Misplaced => Refusal::Misplaced,
             OpenError::RootLost => Refusal::RootLost,
             OpenError::NotAStore => Refusal::NotAStore,
+            OpenError::Occupied => Refusal::Occupied,
         }
     }
 
@@ -423,6 +427,7 @@ impl OpenError {
             Refusal::Misplaced => OpenError::Misplaced,
             Refusal::RootLost => OpenError::RootLost,
             Refusal::NotAStore => OpenError::NotAStore,
+            Refusal::Occupied => OpenError::Occupied,
             _ => unreachable!(),
         }
     }

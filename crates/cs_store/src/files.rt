@@ -23,7 +23,10 @@ impl Store<Mounted<FileDisk>> {
     /// Makes a new store in a file, with nothing in it. The file is made, or emptied where it is there, and locked for as long as the store lives. It is
     /// synced, 4,096 bytes for each page of the disk, all of them written up to a gibibyte; a larger file takes room as its pages are written.
     ///
-    /// Refused 7 BadGeometry, before any file is touched, 1 DeviceFault and 9 OutOfMemory, after which the file may be there, with anything in it.
+    /// The process has to have its descriptors 0 to 2 open, on whatever: else the file gets the number of a standard stream, and what is printed is written into the store.
+    ///
+    /// Refused 7 BadGeometry, before any file is touched, 1 DeviceFault and 9 OutOfMemory, after which the file may be there, with anything in it; and 45 Occupied where
+    /// another process wrote a store into it meanwhile, which asked for no lock.
     pub fn create_file<R: Files<File = File>>(
         rt: &R,
         alloc: Global,
@@ -36,7 +39,7 @@ impl Store<Mounted<FileDisk>> {
         ensures pages { IfOk result (λ made. file_pages (disk_below made.disk) ≡ device_pages options.format options.extents options.pages (sections_needed options.extents)) }
         // It is refused 7 just where there is no store of this format of so many extents and pages.
         ensures geometry { (result ≡ Err OpenError.BadGeometry) ↔ ¬ IsGeometry options.format options.extents options.pages (sections_needed options.extents) }
-        ensures refusals { IfErr result (λ error. (error ≡ OpenError.BadGeometry) ⊎ (error ≡ OpenError.DeviceFault) ⊎ (error ≡ OpenError.OutOfMemory)) }
+        ensures refusals { IfErr result (λ error. (error ≡ OpenError.BadGeometry) ⊎ (error ≡ OpenError.DeviceFault) ⊎ (error ≡ OpenError.OutOfMemory) ⊎ (error ≡ OpenError.Occupied)) }
     {
         let Ok(geometry) = Geometry::of_format(options.format, options.extents, options.pages, None)
         else {
@@ -52,7 +55,7 @@ impl Store<Mounted<FileDisk>> {
     }
 
     /// Opens the store that is in a file, as it was made persistent or as a crash left it. The file is locked for as long as the store lives. `findings` tells
-    /// of pages of which it has two and one is damaged.
+    /// of pages of which it has two and one is damaged. Descriptors 0 to 2 have to be open, as at `create_file`.
     ///
     /// Refused 1 DeviceFault where the operating system refuses a call, as where there is no such file or another process has it; 6 OddLength; 43 NotAStore
     /// where no store of that many pages is in it; 20 to 26 for a page that is damaged; in format 3 27 RootLost where the root is older than one that was persistent; and 9 OutOfMemory. The file

@@ -30,8 +30,8 @@ impl<D: PageDisk + Drop> Store<Mounted<D>> {
     /// Makes a new store of this geometry on a disk: flushes it, writes its superblock and its root, and makes them durable. In format 3 each section and the
     /// root have two pages; one of each is written.
     ///
-    /// The disk comes back where it is refused: 43 NotAStore where it hasn't the geometry's pages; 1 DeviceFault, or 9, where a store of format 3 is on it, or something is
-    /// left of one (`make_store` of cs_mount), and then nothing is written or flushed; 1 where it refuses a call; and 9 OutOfMemory.
+    /// If it is refused, the disk comes back. 43 NotAStore: the disk hasn't the geometry's pages. 45 Occupied: a store is on it, or what is
+    /// left of one (`make_store` of cs_mount), and nothing is written or flushed then. 1 DeviceFault: the disk refused a call; and 9 OutOfMemory.
     pub fn make_mounted(
         alloc: Global,
         disk: D,
@@ -50,9 +50,11 @@ impl<D: PageDisk + Drop> Store<Mounted<D>> {
         ensures pages { MatchResult result (λ made. D.page_count (disk_below made.disk) ≡ D.page_count disk) (λ refused. D.page_count refused.1 ≡ D.page_count disk) }
         ensures honest { MatchResult result (λ made. D.honest disk ↔ D.honest (disk_below made.disk)) (λ refused. D.honest disk ↔ D.honest refused.1) }
         ensures sized { OnOk result (D.page_count disk ≡ device_pages geometry.format geometry.extents geometry.pages geometry.sections) }
-        ensures refusals { IfErr result (λ refused. (refused.0 ≡ Refusal.NotAStore) ⊎ (refused.0 ≡ Refusal.DeviceFault) ⊎ (refused.0 ≡ Refusal.OutOfMemory)) }
+        ensures refusals { IfErr result (λ refused. (refused.0 ≡ Refusal.NotAStore) ⊎ (refused.0 ≡ Refusal.Occupied) ⊎ (refused.0 ≡ Refusal.DeviceFault) ⊎ (refused.0 ≡ Refusal.OutOfMemory)) }
         ensures same { D.page_count disk ≢ device_pages geometry.format geometry.extents geometry.pages geometry.sections → result ≡ Err (Refusal.NotAStore, disk) }
-        // No store is made over one of format 3, nor over what is left of one, and it is as it was then.
+        // It is refused 45 only where a store is there, or what is left of one.
+        ensures occupied { D.honest disk → IfErr result (λ refused. refused.0 ≡ Refusal.Occupied → IsTaken (D.page_count disk) (seen (D.state disk)) (store_version (Some geometry)) (store_pairs geometry)) }
+        // No store is made there, and it is as it was then.
         ensures taken { D.honest disk → IsTaken (D.page_count disk) (seen (D.state disk)) (store_version (Some geometry)) (store_pairs geometry) → MatchResult result (λ made. ⊥) (λ refused. D.state refused.1 ≡ D.state disk) }
     {
         match make_store(alloc, disk, geometry, limits) {

@@ -18,3 +18,5 @@ pub mod Salvaging
 pub mod Scrubbing
 pub mod Still
 pub mod Tidying
+pub mod Copying
+pub mod Meant

@@ -16,7 +16,7 @@ use Rattle.cs_salvage.specs.Shards.{AreAllOf}
 use Rattle.cs_salvage.specs.declared.parts.Part.{Part}
 use Rattle.cs_salvage.specs.declared.shards.WholeShard.{WholeShard}
 use Rattle.cs_tools.specs.Exports.{IsScript, Shard, is_whole, piece_lines, shard_line}
-use Rattle.cs_tools.specs.Salvages.{AreToldOf, IsSalvaged, IsToldOf, IsWrittenOut, Salvages, Stands}
+use Rattle.cs_tools.specs.Salvages.{AreToldOf, IsMeantBy, IsMeantSalvage, IsSalvaged, IsToldOf, IsWrittenOut, MeansSalvage, Salvages, Stands}
 use Rattle.cs_tools.specs.declared.outcomes.Outcome.{Outcome}
 use Rattle.cs_tools.specs.declared.outcomes.Outcome.TheVariants.{Damaged, Done}
 use Rattle.cs_tools.specs.declared.salvages.Salvaged.{Salvaged}
@@ -82,9 +82,46 @@ written_out : (image : Image) (found : Salvaged) (x y : ℕ) (a b : Option (List
     → ((shards : List Shard) × AreToldOf found.geometry image x y found.shards.items shards × (whole ≡ list_all is_whole shards) × ((text : List ℕ) × IsScript shards text × Appends a b text)) → IsWrittenOut image found x y a b whole
 written_out image found x y a b whole h = record { shards = h.0; told = h.1; whole_is = h.2; text = h.3.0; script = h.3.1; written = h.3.2 }
 
+-- how it ended, by what was found
+abbrev pub EndsBy : Salvaged → (whole : Bool) → Outcome → Type 0
+EndsBy found whole o =
+    ((o ≡ Done) × (whole ≡ true) × (found.shards.items ≢ []) × (found.missing.items ≡ []))
+    ⊎ ((o ≡ Damaged) × ((whole ≡ false) ⊎ (found.shards.items ≡ []) ⊎ (found.missing.items ≢ [])))
+
 pub salvages : (image : Image) (found : Salvaged) (x y : ℕ) (a b : Option (List ℕ)) (whole : Bool) (o : Outcome)
     → ((shards : List Shard) × AreToldOf found.geometry image x y found.shards.items shards × (whole ≡ list_all is_whole shards) × ((text : List ℕ) × IsScript shards text × Appends a b text))
-    → ((o ≡ Done) × (whole ≡ true) × (found.missing.items ≡ [])) ⊎ ((o ≡ Damaged) × ((whole ≡ false) ⊎ (found.missing.items ≢ []))) → Salvages image found x y a b o
+    → EndsBy found whole o → Salvages image found x y a b o
 salvages image found x y a b whole o h (inl done) =
-    subst (Salvages image found x y a b) (sym done.0) (subst (IsWrittenOut image found x y a b) done.1 (written_out image found x y a b whole h), done.2)
+    subst (Salvages image found x y a b) (sym done.0) (subst (IsWrittenOut image found x y a b) done.1 (written_out image found x y a b whole h), done.2, done.3)
 salvages image found x y a b whole o h (inr damaged) = subst (Salvages image found x y a b) (sym damaged.0) (whole, written_out image found x y a b whole h, damaged.1)
+
+-- whatever the disk did
+means_whole : (found : Salvaged) (a b : Option (List ℕ)) (whole : Bool)
+    → ((shards : List Shard) × AllZip (IsMeantBy found.geometry) found.shards.items shards × (whole ≡ list_all is_whole shards) × ((text : List ℕ) × IsScript shards text × Appends a b text)) → IsMeantSalvage found a b whole
+means_whole found a b whole h = record { shards = h.0; told = h.1; whole_is = h.2; text = h.3.0; script = h.3.1; written = h.3.2 }
+
+pub means_salvage : (found : Salvaged) (a b : Option (List ℕ)) (whole : Bool) (o : Outcome)
+    → ((shards : List Shard) × AllZip (IsMeantBy found.geometry) found.shards.items shards × (whole ≡ list_all is_whole shards) × ((text : List ℕ) × IsScript shards text × Appends a b text))
+    → EndsBy found whole o → MeansSalvage found a b o
+means_salvage found a b whole o h (inl done) = subst (MeansSalvage found a b) (sym done.0) (subst (IsMeantSalvage found a b) done.1 (means_whole found a b whole h))
+means_salvage found a b whole o h (inr damaged) = subst (MeansSalvage found a b) (sym damaged.0) (whole, means_whole found a b whole h)
+
+-- ---- one shard or piece more, whatever the disk did
+
+pub by_wider : (g : Dimensions) → Widens (λ (x y : ℕ). IsMeantBy g)
+by_wider g x y z u whole shard le le' told = told
+
+pub shard_meant : (g : Dimensions) (shards : List WholeShard) (i : ℕ) (it : WholeShard) (whole read : Bool) (a b c : Option (List ℕ)) → i < length shards → it ≡ get_or shards i it
+    → ArePrinted (IsMeantBy g) (take i shards) whole a b
+    → ((told : Shard) × IsMeantBy g it told × (read ≡ is_whole told) × Appends b c (shard_line told))
+    → ArePrinted (IsMeantBy g) (take (i + 1) shards) (whole && read) a c
+shard_meant g shards i it whole read a b c lt at so_far line =
+    shard_printed (λ (x y : ℕ). IsMeantBy g) (by_wider g) 0 0 0 shards i it whole read a b c (omega arith) (omega arith) lt so_far
+    (subst (λ (shard : WholeShard). (told : Shard) × IsMeantBy g shard told × (read ≡ is_whole told) × Appends b c (shard_line told)) at line)
+
+pub piece_meant : (g : Dimensions) (size : ℕ) (shards rest piece left : List WholeShard) (whole read : Bool) (a b c : Option (List ℕ)) → size ≡ 1000
+    → IsPrintedUpTo (IsMeantBy g) shards rest whole a b → rest ≡ piece ++ left → length piece ≡ min size (length rest) → 0 < length rest
+    → ((told : List Shard) × AllZip (IsMeantBy g) piece told × (read ≡ list_all is_whole told) × Appends b c (piece_lines told))
+    → IsPrintedUpTo (IsMeantBy g) shards left (whole && read) a c
+piece_meant g size shards rest piece left whole read a b c is so_far begins taken some lines =
+    piece_printed (λ (x y : ℕ). IsMeantBy g) (by_wider g) 0 0 0 size shards rest piece left whole read a b c (omega arith) (omega arith) is so_far begins taken some lines

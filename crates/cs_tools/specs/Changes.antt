@@ -20,7 +20,7 @@ use Rattle.cs_refine.specs.Crashes.{IsPrefix}
 use Rattle.cs_store.specs.Events.{Declines, DeclinesCopy, Does, IsHalted}
 use Rattle.cs_store.specs.Maps.{HasMap}
 use Rattle.cs_tools.specs.declared.outcomes.Outcome.{Outcome}
-use Rattle.cs_tools.specs.declared.outcomes.Outcome.TheVariants.{Absent, Damaged, Done, Failed, NoStore, Refused, Unread}
+use Rattle.cs_tools.specs.declared.outcomes.Outcome.TheVariants.{Absent, Damaged, Done, Failed, MayBeLost, NoStore, Refused, Unopened, Unread}
 
 -- one command more was accepted, and all of them are persistent
 abbrev pub IsOneMore : {D : Type 0} → (old new : View D) → Type 0
@@ -43,6 +43,8 @@ module _ {D : Type 0} (disks : PageDisk D) where
   Commits old new Failed = ⊥
   Commits old new Damaged = ⊥
   Commits old new (NoStore r) = ⊥
+  Commits old new (Unopened f) = ⊥
+  Commits old new MayBeLost = ⊥
   Commits old new (Unread r) = ⊥
 
   -- a crash at any moment of what led from one to the other leaves the map after some of the commands, none of those left out that were persistent before
@@ -75,6 +77,8 @@ module _ {D : Type 0} (disks : PageDisk D) where
   Deletes id old new Failed = ⊥
   Deletes id old new Damaged = ⊥
   Deletes id old new (NoStore r) = ⊥
+  Deletes id old new (Unopened f) = ⊥
+  Deletes id old new MayBeLost = ⊥
   Deletes id old new (Unread r) = ⊥
 
   -- What `del` makes of this map: what was under the identifier is gone, and that is persistent; or there was nothing; or it is refused, by the store
@@ -87,6 +91,8 @@ module _ {D : Type 0} (disks : PageDisk D) where
   DeletesFrom m id old new Failed = ⊥
   DeletesFrom m id old new Damaged = ⊥
   DeletesFrom m id old new (NoStore r) = ⊥
+  DeletesFrom m id old new (Unopened f) = ⊥
+  DeletesFrom m id old new MayBeLost = ⊥
   DeletesFrom m id old new (Unread r) = ⊥
 
   -- What `put` does with this text, whatever the disk does: a put and a commit behind it; or the put is refused; or the reader failed, and nothing has
@@ -98,6 +104,8 @@ module _ {D : Type 0} (disks : PageDisk D) where
   Puts id text old new Absent = ⊥
   Puts id text old new Damaged = ⊥
   Puts id text old new (NoStore r) = ⊥
+  Puts id text old new (Unopened f) = ⊥
+  Puts id text old new MayBeLost = ⊥
   Puts id text old new (Unread r) = ⊥
 
   -- What `put` makes of this map: the text is under the identifier, and that is persistent; or it is refused, before the store accepts it, when the map
@@ -110,4 +118,6 @@ module _ {D : Type 0} (disks : PageDisk D) where
   PutsInto m id text old new Absent = ⊥
   PutsInto m id text old new Damaged = ⊥
   PutsInto m id text old new (NoStore r) = ⊥
+  PutsInto m id text old new (Unopened f) = ⊥
+  PutsInto m id text old new MayBeLost = ⊥
   PutsInto m id text old new (Unread r) = ⊥

@@ -1,18 +1,21 @@
 -- What the command `export` prints.
-use Rattle.std.specs.Prelude.{◌≡◌, ◌<◌, ◌≤◌, ℕ, Bool, true, false, List, [], ◌∷◌, ◌++◌, None, Option, Some, Result, Ok, Err, ◌≢◌, codes, flat_map, length, map}
+use Rattle.std.specs.Prelude.{◌≡◌, ◌↔◌, ◌<◌, ◌≤◌, ℕ, Bool, true, false, List, [], ◌∷◌, ◌++◌, None, Option, Some, Result, Ok, Err, ◌≢◌, codes, flat_map, length, map}
 use Rattle.std.specs.Io.KnownBytes.{Appends}
-use Rattle.std.specs.List.{AllByRecursion, list_all}
-use Rattle.cs_core.specs.Lookups.{IsReading}
+use Rattle.std.specs.List.{AllByRecursion, AllZip, list_all}
+use Rattle.cs_core.specs.Lookups.{AreMeantBytes, IsReading}
+use Rattle.cs_core.specs.Stored.{Stored}
 use Rattle.cs_deps.specs.declared.refusals.Refusal.{Refusal}
 use Rattle.cs_deps.specs.declared.refusals.Refusal.TheVariants.{DeviceFault, OutOfMemory}
 use Rattle.cs_disk.specs.Disk.{Rises}
 use Rattle.cs_frame.specs.declared.identifiers.ShardId.{ShardId}
-use Rattle.cs_index.specs.State.{id_number}
+use Rattle.cs_index.specs.State.{id_number, index_of}
+use Rattle.cs_model.specs.Index.{live_at}
 use Rattle.cs_model.specs.Element.{Bytes, Map}
-use Rattle.cs_survey.specs.Listings.{AreAll}
+use Rattle.cs_model.specs.Lists.{◌∈◌}
+use Rattle.cs_survey.specs.Listings.{Rising}
 use Rattle.cs_tools.specs.Outputs.{id_text, payload_text, refusal_text}
 use Rattle.cs_tools.specs.declared.outcomes.Outcome.{Outcome}
-use Rattle.cs_tools.specs.declared.outcomes.Outcome.TheVariants.{Absent, Damaged, Done, Failed, NoStore, Refused, Unread}
+use Rattle.cs_tools.specs.declared.outcomes.Outcome.TheVariants.{Absent, Damaged, Done, Failed, MayBeLost, NoStore, Refused, Unopened, Unread}
 
 -- the line of a script that puts a shard
 abbrev pub put_line : ShardId → List ℕ → List ℕ
@@ -78,23 +81,59 @@ pub record AreReadOf (m : Map) (failed failed_then : ℕ) (ids : List ShardId) (
   pub caused : AllByRecursion (IsCausedBy failed failed_then) shards
   pub whole_is : whole ≡ list_all is_whole shards
 
--- the script of all shards of a map was written out, by rising identifiers, and whether all could be read, with these counts of the disk's failures
-pub record IsExported (m : Map) (failed failed_then : ℕ) (before after : Option (List ℕ)) (whole : Bool) : Type 0 where
+-- All of the identifiers from one on that are there, and no others, by rising numbers.
+pub record AreAllFrom (is_there : ℕ → Type 0) (from : ℕ) (ids : List ℕ) : Type 0 where
+  pub rising : Rising ids
+  pub each : (id : ℕ) → (id ∈ ids) ↔ ((from ≤ id) × is_there id)
+
+-- the script of all shards of a map from one identifier on was written out, by rising identifiers, and whether all could be read, with these counts of the disk's
+-- failures
+pub record IsExported (m : Map) (from failed failed_then : ℕ) (before after : Option (List ℕ)) (whole : Bool) : Type 0 where
   pub ids : List ShardId
-  pub all : AreAll (λ id. m id ≢ None) (map id_number ids)
+  pub all : AreAllFrom (λ id. m id ≢ None) from (map id_number ids)
   pub shards : List Shard
   pub are : AreReadOf m failed failed_then ids whole shards
   pub text : List ℕ
   pub script : IsScript shards text
   pub written : Appends before after text
 
--- With this map, and these counts of the disk's failures before and after: the script of all its shards was written out, and all could be read, or some
--- couldn't; or memory ran out, or the writer failed.
-abbrev pub Exports : Map → (failed failed_then : ℕ) → (before after : Option (List ℕ)) → Outcome → Type 0
-Exports m failed failed_then before after Done = IsExported m failed failed_then before after true
-Exports m failed failed_then before after Damaged = IsExported m failed failed_then before after false
-Exports m failed failed_then before after (Refused r) = r ≡ OutOfMemory
-Exports m failed failed_then before after Failed = Unit {0}
-Exports m failed failed_then before after Absent = ⊥
-Exports m failed failed_then before after (NoStore r) = ⊥
-Exports m failed failed_then before after (Unread r) = ⊥
+-- With this map, and these counts of the disk's failures before and after: the script of all its shards from one identifier on was written out, and all could be
+-- read, or some couldn't; or memory ran out, or the writer failed.
+abbrev pub Exports : Map → (from failed failed_then : ℕ) → (before after : Option (List ℕ)) → Outcome → Type 0
+Exports m from failed failed_then before after Done = IsExported m from failed failed_then before after true
+Exports m from failed failed_then before after Damaged = IsExported m from failed failed_then before after false
+Exports m from failed failed_then before after (Refused r) = r ≡ OutOfMemory
+Exports m from failed failed_then before after Failed = Unit {0}
+Exports m from failed failed_then before after Absent = ⊥
+Exports m from failed failed_then before after (NoStore r) = ⊥
+Exports m from failed failed_then before after (Unopened f) = ⊥
+Exports m from failed failed_then before after MayBeLost = ⊥
+Exports m from failed failed_then before after (Unread r) = ⊥
+
+-- what is told of the shard with this identifier is bytes that its places in the index mean, or why they can't be read
+abbrev pub IsMeantOf : Stored → ShardId → Shard → Type 0
+IsMeantOf v id (told, Ok bytes) = (told ≡ id) × AreMeantBytes v (id_number id) bytes
+IsMeantOf v id (told, Err r) = told ≡ id
+
+-- Whatever the disk does: the script of all shards from one identifier on that have places in the index was written out, and whether all could be read.
+pub record IsMeantExport (v : Stored) (from : ℕ) (before after : Option (List ℕ)) (whole : Bool) : Type 0 where
+  pub ids : List ShardId
+  pub all : AreAllFrom (λ id. live_at (index_of v.index) id ≢ []) from (map id_number ids)
+  pub shards : List Shard
+  pub told : AllZip (IsMeantOf v) ids shards
+  pub whole_is : whole ≡ list_all is_whole shards
+  pub text : List ℕ
+  pub script : IsScript shards text
+  pub written : Appends before after text
+
+-- it is done only if all could be read
+abbrev pub MeansExport : Stored → (from : ℕ) → (before after : Option (List ℕ)) → Outcome → Type 0
+MeansExport v from before after Done = IsMeantExport v from before after true
+MeansExport v from before after Damaged = IsMeantExport v from before after false
+MeansExport v from before after (Refused r) = Unit {0}
+MeansExport v from before after Failed = Unit {0}
+MeansExport v from before after Absent = ⊥
+MeansExport v from before after (NoStore r) = ⊥
+MeansExport v from before after (Unread r) = ⊥
+MeansExport v from before after (Unopened f) = ⊥
+MeansExport v from before after MayBeLost = ⊥

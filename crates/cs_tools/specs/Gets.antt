@@ -4,7 +4,7 @@ use Rattle.std.specs.Io.KnownBytes.{Appends}
 use Rattle.cs_core.specs.Lookups.{IsReading}
 use Rattle.cs_model.specs.Element.{Bytes, Content}
 use Rattle.cs_tools.specs.declared.outcomes.Outcome.{Outcome}
-use Rattle.cs_tools.specs.declared.outcomes.Outcome.TheVariants.{Absent, Damaged, Done, Failed, NoStore, Refused, Unread}
+use Rattle.cs_tools.specs.declared.outcomes.Outcome.TheVariants.{Absent, Damaged, Done, Failed, MayBeLost, NoStore, Refused, Unopened, Unread}
 
 -- Of an identifier that has this in the map: its bytes are written out, and nothing else; or nothing is written, as there is nothing, or as it
 -- can't be read; or the writer failed.
@@ -16,3 +16,5 @@ Gets content before after Failed = Unit {0}
 Gets content before after Damaged = ⊥
 Gets content before after (Refused r) = ⊥
 Gets content before after (NoStore r) = ⊥
+Gets content before after (Unopened f) = ⊥
+Gets content before after MayBeLost = ⊥

@@ -10,3 +10,6 @@ pub mod Rescues
 pub mod Salvages
 pub mod Scrubs
 pub mod Stats
+pub mod Repairs
+pub mod Tellings
+pub mod Copies

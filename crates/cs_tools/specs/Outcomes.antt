@@ -1,7 +1,23 @@
 -- How commands end.
-use Rattle.std.specs.Prelude.{ℕ}
+use Rattle.std.specs.Prelude.{ℕ, Option, Some, None}
+use Rattle.cs_deps.specs.declared.refusals.Refusal.{Refusal}
+use Rattle.cs_deps.specs.declared.refusals.Refusal.TheVariants.{DeviceFault}
+use Rattle.cs_disk.specs.declared.fault.SystemFault.{SystemFault}
+use Rattle.cs_disk.specs.declared.fault.SystemFault.TheVariants.{Folder, InUse, NoRoom, NotAllowed, NotThere, ReadOnly}
+use Rattle.cs_disk.specs.declared.fault.SystemFault.TheVariants as fault
 use Rattle.cs_tools.specs.declared.outcomes.Outcome.{Outcome}
-use Rattle.cs_tools.specs.declared.outcomes.Outcome.TheVariants.{Absent, Damaged, Done, Failed, NoStore, Refused, Unread}
+use Rattle.cs_tools.specs.declared.outcomes.Outcome.TheVariants.{Absent, Damaged, Done, Failed, MayBeLost, NoStore, Refused, Unopened, Unread}
+
+-- the exit status where the system refused a file: another process has it open, it isn't there or may not be used so,
+-- or there is no store to be had
+abbrev pub status_of_fault : SystemFault → ℕ
+status_of_fault InUse = 6
+status_of_fault NotThere = 7
+status_of_fault NotAllowed = 7
+status_of_fault Folder = 7
+status_of_fault ReadOnly = 7
+status_of_fault NoRoom = 3
+status_of_fault fault.Failed = 3
 
 -- the exit status of each
 abbrev pub status_of : Outcome → ℕ
@@ -12,3 +28,17 @@ status_of (NoStore r) = 3
 status_of Failed = 4
 status_of (Unread r) = 5
 status_of Damaged = 5
+status_of (Unopened f) = status_of_fault f
+status_of MayBeLost = 5
+
+-- as which refusal it is told
+abbrev pub refusal_in : Outcome → Option Refusal
+refusal_in (Refused r) = Some r
+refusal_in (NoStore r) = Some r
+refusal_in (Unread r) = Some r
+refusal_in (Unopened f) = Some DeviceFault
+refusal_in Done = None
+refusal_in Absent = None
+refusal_in Failed = None
+refusal_in Damaged = None
+refusal_in MayBeLost = None

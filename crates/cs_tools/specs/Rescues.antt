@@ -4,7 +4,7 @@ use Rattle.std.specs.Io.KnownBytes.{Appends}
 use Rattle.cs_rescue.specs.Answers.{AreMeantBytes, AreReadBytes, IsAbsent, IsUnknown, IsWhyNoChunks, places_of}
 use Rattle.cs_rescue.specs.Founds.{Found}
 use Rattle.cs_tools.specs.Outcomes.{status_of}
-use Rattle.cs_tools.specs.declared.outcomes.Outcome.TheVariants.{Absent, Damaged, Done, Failed, NoStore, Refused, Unread}
+use Rattle.cs_tools.specs.declared.outcomes.Outcome.TheVariants.{Absent, Damaged, Done, Failed, MayBeLost, NoStore, Refused, Unopened, Unread}
 use Rattle.cs_tools.specs.declared.rescues.Got.{Got}
 use Rattle.cs_tools.specs.declared.rescues.Got.TheVariants.{Ended, RunLost}
 
@@ -18,6 +18,8 @@ Rescues f view id before after (Ended Failed) = Unit {0}
 Rescues f view id before after (Ended Damaged) = ⊥
 Rescues f view id before after (Ended (Refused r)) = ⊥
 Rescues f view id before after (Ended (NoStore r)) = ⊥
+Rescues f view id before after (Ended (Unopened f)) = ⊥
+Rescues f view id before after (Ended MayBeLost) = ⊥
 Rescues f view id before after RunLost = IsUnknown f id × (after ≡ before)
 
 -- the exit status of each

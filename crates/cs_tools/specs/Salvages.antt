@@ -6,6 +6,7 @@ use Rattle.cs_deps.specs.declared.refusals.Refusal.TheVariants.{DeviceFault, Out
 use Rattle.cs_disk.specs.Disk.{Image, Rises}
 use Rattle.cs_frame.specs.Geometries.{Dimensions}
 use Rattle.cs_model.specs.Index.{joined_bodies}
+use Rattle.cs_salvage.specs.Frames.{IsMeant}
 use Rattle.cs_salvage.specs.Missing.{AreMissing}
 use Rattle.cs_salvage.specs.Parts.{AreParts, IsPart, formats_in}
 use Rattle.cs_salvage.specs.Shards.{AreNewest}
@@ -13,7 +14,7 @@ use Rattle.cs_salvage.specs.declared.parts.Part.{Part}
 use Rattle.cs_salvage.specs.declared.shards.WholeShard.{WholeShard}
 use Rattle.cs_tools.specs.Exports.{IsScript, Shard, is_whole}
 use Rattle.cs_tools.specs.declared.outcomes.Outcome.{Outcome}
-use Rattle.cs_tools.specs.declared.outcomes.Outcome.TheVariants.{Absent, Damaged, Done, Failed, NoStore, Refused, Unread}
+use Rattle.cs_tools.specs.declared.outcomes.Outcome.TheVariants.{Absent, Damaged, Done, Failed, MayBeLost, NoStore, Refused, Unopened, Unread}
 use Rattle.cs_tools.specs.declared.salvages.Salvaged.{Salvaged}
 
 -- This is what frames on a device spell: of each identifier the newest shard that is whole, and each newest put that isn't.
@@ -50,14 +51,45 @@ pub record IsWrittenOut (image : Image) (found : Salvaged) (failed failed_then :
   pub script : IsScript shards text
   pub written : Appends before after text
 
--- With these counts of the disk's failures before and after: the script of all that was found was written out, all could be read, and nothing is missing; or
--- some couldn't be, or something is missing; or the writer failed.
+-- With these counts of the disk's failures before and after: the script of all that was found was written out, something was, all could be read, and nothing is
+-- missing; or nothing was found, or some couldn't be read, or something is missing; or the writer failed.
 abbrev pub Salvages : Image → Salvaged → (failed failed_then : ℕ) → (before after : Option (List ℕ)) → Outcome → Type 0
-Salvages image found failed failed_then before after Done = IsWrittenOut image found failed failed_then before after true × (found.missing.items ≡ [])
+Salvages image found failed failed_then before after Done =
+    IsWrittenOut image found failed failed_then before after true × (found.shards.items ≢ []) × (found.missing.items ≡ [])
 Salvages image found failed failed_then before after Damaged =
-    (whole : Bool) × IsWrittenOut image found failed failed_then before after whole × ((whole ≡ false) ⊎ (found.missing.items ≢ []))
+    (whole : Bool) × IsWrittenOut image found failed failed_then before after whole
+    × ((whole ≡ false) ⊎ (found.shards.items ≡ []) ⊎ (found.missing.items ≢ []))
 Salvages image found failed failed_then before after Failed = Unit {0}
 Salvages image found failed failed_then before after Absent = ⊥
 Salvages image found failed failed_then before after (Refused r) = ⊥
 Salvages image found failed failed_then before after (NoStore r) = ⊥
+Salvages image found failed failed_then before after (Unopened f) = ⊥
+Salvages image found failed failed_then before after MayBeLost = ⊥
 Salvages image found failed failed_then before after (Unread r) = ⊥
+
+-- what is told of a whole shard is bytes that its parts mean, or why they can't be read
+abbrev pub IsMeantBy : Dimensions → WholeShard → Shard → Type 0
+IsMeantBy g whole (told, Ok bytes) =
+    (told ≡ whole.put.id) × ((payloads : List (List ℕ)) × AllZip IsMeant whole.parts.items payloads × (bytes ≡ joined_bodies (formats_in g) payloads))
+IsMeantBy g whole (told, Err r) = told ≡ whole.put.id
+
+-- Whatever the disk does: the script of what was found was written out, and whether all could be read.
+pub record IsMeantSalvage (found : Salvaged) (before after : Option (List ℕ)) (whole : Bool) : Type 0 where
+  pub shards : List Shard
+  pub told : AllZip (IsMeantBy found.geometry) found.shards.items shards
+  pub whole_is : whole ≡ list_all is_whole shards
+  pub text : List ℕ
+  pub script : IsScript shards text
+  pub written : Appends before after text
+
+-- it is done only if all could be read
+abbrev pub MeansSalvage : Salvaged → (before after : Option (List ℕ)) → Outcome → Type 0
+MeansSalvage found before after Done = IsMeantSalvage found before after true
+MeansSalvage found before after Damaged = (whole : Bool) × IsMeantSalvage found before after whole
+MeansSalvage found before after Failed = Unit {0}
+MeansSalvage found before after Absent = ⊥
+MeansSalvage found before after (Refused r) = ⊥
+MeansSalvage found before after (NoStore r) = ⊥
+MeansSalvage found before after (Unread r) = ⊥
+MeansSalvage found before after (Unopened f) = ⊥
+MeansSalvage found before after MayBeLost = ⊥

@@ -9,7 +9,7 @@ use Rattle.cs_survey.specs.Failures.{RisesBy}
 use Rattle.cs_scrub.specs.declared.damages.Scrubbed.{Scrubbed}
 use Rattle.cs_tools.specs.Pages.{AreWhole}
 use Rattle.cs_tools.specs.declared.outcomes.Outcome.{Outcome}
-use Rattle.cs_tools.specs.declared.outcomes.Outcome.TheVariants.{Absent, Damaged, Done, Failed, NoStore, Refused, Unread}
+use Rattle.cs_tools.specs.declared.outcomes.Outcome.TheVariants.{Absent, Damaged, Done, Failed, MayBeLost, NoStore, Refused, Unopened, Unread}
 
 -- All that the index names was gone through, with these counts of the disk's failures before and after, and nothing is named that can't be read, or
 -- something is, with 1 only where that count rose or stood at its end, and of no more frames than it rose by; or memory ran out, or the writer failed. Pages that the store has twice
@@ -22,4 +22,6 @@ Scrubs x view index findings before after (Refused r) = r ≡ OutOfMemory
 Scrubs x view index findings before after Failed = Unit {0}
 Scrubs x view index findings before after Absent = ⊥
 Scrubs x view index findings before after (NoStore r) = ⊥
+Scrubs x view index findings before after (Unopened f) = ⊥
+Scrubs x view index findings before after MayBeLost = ⊥
 Scrubs x view index findings before after (Unread r) = ⊥

@@ -1,66 +1,237 @@
-//! What to do about a refusal.
-ghost use Rattle.std.specs.Prelude.{◌<◌, length};
+//! What a refusal means, and what to do about it.
+ghost use Rattle.std.specs.Prelude.{◌≡◌, ◌<◌, length};
+ghost use Rattle.cs_tools.specs.declared.advices.Advice.TheVariants.{Make};
+ghost use Rattle.cs_tools.specs.declared.knowns.Content.TheVariants.{Empty};
 
+use crate::knowns::{Content, Known};
 use cs_deps::Refusal;
+use cs_disk::SystemFault;
 
-/// Of a file that can't be used, or a device that failed.
-const DEVICE: &str =
-    "There is no such file, it may not be read and written, another program has it open, or the device failed: ls -l, lsof and df tell which.";
+/// What to do about a refusal.
+#[derive(Clone, Copy, Debug, PartialEq, Eq)]
+pub enum Advice {
+    /// Make a store in the file, in which nothing is.
+    Make,
+    /// The file has another number of pages than its superblock names.
+    Length { pages: u64, wanted: u64 },
+    /// What this text says.
+    Text(&'static str),
+}
 
-/// Of a page that is damaged.
+/// Of a damaged page.
 const DAMAGED: &str =
-    "A page is damaged. A shard: put it again or delete it, others aren't affected; where the store can't be opened: restore the file from a copy, or read what is left by `--salvage`. `scrub` lists what is damaged.";
+    "A page is damaged. A shard: put it again or delete it; others aren't affected. The whole store: restore the file from a copy, or read what is left by `--salvage`. `scrub` lists what is damaged.";
 
 /// Of a whole frame that isn't the one that its place means.
 const MISPLACED: &str =
-    "A write went to a wrong page, or was lost: look to the device, and to what copies the file. A shard: put it again or delete it, others aren't affected; where the store can't be opened: restore the file from a copy, or read what is left by `--salvage`. `scrub` lists what is misplaced.";
+    "A write went to a wrong page, or was lost: look to the device, and to what copies the file. A shard: put it again or delete it; others aren't affected. The whole store: restore the file from a copy, or read what is left by `--salvage`. `scrub` lists what is misplaced.";
 
 /// Of a root that is older than one that was persistent.
 const ROOT_LOST: &str =
-    "The root is older than one that was persistent, so commands that were acknowledged would be lost: look to the device, and to what copies the file, and restore the file from a copy. `--as-of` reads what is left.";
+    "The root is older than one that was persistent, so commands that were acknowledged would be lost. Look to the device, and to what copies the file, and restore the file from a copy. `--as-of` reads what is left.";
 
-/// What whoever meets this refusal does about it, in a sentence. Of the same number each command says the same.
-pub fn advice(refusal: Refusal) -> &'static str
+/// Of a file in which a superblock names a store that can't be opened for its other pages.
+const NOT_WHOLE: &str =
+    "The file holds a store, but not all of it is there as it was written. Restore the file from a copy, or read what is left by `--salvage` (format 3).";
+
+/// Of a store of an older format that is read by a way that it hasn't.
+const OLDER: &str =
+    "The file holds a store of format 2, which `--as-of` and `--salvage` don't read: use the command without them.";
+
+/// Of a store of format 3 of whose superblock or root neither copy is whole.
+const TORN: &str =
+    "Neither copy of a page is whole that the store needs. Copy the file before anything else is done with it, and restore it from an older copy; `export --salvage` reads the shards without the root.";
+
+/// Of a file with a root and no superblock.
+const LEFT: &str =
+    "The file holds what is left of a store: its root is whole, and no copy of its superblock. Copy it before anything else is done with it, and restore it from an older copy.";
+
+/// Of a file that holds something else, as far as can be told.
+const FOREIGN: &str =
+    "The file holds no store, or none that can be recognised: look at its name. If it held one, restore it from a copy.";
+
+/// Of a file that wasn't looked into.
+const NO_STORE: &str =
+    "The file holds no store, or not all of one: look at its name, or restore it from a copy.";
+
+/// What a refusal means, in a few words.
+pub fn meaning(refusal: Refusal) -> &'static str
     ensures { 0 < length result.now }
 {
     match refusal {
-        Refusal::DeviceFault => DEVICE,
+        Refusal::DeviceFault => "the file can't be read or written",
+        Refusal::UnknownNeed => "a need was not staged",
+        Refusal::OwnFamily => "a version needs its own family",
+        Refusal::NotStaged => "the target was not staged",
+        Refusal::InFlight => "a round is out",
+        Refusal::OddLength => "the length of the file is no multiple of 4,096 bytes",
+        Refusal::BadGeometry => "the numbers of extents, pages and sections are out of range",
+        Refusal::OutOfMemory => "out of memory",
+        Refusal::BadDocument => "the text is no plan document",
+        Refusal::NotNested => "needs are lost from one version to the next",
+        Refusal::Uncovered => "the target is not covered",
+        Refusal::TooEarly => "a write comes before its needs",
+        Refusal::ChainBroken => "the chain is broken",
+        Refusal::ChainShort => "the chain is shorter than the plan",
+        Refusal::BadMagic => "a page does not begin as its format does",
+        Refusal::BadDigest => "the digest of a page is wrong",
+        Refusal::BadLength => "a length or a count on a page is out of range",
+        Refusal::BadPadding => "the end of a page is not zero",
+        Refusal::BadVersion => "a version on a page is wrong",
+        Refusal::OutOfOrder => "the identifiers on a page are out of order",
+        Refusal::Misplaced => "another frame lies there",
+        Refusal::RootLost => "a newer root was lost",
+        Refusal::Full => "no extent has room",
+        Refusal::TooLarge => "the shard is too large for this store",
+        Refusal::IndexFull => "the index is full",
+        Refusal::NotSweepable => "the extent can't be swept",
+        Refusal::StillLive => "a live chunk lies on the extent",
+        Refusal::WornOut => "a number reached its end",
+        Refusal::Halted => "the store stopped after a failed write or flush",
+        Refusal::HistoryFull => "the history is full",
+        Refusal::NoRound => "there is no such round",
+        Refusal::NotAStore => "the file holds no store that opens",
+        Refusal::Unsettled => "the store is not at rest",
+        Refusal::Occupied => "the file holds a store, or what is left of one",
+        Refusal::NotEmpty => "the file is not empty",
+    }
+}
+
+/// Why the system refused a call, in a few words.
+pub fn system_text(fault: SystemFault) -> &'static str
+    ensures { 0 < length result.now }
+{
+    match fault {
+        SystemFault::NotThere => "there is no such file",
+        SystemFault::NotAllowed => "permission denied",
+        SystemFault::Folder => "it is a folder",
+        SystemFault::InUse => "another process has it open",
+        SystemFault::NoRoom => "no room is left on the file system",
+        SystemFault::ReadOnly => "it can only be read",
+        SystemFault::Failed => "an input or output error",
+    }
+}
+
+/// What to do about a refusal, by what is known of the file. To make a store is advised only where the file has no
+/// byte.
+pub fn advice(refusal: Refusal, known: &Known) -> Advice
+    ensures make { result ≡ Make → known.now.content ≡ Empty }
+{
+    match refusal {
+        Refusal::DeviceFault => Advice::Text(advice_of_system(known.system)),
+        Refusal::NotAStore
+        | Refusal::BadMagic
+        | Refusal::BadDigest
+        | Refusal::BadLength
+        | Refusal::BadPadding
+        | Refusal::BadVersion
+        | Refusal::OutOfOrder
+        | Refusal::Misplaced
+        | Refusal::RootLost => advice_of_content(refusal, known.content),
+        _ => Advice::Text(advice_of_call(refusal)),
+    }
+}
+
+/// What to do about a page that isn't as it must be, by what the file holds.
+fn advice_of_content(refusal: Refusal, content: Content) -> Advice
+    ensures make { result ≡ Make → content ≡ Empty }
+{
+    match content {
+        Content::Empty => Advice::Make,
+        Content::Length { pages, wanted } => Advice::Length { pages, wanted },
+        Content::Torn { .. } => Advice::Text(TORN),
+        Content::Left => Advice::Text(LEFT),
+        Content::Foreign => Advice::Text(FOREIGN),
+        Content::Store { format } => Advice::Text(advice_of_store(refusal, format)),
+        Content::Unknown => Advice::Text(advice_of_damage(refusal, NO_STORE)),
+    }
+}
+
+/// What to do about a page of a store of this format.
+fn advice_of_store(refusal: Refusal, format: u8) -> &'static str
+    ensures { 0 < length result.now }
+{
+    let other = if format == 3 { NOT_WHOLE } else { OLDER };
+    advice_of_damage(refusal, other)
+}
+
+/// What to do about a damaged page, or this where the refusal is of none.
+fn advice_of_damage(refusal: Refusal, other: &'static str) -> &'static str
+    requires { 0 < length other.now }
+    ensures { 0 < length result.now }
+{
+    match refusal {
+        Refusal::Misplaced => MISPLACED,
+        Refusal::RootLost => ROOT_LOST,
+        Refusal::NotAStore => other,
+        _ => DAMAGED,
+    }
+}
+
+/// What to do where the system refused a call so.
+pub fn advice_of_system(fault: Option<SystemFault>) -> &'static str
+    ensures { 0 < length result.now }
+{
+    match fault {
+        None => {
+            "The device failed, or the file can't be used: `ls -l`, `lsof` and `df` tell which."
+        }
+        Some(SystemFault::NotThere) => {
+            "Look at the name: `ls -l` of its folder shows what is there."
+        }
+        Some(SystemFault::NotAllowed) => {
+            "Ask for the right to read it, and for a command that writes, to write it: `ls -l` shows who has it."
+        }
+        Some(SystemFault::Folder) => "Name a file, not a folder.",
+        Some(SystemFault::InUse) => {
+            "Wait for the other process by `--wait SECONDS`; `lsof` with the file's name shows which it is."
+        }
+        Some(SystemFault::NoRoom) => {
+            "Free room on the file system (`df`), or raise the limit of a file's size (`ulimit -f`), and try again."
+        }
+        Some(SystemFault::ReadOnly) => {
+            "Commands that only read need no more. For others mount the file system so that it can be written, or copy the file."
+        }
+        Some(SystemFault::Failed) => {
+            "Look at the system's log (`dmesg`) and at the device, and copy the file before anything else is done with it."
+        }
+    }
+}
+
+/// What to do about a refusal that isn't of a page or of the device.
+fn advice_of_call(refusal: Refusal) -> &'static str
+    ensures { 0 < length result.now }
+{
+    match refusal {
         Refusal::OddLength => {
-            "The file is cut, or no store: its length is no multiple of 4,096 bytes. Restore it from a copy."
+            "The file is cut, has something behind its end, or holds no store. Copy it, and bring the copy to a multiple of 4,096 bytes by `truncate -s /4096 COPY` (down) or `truncate -s %4096 COPY` (up): what is refused then says how many pages its superblock names."
         }
         Refusal::BadGeometry => {
-            "A store has 4 to 2,048 extents, 2 to 256 pages each, and 1 to 8 sections of at most 512 extents; one of format 3 has 5 to 7,680 extents, 2 to 65,535 pages each, and 1 to 15 sections."
+            "A store of format 3 has 5 to 7,680 extents of 2 to 65,535 pages, and 1 to 15 sections of at most 512 extents; one of format 2 has 4 to 2,048 of 2 to 256, and 1 to 8 sections."
         }
         Refusal::OutOfMemory => "Give the program more memory, and try again.",
         Refusal::BadDocument => {
             "The input is no plan document: print one by the line `document` of a script."
         }
-        Refusal::BadMagic
-        | Refusal::BadDigest
-        | Refusal::BadLength
-        | Refusal::BadPadding
-        | Refusal::BadVersion
-        | Refusal::OutOfOrder => DAMAGED,
-        Refusal::Misplaced => MISPLACED,
-        Refusal::RootLost => ROOT_LOST,
         Refusal::Full => {
-            "`reclaim`, and try again; where that doesn't help `export` the shards into a larger store."
+            "`reclaim`, and try again; where that doesn't help, `copy` the shards into a larger store."
         }
         Refusal::TooLarge => {
-            "A shard has at most 8 chunks of an extent each: cut it into several shards, or `export` all into a store with more pages an extent."
+            "A shard has at most 8 chunks of an extent each: cut it into several shards, or `copy` all into a store with more pages an extent."
         }
         Refusal::IndexFull => {
-            "The index has as many entries as the store's geometry allows, in format 3 by their bytes: delete some shards and `reclaim`, or `export` all into a store with more pages an extent."
+            "The index has as many entries as the store's geometry allows, in format 3 by their bytes: delete some shards and `reclaim`, or `copy` all into a store with more pages an extent."
         }
         Refusal::NotSweepable => "No extent can be swept now: put something, and try again.",
         Refusal::StillLive => "Something lives on the extent still: try again.",
-        Refusal::WornOut => "A number reached its end: `export` all into a new store.",
+        Refusal::WornOut => "A number reached its end: `copy` all into a new store.",
         Refusal::Halted => "A write or a flush failed before: open the store again.",
         Refusal::HistoryFull => "Sync, and try again.",
-        Refusal::NotAStore => {
-            "The file holds no store, or not all of one: look at its name, make one by `run --new`, or restore it from a copy."
+        Refusal::Occupied | Refusal::NotEmpty => "Name another file: nothing was written.",
+        Refusal::InFlight | Refusal::NoRound | Refusal::Unsettled => {
+            "The script has the rounds of a sync in another order: `begin`, `issue` until nothing is left, `end`."
         }
-        // The commands never answer these.
+        // Neither commands nor scripts are refused these.
         _ => "Report it, with what led to it.",
     }
 }

@@ -1,7 +1,7 @@
 //! The command `export`.
 ghost use Rattle.std.specs.Prelude.{◌≡◌, ◌≢◌, ◌⊎◌, ℕ, IfOk, List, [], OnOk};
 ghost use Rattle.std.specs.Io.KnownBytes.{Appends};
-ghost use Rattle.std.specs.List.{AllByRecursion};
+ghost use Rattle.std.specs.List.{AllByRecursion, AllZip, list_all};
 ghost use Rattle.cs_core.specs.Views.{IsIn};
 ghost use Rattle.cs_deps.specs.declared.refusals.Refusal.{Refusal as Why};
 ghost use Rattle.cs_disk.specs.Reads.{OnlyReads};
@@ -10,7 +10,7 @@ ghost use Rattle.cs_model.specs.Element.{Map};
 ghost use Rattle.cs_model.specs.Index.{live_at};
 ghost use Rattle.cs_model.specs.State.{State, map_now};
 ghost use Rattle.cs_store.specs.Maps.{HasMap};
-ghost use Rattle.cs_tools.specs.Exports.{AreReadOf, Exports, IsReadOf, IsScript, Shard, piece_lines, put_line, remark_line, shard_line};
+ghost use Rattle.cs_tools.specs.Exports.{AreReadOf, Exports, IsMeantOf, IsReadOf, IsScript, MeansExport, Shard, is_whole, piece_lines, put_line, remark_line, shard_line};
 ghost use Rattle.cs_tools.specs.declared.outcomes.Outcome.TheVariants.{Damaged, Done, Failed, Refused};
 
 use crate::outcomes::Outcome;
@@ -20,7 +20,7 @@ use cs_deps::Refusal;
 use cs_disk::PageDisk;
 use cs_frame::ShardId;
 use cs_scrub::Progress;
-use cs_survey::ids;
+use cs_survey::ids_from;
 use std::alloc::Global;
 use std::io;
 use std::io::Write;
@@ -28,15 +28,18 @@ use std::io::Write;
 /// How many lines are between two syncs.
 pub const LINES: usize = 1_000;
 
-/// Prints a script that puts all shards that are there, by rising identifiers, with a sync behind each 1,000 of them and at the end. A shard that
-/// can't be read has a remark in its place.
+/// Prints a script that puts all shards that are there from one identifier on, by rising identifiers, with a sync behind each 1,000 of them and at the end. A
+/// shard that can't be read has a remark in its place.
 pub fn export<D: PageDisk, P: Progress, W: Write>(
     alloc: Global,
     core: &mut Core<D>,
+    from: ShardId,
     progress: &P,
     writer: &mut W,
 ) -> Outcome
-    ensures script { (m : Map) → HasMap core.old m → D.honest core.old.disk → Exports m (D.failure_count core.old.disk) (D.failure_count core.new.disk) (W.contents writer.old) (W.contents writer.new) result }
+    ensures script { (m : Map) → HasMap core.old m → D.honest core.old.disk → Exports m (id_number from) (D.failure_count core.old.disk) (D.failure_count core.new.disk) (W.contents writer.old) (W.contents writer.new) result }
+    // Whatever the disk does, each `put` line has bytes that the shard's places mean, and it is done only if all shards could be read.
+    ensures meant { MeansExport core.old.store (id_number from) (W.contents writer.old) (W.contents writer.new) result }
     ensures ends { (result ≡ Done) ⊎ (result ≡ Damaged) ⊎ (result ≡ Refused Refusal.OutOfMemory) ⊎ (result ≡ Failed) }
     // Where it is refused nothing was written.
     ensures untouched { (r : Why) → result ≡ Refused r → writer.new ≡ writer.old }
@@ -46,7 +49,7 @@ pub fn export<D: PageDisk, P: Progress, W: Write>(
     // Called for their contracts alone: which state of the machine the store is in, and what all extents keep.
     core.progress();
     core.extents().extent_count();
-    let Ok(ids) = ids(alloc, core.index()) else {
+    let Ok(ids) = ids_from(alloc, core.index(), from, usize::MAX) else {
         return Outcome::Refused(Refusal::OutOfMemory);
     };
     match print_shards(core, &ids, progress, writer) {
@@ -65,6 +68,9 @@ fn print_shards<D: PageDisk, P: Progress, W: Write>(
 ) -> io::Result<bool>
     ensures script { (s : State) → IsIn D.state core.old s → D.honest core.old.disk → AllByRecursion (λ id. live_at (index_of core.old.store.index) (id_number id) ≢ []) ids.now
         → IfOk result (λ whole. (shards : List Shard) × AreReadOf (map_now s) (D.failure_count core.old.disk) (D.failure_count core.new.disk) ids.now whole shards
+        × ((text : List ℕ) × IsScript shards text × Appends (W.contents writer.old) (W.contents writer.new) text)) }
+    ensures meant { AllByRecursion (λ id. live_at (index_of core.old.store.index) (id_number id) ≢ []) ids.now
+        → IfOk result (λ whole. (shards : List Shard) × AllZip (IsMeantOf core.old.store) ids.now shards × (whole ≡ list_all is_whole shards)
         × ((text : List ℕ) × IsScript shards text × Appends (W.contents writer.old) (W.contents writer.new) text)) }
     ensures same { core.new ≡ record core.old { disk = core.new.disk } }
     ensures disk { OnlyReads D.PageDisk core.old.disk core.new.disk }
@@ -91,6 +97,9 @@ fn print_piece<D: PageDisk, W: Write>(
     ensures lines { (s : State) → IsIn D.state core.old s → D.honest core.old.disk → AllByRecursion (λ id. live_at (index_of core.old.store.index) (id_number id) ≢ []) ids.now
         → IfOk result (λ whole. (shards : List Shard) × AreReadOf (map_now s) (D.failure_count core.old.disk) (D.failure_count core.new.disk) ids.now whole shards
         × Appends (W.contents writer.old) (W.contents writer.new) (piece_lines shards)) }
+    ensures meant { AllByRecursion (λ id. live_at (index_of core.old.store.index) (id_number id) ≢ []) ids.now
+        → IfOk result (λ whole. (shards : List Shard) × AllZip (IsMeantOf core.old.store) ids.now shards × (whole ≡ list_all is_whole shards)
+        × Appends (W.contents writer.old) (W.contents writer.new) (piece_lines shards)) }
     ensures same { core.new ≡ record core.old { disk = core.new.disk } }
     ensures disk { OnlyReads D.PageDisk core.old.disk core.new.disk }
 {
@@ -112,6 +121,9 @@ fn print_shard<D: PageDisk, W: Write>(
     ensures line { (s : State) → IsIn D.state core.old s → D.honest core.old.disk → live_at (index_of core.old.store.index) (id_number id) ≢ []
         → IfOk result (λ whole. (shard : Shard) × IsReadOf (map_now s) (D.failure_count core.old.disk) (D.failure_count core.new.disk) id whole shard
         × Appends (W.contents writer.old) (W.contents writer.new) (shard_line shard)) }
+    // Whatever the disk does, a `put` line has bytes that the shard's places mean.
+    ensures meant { live_at (index_of core.old.store.index) (id_number id) ≢ []
+        → IfOk result (λ whole. (shard : Shard) × IsMeantOf core.old.store id shard × (whole ≡ is_whole shard) × Appends (W.contents writer.old) (W.contents writer.new) (shard_line shard)) }
     ensures same { core.new ≡ record core.old { disk = core.new.disk } }
     ensures disk { OnlyReads D.PageDisk core.old.disk core.new.disk }
 {

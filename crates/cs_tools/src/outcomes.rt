@@ -1,12 +1,12 @@
-//! How a command ended, and what is told of it.
+//! How a command ended.
 ghost use Rattle.std.specs.Prelude.{◌≡◌, ◌≤◌};
-ghost use Rattle.cs_tools.specs.Outcomes.{status_of};
+ghost use Rattle.cs_tools.specs.Outcomes.{status_of, status_of_fault};
 
-use crate::advices::advice;
 use cs_deps::Refusal;
+use cs_disk::{FileFault, SystemFault};
 
 /// How a command ended.
-#[derive(Clone, Copy)]
+#[derive(Clone, Copy, Debug, PartialEq, Eq)]
 pub enum Outcome {
     /// All was done. Status 0.
     Done,
@@ -22,42 +22,51 @@ pub enum Outcome {
     Unread(Refusal),
     /// Some of what is there couldn't be read, and which was told. Status 5.
     Damaged,
+    /// The operating system refused the file. Status 6 if another process has it open; 7 if it isn't there, or may not
+    /// be used so; else 3.
+    Unopened(SystemFault),
+    /// A repair stopped before it wrote anything, since it could make a loss of commands final. Status 5.
+    MayBeLost,
 }
 
 impl Outcome {
+    /// How a command ends whose file wasn't opened or made.
+    pub fn of_file(fault: FileFault) -> Self {
+        match fault {
+            FileFault::System(fault) => Outcome::Unopened(fault),
+            FileFault::OddLength => Outcome::NoStore(Refusal::OddLength),
+            FileFault::NotEmpty => Outcome::Refused(Refusal::NotEmpty),
+        }
+    }
+
     /// The exit status.
     pub fn status(self) -> u8
         ensures status { result ≡ status_of self }
-        ensures most { result ≤ 5 }
+        ensures most { result ≤ 7 }
     {
         match self {
-            Outcome::Done => 0,
-            Outcome::Absent | Outcome::Refused(_) => 1,
-            Outcome::NoStore(_) => 3,
-            Outcome::Failed => 4,
-            Outcome::Unread(_) | Outcome::Damaged => 5,
+            Outcome::Done => cs_status::DONE,
+            Outcome::Absent => cs_status::ABSENT,
+            Outcome::Refused(_) => cs_status::REFUSED,
+            Outcome::NoStore(_) => cs_status::NO_STORE,
+            Outcome::Failed => cs_status::STREAM,
+            Outcome::Unread(_) | Outcome::Damaged | Outcome::MayBeLost => cs_status::DAMAGED,
+            Outcome::Unopened(fault) => status_of_fault(fault),
         }
     }
 }
 
-/// Tells on standard error why a command ended as it did, where it was refused, and what to do; and gives the exit status.
-pub fn explain<R: Eprint>(rt: &R, outcome: Outcome) -> u8
-    ensures status { result ≡ status_of outcome }
-    ensures most { result ≤ 5 }
+/// The exit status where the system refused a file.
+fn status_of_fault(fault: SystemFault) -> u8
+    ensures status { result ≡ status_of_fault fault }
+    ensures most { result ≤ 7 }
 {
-    match outcome {
-        Outcome::Refused(refusal) | Outcome::NoStore(refusal) | Outcome::Unread(refusal) => {
-            tell(rt, refusal);
-        }
-        Outcome::Done | Outcome::Absent | Outcome::Failed | Outcome::Damaged => {}
+    match fault {
+        SystemFault::InUse => cs_status::IN_USE,
+        SystemFault::NotThere
+        | SystemFault::NotAllowed
+        | SystemFault::Folder
+        | SystemFault::ReadOnly => cs_status::NOT_THERE,
+        SystemFault::NoRoom | SystemFault::Failed => cs_status::NO_STORE,
     }
-    outcome.status()
-}
-
-/// Tells a refusal by its number and its name, what it means, and what to do.
-fn tell<R: Eprint>(rt: &R, refusal: Refusal) {
-    let number = refusal.number();
-    let name = refusal.name();
-    let todo = advice(refusal);
-    let _ = eprintln!(rt; "refused {number} {name}: {refusal}\n{todo}");
 }

@@ -1,7 +1,8 @@
 //! Pages that a store has twice and of which one isn't whole.
-ghost use Rattle.std.specs.Prelude.{◌≡◌, ◌≢◌, ◌==◌, ◌⊎◌, MatchBool, None};
+ghost use Rattle.std.specs.Prelude.{◌≡◌, ◌≢◌, ◌==◌, ◌⊎◌, MatchBool, None, OnOk};
 ghost use Rattle.cs_pair.specs.Findings.{passed_over};
 ghost use Rattle.cs_tools.specs.Pages.{AreWhole, left_damaged};
+ghost use Rattle.cs_tools.specs.Stats.{GoesOn};
 
 use crate::outputs::Style;
 use cs_store::mount::Finding;
@@ -46,13 +47,28 @@ pub fn print_pages<W: Write>(
     findings: &[Finding],
     mended: bool,
     style: Style,
-) -> io::Result<()> {
+) -> io::Result<()>
+    ensures { OnOk result (GoesOn (W.contents writer.old) (W.contents writer.new)) }
+{
     for finding in findings {
-        if let Some(page) = finding.passed_over() {
-            print_page(writer, *finding, page, mended, style)?;
-        }
+        print_finding(writer, *finding, mended, style)?;
     }
     Ok(())
+}
+
+/// Prints the line of a pair that was found so, where a page of it isn't whole.
+fn print_finding<W: Write>(
+    writer: &mut W,
+    finding: Finding,
+    mended: bool,
+    style: Style,
+) -> io::Result<()>
+    ensures { OnOk result (GoesOn (W.contents writer.old) (W.contents writer.new)) }
+{
+    match finding.passed_over() {
+        Some(page) => print_page(writer, finding, page, mended, style),
+        None => Ok(()),
+    }
 }
 
 /// The line of a page that isn't whole, of a pair that was found so.
@@ -62,7 +78,9 @@ fn print_page<W: Write>(
     page: u64,
     mended: bool,
     style: Style,
-) -> io::Result<()> {
+) -> io::Result<()>
+    ensures { OnOk result (GoesOn (W.contents writer.old) (W.contents writer.new)) }
+{
     let held = finding.held();
     let other = if held.turned {
         finding.pair.twin
@@ -71,19 +89,14 @@ fn print_page<W: Write>(
     };
     let version = held.version;
     match style {
-        Style::Text => {
-            if mended {
-                writeln!(
-                    writer,
-                    "page {page} written anew from page {other} version {version}"
-                )
-            } else {
-                writeln!(
-                    writer,
-                    "page {page} not whole, page {other} has version {version}"
-                )
-            }
-        }
+        Style::Text if mended => writeln!(
+            writer,
+            "page {page} written anew from page {other} version {version}"
+        ),
+        Style::Text => writeln!(
+            writer,
+            "page {page} not whole, page {other} has version {version}"
+        ),
         Style::Json => writeln!(
             writer,
             "{{\"page\":{page},\"other\":{other},\"version\":{version},\"mended\":{mended}}}"

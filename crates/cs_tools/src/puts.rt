@@ -17,7 +17,7 @@ use std::io;
 use std::io::Read;
 
 /// The most bytes that a store takes under an identifier: 8 chunks, of an extent each.
-fn most_bytes<D: PageDisk>(store: &Store<D>) -> usize
+pub fn most_bytes<D: PageDisk>(store: &Store<D>) -> usize
     ensures bytes { result ≡ most_bytes (shape store.now.store.extents) }
     ensures small { result < 2 ^ 32 }
 {

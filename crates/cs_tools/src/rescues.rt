@@ -19,17 +19,20 @@ ghost use Rattle.cs_tools.specs.Rescues.{Rescues, status_of_got};
 ghost use Rattle.cs_tools.specs.declared.outcomes.Outcome.TheVariants.{Absent, Damaged, Done, Failed, Refused};
 ghost use Rattle.cs_tools.specs.declared.rescues.Got.TheVariants.{Ended, RunLost};
 
+use crate::advices::Advice;
 use crate::gets::write_out;
+use crate::knowns::Known;
 use crate::lists::print_ids;
-use crate::outcomes::{Outcome, explain};
+use crate::outcomes::Outcome;
 use crate::outputs::Style;
+use crate::tellings::{Reason, explain, tell_reason};
 use cs_chunk::refusal_of_disk;
 use cs_deps::Refusal;
 use cs_disk::PageDisk;
 use cs_frame::ShardId;
-use cs_store::mount::{Finding, Mounted};
 use cs_pair::open_store;
 use cs_rescue::{Rescue, RescueRefusal};
+use cs_store::mount::{Finding, Mounted};
 use cs_survey::ids_from;
 use std::alloc::Global;
 use std::io::Write;
@@ -133,19 +136,27 @@ pub fn list_rescued<D: PageDisk, W: Write>(
 }
 
 /// Tells on standard error why a get ended as it did, where it was refused, and what to do; and gives the exit status.
-pub fn explain_got<R: Eprint>(rt: &R, got: Got) -> u8
+pub fn explain_got<R: Eprint>(rt: &R, got: Got, known: &Known, style: Style) -> u8
     ensures status { result ≡ status_of_got got }
-    ensures most { result ≤ 5 }
+    ensures most { result ≤ 7 }
 {
     match got {
-        Got::Ended(outcome) => explain(rt, outcome),
+        Got::Ended(outcome) => explain(rt, outcome, known, style),
         Got::RunLost => {
-            let refusal = RescueRefusal::RunLost;
-            let todo = RUN_LOST;
-            let number = refusal.number();
-            let name = refusal.name();
-            let _ = eprintln!(rt; "refused {number} {name}: {refusal}\n{todo}");
-            5
+            tell_reason(rt, &reason_of_run(), style);
+            cs_status::DAMAGED
         }
+    }
+}
+
+/// What is told where it isn't known whether there is a shard.
+fn reason_of_run() -> Reason {
+    let refusal = RescueRefusal::RunLost;
+    Reason {
+        number: refusal.number(),
+        name: refusal.name(),
+        text: "a run of the index that may name it can't be read",
+        system: None,
+        advice: Advice::Text(RUN_LOST),
     }
 }

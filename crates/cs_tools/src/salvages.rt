@@ -1,7 +1,7 @@
 //! The command `export` over the frames of a device alone.
 ghost use Rattle.std.specs.Prelude.{◌≡◌, ◌≢◌, ◌⊎◌, ◌+◌, ◌*◌, ◌<◌, ◌≤◌, ℕ, Err, IfErr, IfOk, List, [], None, Some, true, false};
 ghost use Rattle.std.specs.Io.KnownBytes.{Appends};
-ghost use Rattle.std.specs.List.{AllByRecursion, list_all};
+ghost use Rattle.std.specs.List.{AllByRecursion, AllZip, list_all};
 ghost use Rattle.cs_chunk.specs.Reads.{IsCaused};
 ghost use Rattle.cs_disk.specs.Disk.{seen};
 ghost use Rattle.cs_disk.specs.Reads.{OnlyReads};
@@ -9,7 +9,7 @@ ghost use Rattle.cs_pair.specs.Stores.{dimensions_on};
 ghost use Rattle.cs_salvage.specs.Missing.{AreMissing};
 ghost use Rattle.cs_salvage.specs.Shards.{AreNewest};
 ghost use Rattle.cs_tools.specs.Exports.{IsScript, Shard, is_whole, piece_lines, shard_line};
-ghost use Rattle.cs_tools.specs.Salvages.{AreToldOf, IsSalvaged, IsToldOf, Salvages, Stands};
+ghost use Rattle.cs_tools.specs.Salvages.{AreToldOf, IsMeantBy, IsSalvaged, IsToldOf, MeansSalvage, Salvages, Stands};
 ghost use Rattle.cs_tools.specs.declared.outcomes.Outcome.TheVariants.{Damaged, Done, Failed};
 
 use crate::exports::{LINES, print_put, print_remark};
@@ -80,7 +80,7 @@ pub fn salvage<D: PageDisk>(alloc: Global, disk: &mut D) -> Result<Salvaged, Ref
 }
 
 /// Prints a script that puts these shards, by rising identifiers, with a sync behind each 1,000 of them and at the end. A shard that can't be read has a remark in its
-/// place.
+/// place. Shards that were deleted may be among them, and an older put of a shard whose newest is lost. If there is none it ends as damaged.
 pub fn export_salvaged<D: PageDisk, P: Progress, W: Write>(
     alloc: Global,
     disk: &mut D,
@@ -90,20 +90,22 @@ pub fn export_salvaged<D: PageDisk, P: Progress, W: Write>(
 ) -> Outcome
     requires { 2 + found.now.geometry.extents * found.now.geometry.pages ≤ D.page_count disk.old }
     ensures script { D.honest disk.old → IsSalvaged (seen (D.state disk.old)) found.now → Salvages (seen (D.state disk.old)) found.now (D.failure_count disk.old) (D.failure_count disk.new) (W.contents writer.old) (W.contents writer.new) result }
+    // Whatever the disk does, each `put` line has bytes that the shard's parts mean, and it is done only if all shards could be read.
+    ensures meant { MeansSalvage found.now (W.contents writer.old) (W.contents writer.new) result }
     ensures ends { (result ≡ Done) ⊎ (result ≡ Damaged) ⊎ (result ≡ Failed) }
     ensures disk { OnlyReads D.PageDisk disk.old disk.new }
 {
     match print_shards(alloc, disk, found, progress, writer) {
-        Ok(whole) => outcome_of(whole, &found.missing),
+        Ok(whole) => outcome_of(whole, &found.shards, &found.missing),
         Err(_) => Outcome::Failed,
     }
 }
 
-/// How an export ends whose lines were written: as damaged where not all could be read, or something is missing.
-fn outcome_of(whole: bool, missing: &[Missing]) -> Outcome
-    ensures { ((result ≡ Done) × (whole ≡ true) × (missing.now ≡ [])) ⊎ ((result ≡ Damaged) × ((whole ≡ false) ⊎ (missing.now ≢ []))) }
+/// How an export ends whose lines were written: as damaged where not all could be read, where something is missing, or where there was nothing to print.
+fn outcome_of(whole: bool, shards: &[WholeShard], missing: &[Missing]) -> Outcome
+    ensures { ((result ≡ Done) × (whole ≡ true) × (shards.now ≢ []) × (missing.now ≡ [])) ⊎ ((result ≡ Damaged) × ((whole ≡ false) ⊎ (shards.now ≡ []) ⊎ (missing.now ≢ []))) }
 {
-    if whole && missing.is_empty() {
+    if whole && !shards.is_empty() && missing.is_empty() {
         Outcome::Done
     } else {
         Outcome::Damaged
@@ -122,6 +124,8 @@ fn print_shards<D: PageDisk, P: Progress, W: Write>(
     ensures script { D.honest disk.old → AllByRecursion (Stands found.now.geometry (seen (D.state disk.old))) found.now.shards.items
         → IfOk result (λ whole. (shards : List Shard) × AreToldOf found.now.geometry (seen (D.state disk.old)) (D.failure_count disk.old) (D.failure_count disk.new) found.now.shards.items shards
         × (whole ≡ list_all is_whole shards) × ((text : List ℕ) × IsScript shards text × Appends (W.contents writer.old) (W.contents writer.new) text)) }
+    ensures meant { IfOk result (λ whole. (shards : List Shard) × AllZip (IsMeantBy found.now.geometry) found.now.shards.items shards × (whole ≡ list_all is_whole shards)
+        × ((text : List ℕ) × IsScript shards text × Appends (W.contents writer.old) (W.contents writer.new) text)) }
     ensures disk { OnlyReads D.PageDisk disk.old disk.new }
 {
     let mut whole = true;
@@ -149,6 +153,8 @@ fn print_piece<D: PageDisk, W: Write>(
     ensures lines { D.honest disk.old → AllByRecursion (Stands geometry (seen (D.state disk.old))) shards.now
         → IfOk result (λ whole. (told : List Shard) × AreToldOf geometry (seen (D.state disk.old)) (D.failure_count disk.old) (D.failure_count disk.new) shards.now told
         × (whole ≡ list_all is_whole told) × Appends (W.contents writer.old) (W.contents writer.new) (piece_lines told)) }
+    ensures meant { IfOk result (λ whole. (told : List Shard) × AllZip (IsMeantBy geometry) shards.now told × (whole ≡ list_all is_whole told)
+        × Appends (W.contents writer.old) (W.contents writer.new) (piece_lines told)) }
     ensures disk { OnlyReads D.PageDisk disk.old disk.new }
 {
     let mut whole = true;
@@ -172,6 +178,8 @@ fn print_shard<D: PageDisk, W: Write>(
     ensures line { D.honest disk.old → Stands geometry (seen (D.state disk.old)) shard.now
         → IfOk result (λ whole. (told : Shard) × IsToldOf geometry (seen (D.state disk.old)) (D.failure_count disk.old) (D.failure_count disk.new) shard.now told
         × (whole ≡ is_whole told) × Appends (W.contents writer.old) (W.contents writer.new) (shard_line told)) }
+    // Whatever the disk does, a `put` line has bytes that the shard's parts mean.
+    ensures meant { IfOk result (λ whole. (told : Shard) × IsMeantBy geometry shard.now told × (whole ≡ is_whole told) × Appends (W.contents writer.old) (W.contents writer.new) (shard_line told)) }
     ensures disk { OnlyReads D.PageDisk disk.old disk.new }
 {
     match read_whole(alloc, disk, geometry, shard) {

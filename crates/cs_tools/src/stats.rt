@@ -29,6 +29,36 @@ struct Kept {
     by_names: bool,
 }
 
+/// How many pages of a store's extents are used how.
+#[derive(Clone, Copy)]
+struct Room {
+    /// They are given: frames lie there, or lay there since the extent was emptied.
+    used: usize,
+    /// Frames of live chunks lie there.
+    live: usize,
+    /// All of them.
+    total: usize,
+}
+
+/// How many pages of extents of so many pages are used how.
+fn room_of(geometry: Geometry, extents: &[ExtentUse]) -> Room {
+    let mut room = Room {
+        used: 0,
+        live: 0,
+        total: usize::from(geometry.extents()).saturating_mul(usize::from(geometry.pages())),
+    };
+    for used in extents {
+        room.used = room.used.saturating_add(used.pointer);
+        room.live = room.live.saturating_add(used.live);
+    }
+    room
+}
+
+/// So many pages in bytes.
+fn bytes_of(pages: usize) -> usize {
+    pages.saturating_mul(4096)
+}
+
 /// Prints how a store lies on its disk and how full it is.
 pub fn stat<D: PageDisk, W: Write>(
     alloc: Global,
@@ -99,13 +129,14 @@ fn print_lines<W: Write>(
     ensures { OnOk result (BeginsWith (W.contents writer.old) (W.contents writer.new) (geometry_text Text geometry.extents geometry.pages geometry.sections geometry.format)) }
 {
     print_geometry(writer, geometry)?;
-    print_figures(writer, kept, stats)
+    print_figures(writer, room_of(geometry, &stats.extents), kept, stats)
 }
 
 /// The lines behind the first one.
-fn print_figures<W: Write>(writer: &mut W, kept: Kept, stats: &Stats) -> io::Result<()>
+fn print_figures<W: Write>(writer: &mut W, room: Room, kept: Kept, stats: &Stats) -> io::Result<()>
     ensures { OnOk result (GoesOn (W.contents writer.old) (W.contents writer.new)) }
 {
+    print_room(writer, room)?;
     print_extents(writer, &stats.extents)?;
     print_empty(writer, stats.empty)?;
     print_quota(writer, kept.quota)?;
@@ -134,6 +165,21 @@ fn print_number<W: Write>(writer: &mut W, before: &str, number: u64) -> io::Resu
     ensures { OnOk result (Appends (W.contents writer.old) (W.contents writer.new) (number_text before.now number)) }
 {
     write!(writer, "{before}{number}")
+}
+
+/// The line of the bytes: how many are used, how many of them by live chunks and how many not, and how many are free, of how many.
+fn print_room<W: Write>(writer: &mut W, room: Room) -> io::Result<()>
+    ensures { OnOk result (GoesOn (W.contents writer.old) (W.contents writer.new)) }
+{
+    let used = bytes_of(room.used);
+    let live = bytes_of(room.live);
+    let dead = used.saturating_sub(live);
+    let total = bytes_of(room.total);
+    let free = total.saturating_sub(used);
+    writeln!(
+        writer,
+        "bytes used {used} live {live} dead {dead} free {free} of {total}"
+    )
 }
 
 /// The lines of the runs.
@@ -288,14 +334,19 @@ fn print_object<W: Write>(
     ensures { OnOk result (BeginsWith (W.contents writer.old) (W.contents writer.new) (geometry_text Json geometry.extents geometry.pages geometry.sections geometry.format)) }
 {
     print_geometry_members(writer, geometry)?;
-    print_figure_members(writer, kept, stats)
+    print_figure_members(writer, room_of(geometry, &stats.extents), kept, stats)
 }
 
 /// The members behind those of the geometry.
-fn print_figure_members<W: Write>(writer: &mut W, kept: Kept, stats: &Stats) -> io::Result<()>
+fn print_figure_members<W: Write>(
+    writer: &mut W,
+    room: Room,
+    kept: Kept,
+    stats: &Stats,
+) -> io::Result<()>
     ensures { OnOk result (GoesOn (W.contents writer.old) (W.contents writer.new)) }
 {
-    write!(writer, "\"uses\":[")?;
+    print_room_member(writer, room)?;
     print_uses(writer, &stats.extents)?;
     print_empty_members(writer, stats.empty, kept.quota)?;
     print_runs(writer, &stats.runs)?;
@@ -318,21 +369,61 @@ fn print_geometry_members<W: Write>(writer: &mut W, geometry: Geometry) -> io::R
     write!(writer, ",")
 }
 
-/// A JSON object for each extent.
+/// The member of the bytes, and the beginning of the extents.
+fn print_room_member<W: Write>(writer: &mut W, room: Room) -> io::Result<()>
+    ensures { OnOk result (GoesOn (W.contents writer.old) (W.contents writer.new)) }
+{
+    let used = bytes_of(room.used);
+    let live = bytes_of(room.live);
+    let dead = used.saturating_sub(live);
+    let total = bytes_of(room.total);
+    let free = total.saturating_sub(used);
+    write!(
+        writer,
+        "\"bytes\":{{\"used\":{used},\"live\":{live},\"dead\":{dead},\"free\":{free},\"total\":{total}}},\"uses\":["
+    )
+}
+
+/// A JSON object for each extent that isn't empty.
 fn print_uses<W: Write>(writer: &mut W, extents: &[ExtentUse]) -> io::Result<()>
     ensures { OnOk result (GoesOn (W.contents writer.old) (W.contents writer.new)) }
 {
+    let mut printed: usize = 0;
     for number in 0..extents.len() {
-        print_use(writer, number, extents[number])?;
+        printed = print_use(writer, number, extents[number], printed)?;
     }
     Ok(())
 }
 
-/// The JSON object of an extent, behind a comma where it isn't the first one.
-fn print_use<W: Write>(writer: &mut W, number: usize, used: ExtentUse) -> io::Result<()>
+/// The JSON object of an extent that isn't empty, where so many were printed before it; and how many are printed then.
+fn print_use<W: Write>(
+    writer: &mut W,
+    number: usize,
+    used: ExtentUse,
+    printed: usize,
+) -> io::Result<usize>
     ensures { OnOk result (GoesOn (W.contents writer.old) (W.contents writer.new)) }
 {
-    let comma = word_where(number > 0, ",");
+    if used.pointer == 0 {
+        return Ok(printed);
+    }
+    print_comma(writer, printed)?;
+    print_use_object(writer, number, used)?;
+    Ok(printed.saturating_add(1))
+}
+
+/// A comma behind what was printed, where something was.
+fn print_comma<W: Write>(writer: &mut W, printed: usize) -> io::Result<()>
+    ensures { OnOk result (GoesOn (W.contents writer.old) (W.contents writer.new)) }
+{
+    let comma = word_where(printed > 0, ",");
+    write!(writer, "{comma}")
+}
+
+/// The JSON object of an extent.
+fn print_use_object<W: Write>(writer: &mut W, number: usize, used: ExtentUse) -> io::Result<()>
+    ensures { OnOk result (GoesOn (W.contents writer.old) (W.contents writer.new)) }
+{
     let dead = used.dead();
     let ExtentUse {
         pointer,
@@ -345,7 +436,7 @@ fn print_use<W: Write>(writer: &mut W, number: usize, used: ExtentUse) -> io::Re
     } = used;
     write!(
         writer,
-        "{comma}{{\"pointer\":{pointer},\"live\":{live},\"dead\":{dead},\"unreadable\":{unreadable},\"generation\":{generation},\"open\":{is_open},\"swept\":{is_swept}}}"
+        "{{\"extent\":{number},\"pointer\":{pointer},\"live\":{live},\"dead\":{dead},\"unreadable\":{unreadable},\"generation\":{generation},\"open\":{is_open},\"swept\":{is_swept}}}"
     )
 }
 

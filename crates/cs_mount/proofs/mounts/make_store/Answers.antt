@@ -11,7 +11,7 @@ use Rattle.cs_pair.specs.Stores.{store_pairs, store_version}
 use Rattle.cs_pair.proofs.Blank.{new_shows}
 use Rattle.cs_pair.proofs.Mounting.{shown_behind}
 use Rattle.cs_mount.specs.Looks.{IsTaken}
-use Rattle.cs_mount.proofs.Looking.{free, free_fits}
+use Rattle.cs_mount.proofs.Looking.{free, free_fits, never_occupied, no_fault_is_occupied}
 use Rattle.cs_mount.proofs.mounts.make_store.Goals as goal
 
 pub returns-in-Ok-format-clause-start : goal.returns-in-Ok-format-clause-start
@@ -71,3 +71,18 @@ new-requires-clause-fits g c = λ h.
     free_fits d pairs n (seen (D.state disk)) test.field-0 (omega (arith, counted)) size (c.in-Ok.ensures.are n (sym counted)) c.in-Ok.ensures.pairs (sym counted) test.field-0-test
     (subst (λ (l : List Pair). IsTrue test.field-0 ↔ IsTaken n (seen (D.state disk)) V l) c.deref.ensures.value (test.ensures.taken old)) in
     subst (λ m. IsOfStore (Some d) pairs m (seen (D.state mid))) (sym reads.pages) (subst (λ (s : State). IsOfStore (Some d) pairs n (seen s)) (sym (reads.same old)) fits)
+
+pub returns-in-Ok-true-clause-occupied : goal.returns-in-Ok-true-clause-occupied
+returns-in-Ok-true-clause-occupied g c = λ h is.
+    let D = g.D.PageDisk in
+    let V = store_version (Some c.args.geometry) in
+    let n = D.page_count c.args.disk in
+    let image = seen (D.state c.args.disk) in
+    let test = c.in-Ok-true in
+    subst (λ (l : List Pair). IsTaken n image V l) (c.deref.ensures.value ∙ c.in-Ok.ensures.pairs) ((test.ensures.taken h).0 test.field-0-test)
+
+pub returns-in-Err-format-clause-occupied : goal.returns-in-Err-format-clause-occupied
+returns-in-Err-format-clause-occupied g c = λ h is. absurd (never_occupied c.in-Err-format.refusal c.in-Err-format.ensures.refusals is)
+
+pub returns-in-Err-new-clause-occupied : goal.returns-in-Err-new-clause-occupied
+returns-in-Err-new-clause-occupied g c = λ h is. absurd (no_fault_is_occupied c.in-Err-new.fault c.refusal_of_disk-in-Err-new.result c.refusal_of_disk-in-Err-new.ensures is)

@@ -2,7 +2,10 @@ use Rattle.std.proofs.Common.{List, subst, take_all}
 use Rattle.cs_disk.proofs.OnlyRead.{reads_on}
 use Rattle.cs_frame.specs.declared.identifiers.ShardId.{ShardId}
 use Rattle.cs_model.specs.State.{map_now}
+use Rattle.cs_tools.specs.Exports.{IsMeantOf}
 use Rattle.cs_tools.proofs.Exporting.{ArePrinted, all_at, shard_printed, synced}
+use Rattle.cs_tools.proofs.Meant.{shard_meant}
+use Rattle.cs_tools.proofs.Resting.{store_read}
 use Rattle.cs_tools.proofs.Retelling.{IsTold, one_told, piece_read, told_around}
 use Rattle.cs_tools.proofs.Still.{same_live, same_on, stays_in}
 use Rattle.cs_tools.proofs.exports.print_piece.Goals as goal
@@ -23,6 +26,8 @@ loop-id-preserved g c =
           (one_told (map_now s) (failures now.disk) (failures c.print_shard.new.core.disk) _ c.in_ok-read.read (contents c.loop-id.writer) (contents c.print_shard.new.writer)
           (c.in_ok-read.ensures.line s (stays_in disks first now was.same was.disk honest s is) (was.disk.honesty.0 honest)
           (all_at _ c.args.ids.now c.loop-id.id-index _ c.loop-id-test.true (same_live disks first now was.same was.disk c.args.ids.now live))));
+      meant = λ live. shard_meant first.store now.store (store_read first now was.same) c.args.ids.now c.loop-id.id-index _ c.loop-id.whole c.in_ok-read.read (contents c.args.writer.now) (contents c.loop-id.writer) (contents c.print_shard.new.writer)
+          c.loop-id-test.true live (was.meant live) c.in_ok-read.ensures.meant;
     }
 
 pub returns-clause-lines : goal.returns-clause-lines
@@ -37,3 +42,12 @@ returns-clause-lines g c s is honest live =
     (synced told c.args.ids.now c.loop-id.whole start (contents c.loop-id.writer) (contents c.writeln.new.self)
     (subst (λ (ids : List ShardId). ArePrinted told ids c.loop-id.whole start (contents c.loop-id.writer)) (take_all c.loop-id.id-index c.args.ids.now c.loop-id-test.false) (c.loop-id.invariant.lines s is honest live))
     c.in_ok-writeln.ensures.bytes)
+
+pub returns-clause-meant : goal.returns-clause-meant
+returns-clause-meant g c live =
+    let contents = g.W.Write.contents in
+    let start = contents c.args.writer.now in
+    let meant = IsMeantOf c.args.core.now.store in
+    synced meant c.args.ids.now c.loop-id.whole start (contents c.loop-id.writer) (contents c.writeln.new.self)
+    (subst (λ (ids : List ShardId). ArePrinted meant ids c.loop-id.whole start (contents c.loop-id.writer)) (take_all c.loop-id.id-index c.args.ids.now c.loop-id-test.false) (c.loop-id.invariant.meant live))
+    c.in_ok-writeln.ensures.bytes

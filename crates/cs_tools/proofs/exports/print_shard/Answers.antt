@@ -20,3 +20,16 @@ returns-in_ok-print_put-in-Ok-Some-clause-line g c s is honest live =
 pub returns-in_ok-print_remark-in-Err-clause-line : goal.returns-in_ok-print_remark-in-Err-clause-line
 returns-in_ok-print_remark-in-Err-clause-line g c s is honest live =
     ((c.args.id, Err c.in-Err.refusal), (refl, c.in-Err.ensures.answer honest s is, (λ device. c.in-Err.ensures.cause.failed (ap (λ (r : Refusal). Err r) device)), refl), c.in_ok-print_remark-in-Err.ensures)
+
+pub returns-in_ok-print_put-in-Ok-Some-clause-meant : goal.returns-in_ok-print_put-in-Ok-Some-clause-meant
+returns-in_ok-print_put-in-Ok-Some-clause-meant g c live =
+    let contents = g.W.Write.contents in
+    let meant = rw c.in-Ok-Some.field-0-is at c.in-Ok-Some.ensures.meant in (
+      (c.args.id, Ok c.in-Ok-Some.bytes.items),
+      (refl, meant),
+      refl,
+      subst (λ (bytes : List ℕ). Appends (contents c.args.writer.now) (contents c.print_put.new.writer) (put_line c.args.id bytes)) c.deref.ensures.value c.in_ok-print_put-in-Ok-Some.ensures,
+    )
+
+pub returns-in_ok-print_remark-in-Err-clause-meant : goal.returns-in_ok-print_remark-in-Err-clause-meant
+returns-in_ok-print_remark-in-Err-clause-meant g c live = ((c.args.id, Err c.in-Err.refusal), refl, refl, c.in_ok-print_remark-in-Err.ensures)

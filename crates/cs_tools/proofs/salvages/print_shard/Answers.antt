@@ -25,3 +25,17 @@ returns-in_ok-print_remark-in-Err-clause-line g c honest stands =
       refl,
       c.in_ok-print_remark-in-Err.ensures,
     )
+
+pub returns-in_ok-print_put-in-Ok-Some-clause-meant : goal.returns-in_ok-print_put-in-Ok-Some-clause-meant
+returns-in_ok-print_put-in-Ok-Some-clause-meant g c =
+    let contents = g.W.Write.contents in
+    let id = c.args.shard.now.put.id in
+    let read = rw c.in-Ok-Some.field-0-is at c.in-Ok-Some.ensures.meant in (
+      (id, Ok c.in-Ok-Some.bytes.items),
+      (refl, read),
+      refl,
+      subst (λ (bytes : List ℕ). Appends (contents c.args.writer.now) (contents c.print_put.new.writer) (put_line id bytes)) c.deref.ensures.value c.in_ok-print_put-in-Ok-Some.ensures,
+    )
+
+pub returns-in_ok-print_remark-in-Err-clause-meant : goal.returns-in_ok-print_remark-in-Err-clause-meant
+returns-in_ok-print_remark-in-Err-clause-meant g c = ((c.args.shard.now.put.id, Err c.refusal_of_disk.result), refl, refl, c.in_ok-print_remark-in-Err.ensures)

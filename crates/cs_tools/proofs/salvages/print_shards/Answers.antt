@@ -3,9 +3,9 @@ use Rattle.std.specs.declared.slice.Chunks.{Chunks}
 use Rattle.cs_disk.proofs.OnlyRead.{reads_none, reads_on}
 use Rattle.cs_disk.specs.Disk.{seen}
 use Rattle.cs_salvage.specs.declared.shards.WholeShard.{WholeShard}
-use Rattle.cs_tools.specs.Salvages.{IsToldOf}
+use Rattle.cs_tools.specs.Salvages.{IsMeantBy, IsToldOf}
 use Rattle.cs_tools.proofs.Exporting.{IsPrintedUpTo, all_printed, nothing_printed}
-use Rattle.cs_tools.proofs.Salvaging.{piece_told}
+use Rattle.cs_tools.proofs.Salvaging.{piece_meant, piece_told}
 use Rattle.cs_tools.proofs.salvages.print_shards.Goals as goal
 
 pub loop-piece-init : goal.loop-piece-init
@@ -21,6 +21,7 @@ loop-piece-init g c =
       size = ap (λ (items : Chunks WholeShard). items.size) same ∙ c.chunks-piece-items.ensures.size;
       disk = reads_none disks c.args.disk.now;
       lines = λ honest stand. subst (λ (shards : List WholeShard). IsPrintedUpTo told found.shards.items shards true contents contents) (sym rest) (nothing_printed told found.shards.items contents);
+      meant = subst (λ (shards : List WholeShard). IsPrintedUpTo (IsMeantBy found.geometry) found.shards.items shards true contents contents) (sym rest) (nothing_printed (IsMeantBy found.geometry) found.shards.items contents);
     }
 
 pub loop-piece-preserved : goal.loop-piece-preserved
@@ -39,6 +40,8 @@ loop-piece-preserved g c =
       lines = λ honest stand. piece_told found.geometry (disks.failure_count first) (disks.failure_count here) (disks.failure_count then_) (disks.state first) (disks.state here) c.loop-piece.piece-iterator.size found.shards.items
           c.loop-piece.piece-iterator.rest.now c.in-Some.piece.now c.next.new.self.rest.now c.loop-piece.whole c.in_ok-read.read (contents c.args.writer.now) (contents c.loop-piece.writer) (contents c.print_piece.new.writer)
           was.disk.failures c.in_ok-read.ensures.disk.failures (was.disk.same honest) was.size stand (was.lines honest stand) step.1.0 step.1.1 step.1.2 (c.in_ok-read.ensures.lines (was.disk.honesty.0 honest));
+      meant = piece_meant found.geometry c.loop-piece.piece-iterator.size found.shards.items c.loop-piece.piece-iterator.rest.now c.in-Some.piece.now c.next.new.self.rest.now c.loop-piece.whole c.in_ok-read.read
+          (contents c.args.writer.now) (contents c.loop-piece.writer) (contents c.print_piece.new.writer) was.size was.meant step.1.0 step.1.1 step.1.2 c.in_ok-read.ensures.meant;
     }
 
 pub returns-clause-script : goal.returns-clause-script
@@ -48,3 +51,10 @@ returns-clause-script g c honest stand =
     let found = c.args.found.now in
     all_printed (IsToldOf found.geometry (seen (disks.state c.args.disk.now)) (disks.failure_count c.args.disk.now) (disks.failure_count c.loop-piece.disk)) found.shards.items c.loop-piece.piece-iterator.rest.now c.loop-piece.whole
     (contents c.args.writer.now) (contents c.loop-piece.writer) (contents c.flush.new.self) (c.loop-piece.invariant.lines honest stand) c.in-None.ensures.steps.1.0 c.in_ok-flush.ensures.bytes
+
+pub returns-clause-meant : goal.returns-clause-meant
+returns-clause-meant g c =
+    let contents = g.W.Write.contents in
+    let found = c.args.found.now in
+    all_printed (IsMeantBy found.geometry) found.shards.items c.loop-piece.piece-iterator.rest.now c.loop-piece.whole
+    (contents c.args.writer.now) (contents c.loop-piece.writer) (contents c.flush.new.self) c.loop-piece.invariant.meant c.in-None.ensures.steps.1.0 c.in_ok-flush.ensures.bytes

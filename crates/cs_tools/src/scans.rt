@@ -1,0 +1,47 @@
+//! Scans of a device for the greatest number of a command.
+ghost use Rattle.std.specs.Prelude.{◌≡◌, ◌⊎◌, ◌<◌, ◌≤◌, Err, IfErr, IfOk, MatchOption, None, ⊥};
+ghost use Rattle.cs_chunk.specs.Reads.{IsCaused};
+ghost use Rattle.cs_disk.specs.Disk.{seen};
+ghost use Rattle.cs_disk.specs.Reads.{OnlyReads};
+ghost use Rattle.cs_pair.specs.Stores.{dimensions_on};
+ghost use Rattle.cs_salvage.specs.Greatest.{IsOfAFrame, IsScanOf};
+
+use cs_chunk::refusal_of_disk;
+use cs_deps::Refusal;
+use cs_disk::PageDisk;
+use cs_pair::find_geometry;
+use cs_salvage::{Patience, Scanned, scan_commands};
+use std::alloc::Global;
+
+/// The greatest number of a command among the whole frames on a device of a store of format 3, extent after extent, as
+/// long as patience lasts. If it is above the number of commands that the root counts, the commands between them are
+/// lost, or were never acknowledged.
+///
+/// Refused 43 NotAStore where there is no store of format 3 of that many pages, 1 DeviceFault, and 9 OutOfMemory.
+pub fn greatest_command<D: PageDisk, P: Patience>(
+    alloc: Global,
+    disk: &mut D,
+    patience: &P,
+) -> Result<Scanned, Refusal>
+    ensures scanned { D.honest disk.old → IfOk result (λ scanned. MatchOption (dimensions_on (D.page_count disk.old) (seen (D.state disk.old))) ⊥ (λ g. IsScanOf g (seen (D.state disk.old)) scanned)) }
+    // Whatever the disk answers, no number is made up: some pages spell a frame with it.
+    ensures spelled { IfOk result (λ scanned. IsOfAFrame scanned.greatest) }
+    ensures refusals { IfErr result (λ r. (r ≡ Refusal.NotAStore) ⊎ (r ≡ Refusal.DeviceFault) ⊎ (r ≡ Refusal.OutOfMemory)) }
+    ensures small { D.page_count disk.old < 10 → result ≡ Err Refusal.NotAStore }
+    ensures no_store { D.honest disk.old → 10 ≤ D.page_count disk.old → result ≡ Err Refusal.NotAStore → dimensions_on (D.page_count disk.old) (seen (D.state disk.old)) ≡ None }
+    ensures cause { IsCaused (D.failure_count disk.old) (D.failure_count disk.new) result }
+    ensures disk { OnlyReads D.PageDisk disk.old disk.new }
+{
+    if disk.pages() < 10 {
+        return Err(Refusal::NotAStore);
+    }
+    let geometry = match find_geometry(alloc, disk) {
+        Ok(Some(geometry)) => geometry,
+        Ok(None) => return Err(Refusal::NotAStore),
+        Err(fault) => return Err(refusal_of_disk(fault)),
+    };
+    match scan_commands(alloc, disk, geometry, patience) {
+        Ok(scanned) => Ok(scanned),
+        Err(fault) => Err(refusal_of_disk(fault)),
+    }
+}

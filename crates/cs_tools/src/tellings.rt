@@ -1,0 +1,260 @@
+//! What is told on standard error of how a command ended.
+ghost use Rattle.std.specs.Prelude.{◌≡◌, ◌≤◌, IfSome, OnOk};
+ghost use Rattle.std.specs.Io.KnownBytes.{Appends};
+ghost use Rattle.cs_deps.specs.Refusals.{name_of, number_of};
+ghost use Rattle.cs_tools.specs.Outcomes.{refusal_in, status_of};
+ghost use Rattle.cs_tools.specs.Stats.{BeginsWith, GoesOn};
+ghost use Rattle.cs_tools.specs.Tellings.{head_text};
+
+use crate::advices::{Advice, advice, advice_of_system, meaning, system_text};
+use crate::knowns::Known;
+use crate::outcomes::Outcome;
+use crate::outputs::Style;
+use cs_deps::Refusal;
+use cs_disk::SystemFault;
+use std::io;
+use std::io::Write;
+
+/// What is told where a repair stopped.
+const LOSS: &str = "the repair stopped, and nothing was written: commands may be lost by it";
+
+/// What to do then.
+const LOSS_ADVICE: &str =
+    "A damaged page may have held a newer root than the one by which the store opens. Copy the file first, or restore it from a newer copy; `export` and `get` read what is there. `scrub --repair --accept-loss` writes the older root over the damaged page.";
+
+/// Standard error, as a writer of text.
+#[derive(Drop)]
+struct Errors<'a, R> {
+    rt: &'a R,
+}
+
+impl<R: Eprint> Write for Errors<'_, R> {
+    fn write(&mut self, bytes: &[u8]) -> io::Result<usize> {
+        let rt = self.rt;
+        match str::from_utf8(bytes) {
+            Ok(text) => eprint!(rt; "{text}")?,
+            Err(_) => return Err(io::Error::from(io::ErrorKind::InvalidData)),
+        }
+        Ok(bytes.len())
+    }
+
+    fn flush(&mut self) -> io::Result<()> {
+        Ok(())
+    }
+}
+
+/// Why something was refused, and what to do.
+#[derive(Clone, Copy)]
+pub struct Reason {
+    pub number: u8,
+    pub name: &'static str,
+    pub text: &'static str,
+    pub system: Option<SystemFault>,
+    pub advice: Advice,
+}
+
+impl Reason {
+    /// Of a refusal, by what is known of the file. Why the system refused a call is told with 1 DeviceFault alone.
+    fn of(refusal: Refusal, known: &Known) -> Self
+        ensures number { result.number ≡ number_of refusal }
+        ensures name { result.name.now ≡ name_of refusal }
+    {
+        let system = match refusal {
+            Refusal::DeviceFault => known.system,
+            _ => None,
+        };
+        Reason {
+            number: refusal.number(),
+            name: refusal.name(),
+            text: meaning(refusal),
+            system,
+            advice: advice(refusal, known),
+        }
+    }
+
+    /// Of a file that the system refused.
+    fn of_file(fault: SystemFault) -> Self
+        ensures number { result.number ≡ number_of Refusal.DeviceFault }
+        ensures name { result.name.now ≡ name_of Refusal.DeviceFault }
+    {
+        Reason {
+            number: Refusal::DeviceFault.number(),
+            name: Refusal::DeviceFault.name(),
+            text: "the file can't be opened",
+            system: Some(fault),
+            advice: Advice::Text(advice_of_system(Some(fault))),
+        }
+    }
+}
+
+/// Prints why something was refused: by its number and its name first, then what it is, and what to do.
+pub fn print_reason<W: Write>(writer: &mut W, reason: &Reason, style: Style) -> io::Result<()>
+    ensures { OnOk result (BeginsWith (W.contents writer.old) (W.contents writer.new) (head_text style reason.now.number reason.now.name.now)) }
+{
+    print_head(writer, reason.number, reason.name, style)?;
+    print_rest(writer, reason, style)
+}
+
+/// Prints the number and the name of a refusal, up to what it is.
+fn print_head<W: Write>(writer: &mut W, number: u8, name: &str, style: Style) -> io::Result<()>
+    ensures { OnOk result (Appends (W.contents writer.old) (W.contents writer.new) (head_text style number name.now)) }
+{
+    match style {
+        Style::Text => write!(writer, "refused {number} {name}: "),
+        Style::Json => write!(
+            writer,
+            "{{\"refused\":{number},\"name\":\"{name}\",\"text\":\""
+        ),
+    }
+}
+
+/// Prints what a refusal is, and what to do.
+fn print_rest<W: Write>(writer: &mut W, reason: &Reason, style: Style) -> io::Result<()>
+    ensures { OnOk result (GoesOn (W.contents writer.old) (W.contents writer.new)) }
+{
+    print_text(writer, reason.text, reason.system)?;
+    print_advice(writer, reason.advice, style)
+}
+
+/// Prints what a refusal is, and why the system refused a call.
+fn print_text<W: Write>(writer: &mut W, text: &str, system: Option<SystemFault>) -> io::Result<()>
+    ensures { OnOk result (GoesOn (W.contents writer.old) (W.contents writer.new)) }
+{
+    match system {
+        None => write!(writer, "{text}"),
+        Some(fault) => {
+            let why = system_text(fault);
+            write!(writer, "{text}, by the system: {why}")
+        }
+    }
+}
+
+/// Prints what to do, and the end of what is told.
+fn print_advice<W: Write>(writer: &mut W, advice: Advice, style: Style) -> io::Result<()>
+    ensures { OnOk result (GoesOn (W.contents writer.old) (W.contents writer.new)) }
+{
+    match style {
+        Style::Text => {
+            writeln!(writer)?;
+            print_todo(writer, advice)?;
+            writeln!(writer)
+        }
+        Style::Json => {
+            write!(writer, "\",\"advice\":\"")?;
+            print_todo(writer, advice)?;
+            writeln!(writer, "\"}}")
+        }
+    }
+}
+
+/// Prints what to do.
+fn print_todo<W: Write>(writer: &mut W, advice: Advice) -> io::Result<()>
+    ensures { OnOk result (GoesOn (W.contents writer.old) (W.contents writer.new)) }
+{
+    match advice {
+        Advice::Make => write!(
+            writer,
+            "The file is empty: make a store in it by `cs_cli create` with its name."
+        ),
+        Advice::Text(text) => write!(writer, "{text}"),
+        Advice::Length { pages, wanted } => print_length(writer, pages, wanted),
+    }
+}
+
+/// Prints what to do about a file of so many pages whose superblock names another number.
+fn print_length<W: Write>(writer: &mut W, pages: u64, wanted: u64) -> io::Result<()>
+    ensures { OnOk result (GoesOn (W.contents writer.old) (W.contents writer.new)) }
+{
+    let bytes = wanted.saturating_mul(4096);
+    let (by, how) = if pages < wanted {
+        (wanted.saturating_sub(pages), "short")
+    } else {
+        (pages.saturating_sub(wanted), "long")
+    };
+    write!(
+        writer,
+        "The file has {pages} pages, and its superblock says {wanted}: it is too {how} by {by}. Copy it, `truncate -s {bytes} COPY`, and try again with the copy. If that doesn't open either, `export --salvage` of the copy reads the shards whose frames are there."
+    )
+}
+
+/// Prints why a command ended as it did, where it was refused, and what to do.
+pub fn print_outcome<W: Write>(
+    writer: &mut W,
+    outcome: Outcome,
+    known: &Known,
+    style: Style,
+) -> io::Result<()>
+    // Each refusal is told by its own number and name.
+    ensures refused { IfSome (refusal_in outcome) (λ r. OnOk result (BeginsWith (W.contents writer.old) (W.contents writer.new) (head_text style (number_of r) (name_of r)))) }
+{
+    match outcome {
+        Outcome::Refused(refusal) | Outcome::NoStore(refusal) | Outcome::Unread(refusal) => {
+            print_reason(writer, &Reason::of(refusal, known), style)
+        }
+        Outcome::Unopened(fault) => print_reason(writer, &Reason::of_file(fault), style),
+        Outcome::MayBeLost => print_loss(writer, style),
+        Outcome::Done | Outcome::Absent | Outcome::Failed | Outcome::Damaged => Ok(()),
+    }
+}
+
+/// Prints that a repair stopped, and what to do.
+fn print_loss<W: Write>(writer: &mut W, style: Style) -> io::Result<()> {
+    match style {
+        Style::Text => writeln!(writer, "error: {LOSS}\n{LOSS_ADVICE}"),
+        Style::Json => writeln!(
+            writer,
+            "{{\"error\":\"{LOSS}\",\"advice\":\"{LOSS_ADVICE}\"}}"
+        ),
+    }
+}
+
+/// Tells on standard error why something was refused, and what to do.
+pub fn tell_reason<R: Eprint>(rt: &R, reason: &Reason, style: Style) {
+    let _ = print_reason(&mut Errors { rt }, reason, style);
+}
+
+/// Tells on standard error why a command ended as it did, where it was refused, and what to do.
+pub fn tell<R: Eprint>(rt: &R, outcome: Outcome, known: &Known, style: Style) {
+    let _ = print_outcome(&mut Errors { rt }, outcome, known, style);
+}
+
+/// The same, and gives the exit status.
+pub fn explain<R: Eprint>(rt: &R, outcome: Outcome, known: &Known, style: Style) -> u8
+    ensures status { result ≡ status_of outcome }
+    ensures most { result ≤ 7 }
+{
+    tell(rt, outcome, known, style);
+    outcome.status()
+}
+
+/// Warns on standard error: `warning:` and the text, or a JSON object with it.
+pub fn warn<R: Eprint>(rt: &R, text: &str, style: Style) {
+    let _ = print_warning(&mut Errors { rt }, text, style);
+}
+
+/// Prints a warning.
+fn print_warning<W: Write>(writer: &mut W, text: &str, style: Style) -> io::Result<()> {
+    match style {
+        Style::Text => writeln!(writer, "warning: {text}"),
+        Style::Json => {
+            write!(writer, "{{\"warning\":\"")?;
+            print_escaped(writer, text)?;
+            writeln!(writer, "\"}}")
+        }
+    }
+}
+
+/// Prints a text between the quotes of a JSON string.
+fn print_escaped<W: Write>(writer: &mut W, text: &str) -> io::Result<()> {
+    for letter in text.chars() {
+        match letter {
+            '"' | '\\' => write!(writer, "\\{letter}")?,
+            letter if u32::from(letter) < 32 => {
+                let code = u32::from(letter);
+                write!(writer, "\\u{code:04x}")?;
+            }
+            letter => write!(writer, "{letter}")?,
+        }
+    }
+    Ok(())
+}
