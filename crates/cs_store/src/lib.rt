@@ -43,7 +43,7 @@ pub use cs_disk::{FileDisk, MemoryDisk, PageDisk};
 pub use cs_drive::Swept;
 pub use cs_frame::{Geometry, Locator, ShardId};
 pub use cs_index::LiveChunk;
+pub use cs_mount as mount;
 pub use cs_mount::{AsOf, Finding, Mounted};
 pub use cs_scrub::{Damage, Scrubbed};
 pub use cs_survey::{ExtentUse, RunUse, Stats};
-pub use cs_mount as mount;
