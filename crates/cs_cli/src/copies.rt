@@ -4,11 +4,10 @@ ghost use Rattle.std.specs.Prelude.{◌≤◌};
 use crate::creates::{Plot, geometry_said, mode_given, warn_of_format};
 use crate::files::{OverFile, Place, Read, Written, disk_to_read, new_disk};
 use crate::manners::Manner;
-use crate::openings::{Unopened, open_core};
+use crate::openings::{Shown, Unopened, open_typed};
 use crate::progress::Told;
 use crate::warnings::{explain_unopened, warn_of};
 use clap::ArgMatches;
-use cs_core::Core;
 use cs_deps::Refusal;
 use cs_disk::{FileFault, SystemFault};
 use cs_frame::Geometry;
@@ -23,7 +22,7 @@ use std::time::Clock;
 use std::{fs, io};
 
 /// The store that is read.
-type Source = Core<Mounted<Read>>;
+type Source = Store<Mounted<Read>>;
 
 /// The store that is made.
 type Target = Store<Mounted<Written>>;
@@ -56,11 +55,11 @@ pub fn copy_file<R: AllocGlobal + Clock + Files<File = File> + Print + Eprint>(
         let refused = Outcome::Refused(Refusal::NotEmpty);
         return explain(rt, refused, &Known::nothing(), manner.style);
     }
-    let opened = match open_core::<Mounted<Read>, R>(rt, disk_to_read(rt, place)) {
+    let opened = match open_typed::<Mounted<Read>, R>(rt, disk_to_read(rt, place)) {
         Ok(opened) => opened,
         Err(unopened) => return explain_unopened(rt, &unopened, manner.style),
     };
-    let (commands, _) = opened.store.opened();
+    let (commands, _) = opened.store.found();
     warn_of(rt, &opened, commands, manner.style);
     let job = Job {
         source: opened.store,
@@ -113,7 +112,10 @@ fn copy_opened<R: AllocGlobal + Clock + Files<File = File> + Print + Eprint>(
     };
     match copied {
         Ok(geometry) => tell_copied(rt, &job, geometry, manner),
-        Err(unmade) => explain_unopened(rt, &unmade, manner.style),
+        Err(unmade) => {
+            let fault = job.source.close().into_below().fault();
+            explain_unopened(rt, &unmade.with_fault(fault), manner.style)
+        }
     }
 }
 
@@ -123,7 +125,7 @@ fn copy_into_enough<R: AllocGlobal + Clock + Files<File = File> + Eprint>(
     job: &mut Job,
     manner: Manner,
 ) -> Result<Geometry, Unopened> {
-    let old = job.source.extents().geometry();
+    let old = job.source.geometry();
     let mut extents = u64::from(old.extents()).max(5);
     let mut pages = u64::from(old.pages());
     for _ in 0..LARGER {
@@ -178,7 +180,7 @@ fn copy_into<R: AllocGlobal + Clock + Files<File = File> + Eprint>(
         }
     };
     let copied = match Store::make_mounted(rt.alloc(), disk, geometry, LIMITS) {
-        Ok(mut store) => fill(rt, job, &path, &mut store, manner),
+        Ok(store) => fill(rt, job, &path, store, manner),
         Err((refusal, disk)) => {
             let mut disk = disk;
             Err(Unopened::of_disk(rt.alloc(), refusal, &mut disk))
@@ -198,15 +200,17 @@ fn fill<R: AllocGlobal + Clock + Files<File = File> + Eprint>(
     rt: &R,
     job: &mut Job,
     path: &str,
-    store: &mut Target,
+    store: Target,
     manner: Manner,
 ) -> Result<(), Unopened> {
+    let mut store = store;
     let told = Told::new(rt, manner);
-    let outcome = copy(rt.alloc(), &mut job.source, store, &told);
+    let outcome = copy(&mut job.source, &mut store, &told);
     if outcome != Outcome::Done {
-        let fault = job.source.disk().disk().fault();
+        let fault = store.close().into_below().fault();
         return Err(Unopened::of_outcome(rt.alloc(), outcome, fault));
     }
+    // The file is locked until it has its name.
     match name(rt, path, job.target) {
         Ok(()) => Ok(()),
         Err(error) => {
@@ -231,7 +235,7 @@ fn name<R: Files<File = File>>(rt: &R, from: &str, to: &str) -> io::Result<()> {
 fn tell_copied<R: Print + Eprint>(rt: &R, job: &Job, geometry: Geometry, manner: Manner) -> u8
     ensures { result ≤ 7 }
 {
-    let (_, shards) = job.source.opened();
+    let (_, shards) = job.source.found();
     let printed = print_copied(shards, geometry, manner.style, &mut io::writer(rt));
     warn_of_format(rt, manner.style);
     let outcome = match printed {

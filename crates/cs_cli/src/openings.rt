@@ -115,6 +115,27 @@ impl Unopened {
         }
     }
 
+    /// The same, with what the operating system said, if that isn't known yet.
+    pub fn with_fault(self, system: Option<SystemFault>) -> Self {
+        let Unopened {
+            outcome,
+            known,
+            findings,
+        } = self;
+        let Known {
+            content,
+            system: known,
+        } = known;
+        Unopened {
+            outcome,
+            known: Known {
+                content,
+                system: known.or(system),
+            },
+            findings,
+        }
+    }
+
     /// What is on this disk is refused so.
     pub fn of_disk<D: OverFile>(alloc: Global, refusal: Refusal, disk: &mut D) -> Self {
         let system = disk.fault();

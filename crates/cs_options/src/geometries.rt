@@ -1,6 +1,7 @@
 //! Which geometry a new store gets.
-ghost use Rattle.std.specs.Prelude.{◌≡◌, ◌↔◌, ◌*◌, ◌+◌, ◌<◌, ◌≤◌, ℕ, IfErr, IfOk, IfSome, IsTrue};
-ghost use Rattle.cs_options.specs.Wishes.{Suits};
+ghost use Rattle.std.specs.Prelude.{◌≡◌, ◌↔◌, ◌⊎◌, ◌*◌, ◌/◌, ◌+◌, ◌<◌, ◌≤◌, ℕ, IfErr, IfOk, IfSome, IsNone, IsSome, IsTrue};
+ghost use Rattle.cs_frame.specs.Geometries.{device_pages, sections_needed};
+ghost use Rattle.cs_options.specs.Wishes.{Holds, IsEnough, NoneSuits, Suits};
 
 use cs_frame::Geometry;
 
@@ -54,9 +55,12 @@ const RUN_OVERHEAD: u64 = 45;
 const ENTRY_BYTES: u64 = 33;
 
 /// The geometry of format 3 that a new store gets: some 64 extents; more, of 1,024 pages, from 256 MiB on; and larger ones if the shards ask
-/// for them, or if there would be too many.
+/// for them, or if there would be too many. If none does what is wished, the least size comes with which one does.
 pub fn geometry_for(wish: Wish) -> Result<Geometry, TooSmall>
     ensures suits { IfOk result (λ geometry. (chunks : ℕ) × Suits wish.size wish.shard_size wish.shards geometry.format geometry.extents geometry.pages geometry.sections chunks) }
+    ensures none { IfErr result (λ _. (chunks : ℕ) → NoneSuits wish.size wish.shard_size wish.shards chunks) }
+    ensures enough { IfErr result (λ small. IfSome small.least (IsEnough wish.shard_size wish.shards)) }
+    ensures least { IfErr result (λ small. (size chunks : ℕ) → IfSome small.least (λ least. size < least) → NoneSuits size wish.shard_size wish.shards chunks) }
 {
     let pages = usual_pages(wish.size).max(pages_needed(wish, MOST_CHUNKS));
     let chunks = chunks_of(wish.shard_size, pages);
@@ -64,8 +68,7 @@ pub fn geometry_for(wish: Wish) -> Result<Geometry, TooSmall>
         return Ok(geometry);
     }
     for fewer in 0..MOST_CHUNKS {
-        let chunks = MOST_CHUNKS - fewer;
-        if let Some(geometry) = with_pages(wish, pages_needed(wish, chunks), chunks) {
+        if let Some(geometry) = with_chunks(wish, MOST_CHUNKS - fewer) {
             return Ok(geometry);
         }
     }
@@ -82,19 +85,33 @@ fn usual_pages(size: u64) -> u64 {
         .max(pages.div_ceil(MOST_EXTENTS).min(MOST_PAGES))
 }
 
-/// How many pages an extent needs, so that the largest shard has at most so many chunks, and the index has room.
+/// How many pages an extent needs, so that the largest shard has room in so many chunks, and the index has room.
 fn pages_needed(wish: Wish, chunks: u64) -> u64
-    requires { 0 < chunks }
+    requires { 1 ≤ chunks }
+    ensures some { 2 ≤ result }
+    ensures enough { result ≤ 65535 → Holds wish.shard_size wish.shards chunks result }
+    ensures least { (pages : ℕ) → Holds wish.shard_size wish.shards chunks pages → result ≤ pages }
 {
-    let chunk = wish.shard_size.div_ceil(chunks);
+    let chunk = longest_piece(wish.shard_size, chunks);
     let run = wish.shards.saturating_mul(ENTRY_BYTES);
-    pages_of(chunk.saturating_add(CHUNK_OVERHEAD))
-        .max(pages_of(run.saturating_add(RUN_OVERHEAD)))
-        .max(2)
+    let pages = pages_of(chunk.saturating_add(CHUNK_OVERHEAD));
+    pages.max(pages_of(run.saturating_add(RUN_OVERHEAD))).max(2)
+}
+
+/// How many bytes the longest of so many pieces has at least.
+fn longest_piece(bytes: u64, pieces: u64) -> u64
+    requires { 1 ≤ pieces }
+    ensures enough { bytes ≤ pieces * result }
+    ensures least { (piece : ℕ) → bytes ≤ pieces * piece → result ≤ piece }
+{
+    bytes.div_ceil(pieces)
 }
 
 /// How many pages have room for so many bytes.
-fn pages_of(bytes: u64) -> u64 {
+fn pages_of(bytes: u64) -> u64
+    ensures enough { bytes ≤ 4096 * result }
+    ensures least { (pages : ℕ) → bytes ≤ 4096 * pages → result ≤ pages }
+{
     bytes.div_ceil(4096)
 }
 
@@ -104,10 +121,21 @@ fn chunks_of(shard_size: u64, pages: u64) -> u64 {
     shard_size.div_ceil(chunk.max(1)).max(1)
 }
 
-/// The geometry with so many pages an extent, and as many extents as the size allows; none where the largest shard would have more chunks than this,
-/// or it isn't what is wished.
+/// The geometry with as few pages an extent as so many chunks need, and as many extents as the size allows.
+fn with_chunks(wish: Wish, chunks: u64) -> Option<Geometry>
+    requires some { 1 ≤ chunks }
+    requires most { chunks ≤ 8 }
+    ensures suits { IfSome result (λ geometry. Suits wish.size wish.shard_size wish.shards geometry.format geometry.extents geometry.pages geometry.sections chunks) }
+    ensures none { IsNone result → NoneSuits wish.size wish.shard_size wish.shards chunks }
+{
+    with_pages(wish, pages_needed(wish, chunks), chunks)
+}
+
+/// The geometry with so many pages an extent, and as many extents as the size allows; none if that doesn't do what is wished with so many chunks.
 fn with_pages(wish: Wish, pages: u64, chunks: u64) -> Option<Geometry>
-    ensures { IfSome result (λ geometry. Suits wish.size wish.shard_size wish.shards geometry.format geometry.extents geometry.pages geometry.sections chunks) }
+    requires { 2 ≤ pages }
+    ensures suits { IfSome result (λ geometry. Suits wish.size wish.shard_size wish.shards geometry.format geometry.extents geometry.pages geometry.sections chunks) }
+    ensures some { 1 ≤ chunks → chunks ≤ 8 → Holds wish.shard_size wish.shards chunks pages → ((2 * chunks + 4) * pages + 4) * 4096 ≤ wish.size → IsSome result }
 {
     let extents = extents_on(wish.size, pages);
     let geometry = Geometry::of_format(3, extents, pages, None).ok()?;
@@ -119,39 +147,69 @@ fn with_pages(wish: Wish, pages: u64, chunks: u64) -> Option<Geometry>
 }
 
 /// How many extents of so many pages a device of so many bytes has room for.
-fn extents_on(size: u64, pages: u64) -> u64 {
+fn extents_on(size: u64, pages: u64) -> u64
+    requires { 2 ≤ pages }
+    ensures most { result ≤ 7680 }
+    ensures room { 1 ≤ result → device_pages 3 result pages (sections_needed result) ≤ size / 4096 }
+    // As many as a shard of 8 chunks asks for at most are found where one section is enough for them.
+    ensures enough { (extents : ℕ) → extents ≤ 20 → extents * pages + 4 ≤ size / 4096 → extents ≤ result }
+{
     let device = size / 4096;
-    let most = device.saturating_sub(PAIRED_PAGES) / pages.max(1);
-    let most = most.min(MOST_EXTENTS);
+    let most = (device.saturating_sub(PAIRED_PAGES) / pages).min(MOST_EXTENTS);
     // Each section of the superblock has its two pages.
-    let sections = most.div_ceil(512);
-    let superblock = 2 * sections + 2;
-    (device.saturating_sub(superblock) / pages.max(1)).min(most)
+    let superblock = 2 * most.div_ceil(512) + 2;
+    (device.saturating_sub(superblock) / pages).min(most)
 }
 
-/// Whether a store of this geometry does what is wished, with shards of so many chunks at most.
+/// Whether a store of this geometry does what is wished, with so many chunks for the largest shard.
 fn suits(wish: Wish, geometry: Geometry, chunks: u64) -> bool
     ensures { IsTrue result ↔ Suits wish.size wish.shard_size wish.shards geometry.format geometry.extents geometry.pages geometry.sections chunks }
 {
     let extents = u64::from(geometry.extents());
     geometry.format() == 3
         && geometry.device_pages() * 4096 <= wish.size
+        && 1 <= chunks
         && chunks <= MOST_CHUNKS
         && 2 * chunks + LEFT_BY_PUTS <= extents
         && wish.shard_size <= chunks * geometry.chunk_bytes() as u64
         && wish.shards <= geometry.most_weight() as u64 / ENTRY_BYTES
 }
 
-/// The least size with which there is a geometry that does what is wished.
-fn least_size(wish: Wish) -> Option<u64> {
+/// The least size with which a geometry does what is wished; none if no size is enough.
+fn least_size(wish: Wish) -> Option<u64>
+    ensures enough { IfSome result (IsEnough wish.shard_size wish.shards) }
+    ensures least { (size chunks : ℕ) → IfSome result (λ least. size < least) → NoneSuits size wish.shard_size wish.shards chunks }
+{
     let mut least: Option<u64> = None;
     for fewer in 0..MOST_CHUNKS {
-        let chunks = MOST_CHUNKS - fewer;
-        let pages = pages_needed(wish, chunks);
-        if pages <= MOST_PAGES {
-            let size = 4096 * (pages * (2 * chunks + LEFT_BY_PUTS) + PAIRED_PAGES);
-            least = Some(least.unwrap_or(size).min(size));
-        }
+        least = lesser(least, size_with(wish, MOST_CHUNKS - fewer));
     }
     least
+}
+
+/// The least size with which one does so with so many chunks for the largest shard.
+fn size_with(wish: Wish, chunks: u64) -> Option<u64>
+    requires some { 1 ≤ chunks }
+    requires most { chunks ≤ 8 }
+    ensures enough { IfSome result (IsEnough wish.shard_size wish.shards) }
+    ensures least { (size : ℕ) → IfSome result (λ least. size < least) → NoneSuits size wish.shard_size wish.shards chunks }
+{
+    let pages = pages_needed(wish, chunks);
+    if pages > MOST_PAGES {
+        return None;
+    }
+    Some(4096 * ((2 * chunks + LEFT_BY_PUTS) * pages + PAIRED_PAGES))
+}
+
+/// The lesser of two sizes.
+fn lesser(one: Option<u64>, other: Option<u64>) -> Option<u64>
+    ensures among { (result ≡ one) ⊎ (result ≡ other) }
+    ensures first { (size : ℕ) → IfSome result (λ least. size < least) → IfSome one (λ least. size < least) }
+    ensures second { (size : ℕ) → IfSome result (λ least. size < least) → IfSome other (λ least. size < least) }
+{
+    match (one, other) {
+        (Some(one), Some(other)) => Some(one.min(other)),
+        (Some(one), None) => Some(one),
+        (None, other) => other,
+    }
 }
