@@ -1,18 +1,45 @@
 //! The command line, made of the table of its commands.
 
+use crate::examples::PROGRAM;
 use crate::forms::{Choice, Form, Takes};
-use crate::tables::FORMS;
+use crate::tables::{COPY_FORMS, OTHER_FORMS, SHARD_FORMS, WHOLE_FORMS};
 use clap::{Arg, ArgAction, Command};
 use std::alloc::{AllocError, Global};
 
 /// The command line that is understood.
 pub fn command<'a>(alloc: Global) -> Result<Command<'a>, AllocError> {
-    let forms = commands_of(alloc, FORMS)?;
+    let command = program(alloc).subcommands(shard_commands(alloc)?)?;
+    let command = command.subcommands(whole_commands(alloc)?)?;
+    let command = command.subcommands(copy_commands(alloc)?)?;
+    command.subcommands(other_commands(alloc)?)
+}
+
+/// The commands that make a store, and those over one shard.
+fn shard_commands<'a>(alloc: Global) -> Result<Vec<Command<'a>>, AllocError> {
+    commands_of(alloc, SHARD_FORMS)
+}
+
+/// The commands over the whole of a store.
+fn whole_commands<'a>(alloc: Global) -> Result<Vec<Command<'a>>, AllocError> {
+    commands_of(alloc, WHOLE_FORMS)
+}
+
+/// The commands that copy one.
+fn copy_commands<'a>(alloc: Global) -> Result<Vec<Command<'a>>, AllocError> {
+    commands_of(alloc, COPY_FORMS)
+}
+
+/// The commands that have a store of their own, or none.
+fn other_commands<'a>(alloc: Global) -> Result<Vec<Command<'a>>, AllocError> {
+    commands_of(alloc, OTHER_FORMS)
+}
+
+/// The program, without its commands, one of which is required.
+fn program<'a>(alloc: Global) -> Command<'a> {
     Command::new(alloc, "cs_cli")
         .about("A shard store in a file that loses nothing that it acknowledged")
-        .after_help(crate::examples::PROGRAM)
+        .after_help(PROGRAM)
         .subcommand_required(true)
-        .subcommands(forms)
 }
 
 /// These commands.

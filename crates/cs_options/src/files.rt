@@ -21,9 +21,9 @@ pub fn file_of<'a>(
     options: &ArgMatches<'a>,
     environment: Option<&'a str>,
 ) -> Result<&'a str, NoFile>
-    ensures file { IfOk result (λ file. file_asked options.now (option_map (λ text. text.now) environment) ≡ Some file.now) }
+    ensures file { IfOk result (λ file. file_asked options.now (option_map (λ text. text.now) environment.entry) ≡ Some file.now) }
     ensures twice { (result ≡ Err NoFile.NamedTwice) ↔ NamesTwo options.now }
-    ensures none { result ≡ Err NoFile.NotNamed → file_asked options.now (option_map (λ text. text.now) environment) ≡ None }
+    ensures none { result ≡ Err NoFile.NotNamed → file_asked options.now (option_map (λ text. text.now) environment.entry) ≡ None }
 {
     match (options.get_str("store"), options.get_str("file")) {
         (Some(word), Some(option)) if word != option => Err(NoFile::NamedTwice),

@@ -1,8 +1,8 @@
 //! How large a new store is asked to be.
-ghost use Rattle.std.specs.Prelude.{◌≡◌, ◌↔◌, IfErr, IfOk, IsOk, IsTrue, MatchOption, codes, option_map};
+ghost use Rattle.std.specs.Prelude.{◌≡◌, ◌↔◌, IfErr, IfOk, IsOk, MatchOption, Some, codes};
 ghost use Rattle.cs_frame.specs.Geometries.{IsGeometry};
 ghost use Rattle.cs_options.specs.Asked.{number_at};
-ghost use Rattle.cs_options.specs.Sizings.{IsGiven, IsWished, extents_given, pages_given, sections_given, size_at};
+ghost use Rattle.cs_options.specs.Sizings.{IsWished, extents_given, pages_given, sections_given, shards_asked, size_at};
 
 use crate::geometries::Wish;
 use crate::options::number_given;

@@ -7,8 +7,8 @@ use crate::choices::{
 use crate::examples;
 use crate::forms::{Choice, Form, Takes};
 
-/// The commands.
-pub const FORMS: &[Form] = &[
+/// The commands that make a store, and those over one shard.
+pub const SHARD_FORMS: &[Form] = &[
     Form {
         name: "create",
         about: "Makes a new store in a file",
@@ -35,6 +35,10 @@ pub const FORMS: &[Form] = &[
         after: Some(examples::DELETE),
         options: &[ID, STORE, WAIT, JSON, FILE],
     },
+];
+
+/// The commands over the whole of a store.
+pub const WHOLE_FORMS: &[Form] = &[
     Form {
         name: "list",
         about: "Prints the identifiers of all shards, in order",
@@ -73,6 +77,10 @@ pub const FORMS: &[Form] = &[
         after: Some(examples::RECLAIM),
         options: &[STORE, WAIT, JSON, FILE],
     },
+];
+
+/// The commands that copy one.
+pub const COPY_FORMS: &[Form] = &[
     Form {
         name: "copy",
         about: "Copies a store into a new one, reads it back and compares",
@@ -115,6 +123,10 @@ pub const FORMS: &[Form] = &[
             FILE,
         ],
     },
+];
+
+/// The commands that have a store of their own, or none.
+pub const OTHER_FORMS: &[Form] = &[
     Form {
         name: "run",
         about: "Runs a script from standard input over a store in memory, or in a file",
