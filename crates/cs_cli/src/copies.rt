@@ -174,7 +174,7 @@ fn copy_into<R: AllocGlobal + Clock + Files<File = File> + Eprint>(
         Ok(disk) => disk,
         Err(fault) => {
             let _ = eprintln!(rt;
-                "error: {path} can't be made: {fault}; if a copy left it there, remove it"
+                "error: {path} can't be made: {fault}; if a copy that ended early left it there, remove it"
             );
             return Err(Unopened::of_file(rt.alloc(), fault));
         }

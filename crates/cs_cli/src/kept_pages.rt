@@ -1,50 +1,55 @@
 //! Damaged pages that are kept beside a store before they are written anew.
 
-use cs_disk::{FileFault, PageDisk, SystemFault};
+use cs_disk::PageDisk;
 use cs_mount::Finding;
 use std::fs::File;
 use std::io;
-use std::io::{ErrorKind, Write};
+use std::io::Write;
 use std::os::unix::fs::OpenOptionsExt;
 use std::rt::Files;
 
-/// Keeps each page that was passed over as a file beside the store, named as the store with `.page-` and the page's number behind it. One that is there already stays as it is.
+/// Keeps each page that was passed over as a file beside the store, named as the store with `.page-` and the page's number after it. A file that is there already stays
+/// as it is. Returns whether all were kept; the first that wasn't is reported.
 pub fn keep_pages<D: PageDisk, R: AllocGlobal + Files<File = File> + Eprint>(
     rt: &R,
     path: &str,
     disk: &mut D,
     findings: &[Finding],
-) -> Result<(), FileFault> {
+) -> bool {
     for finding in findings {
         if let Some(page) = finding.passed_over() {
-            keep_page(rt, path, disk, page)?;
+            if !is_kept(rt, path, disk, page) {
+                return false;
+            }
         }
     }
-    Ok(())
+    true
 }
 
-/// Keeps a page.
-fn keep_page<D: PageDisk, R: AllocGlobal + Files<File = File> + Eprint>(
+/// Keeps a page, and returns whether it was kept.
+fn is_kept<D: PageDisk, R: AllocGlobal + Files<File = File> + Eprint>(
     rt: &R,
     path: &str,
     disk: &mut D,
     page: u64,
-) -> Result<(), FileFault> {
+) -> bool {
     let mut bytes = [0; 4096];
     if page >= disk.pages() || disk.read(page, &mut bytes).is_err() {
-        return Err(FileFault::System(SystemFault::Failed));
+        let _ = eprintln!(rt; "error: page {page} can't be read, so it isn't kept");
+        return false;
     }
     let Ok(name) = format!(in rt.alloc(); "{path}.page-{page}") else {
-        return Err(FileFault::System(SystemFault::Failed));
+        let _ = eprintln!(rt; "error: no memory to keep page {page}");
+        return false;
     };
     match write_new(rt, &name, &bytes) {
         Ok(()) => {
             let _ = eprintln!(rt; "kept page {page} as {name}");
-            Ok(())
+            true
         }
         Err(error) => {
-            let _ = eprintln!(rt; "error: page {page} can't be kept as {name}: {error}");
-            Err(fault_of(&error))
+            let _ = eprintln!(rt; "error: page {page} can't be kept as {name}: {error}; move away what is there");
+            false
         }
     }
 }
@@ -56,13 +61,4 @@ fn write_new<R: Files<File = File>>(rt: &R, path: &str, bytes: &[u8; 4096]) -> i
     let mut file = options.open(rt, path)?;
     file.write_all(bytes)?;
     file.sync_all()
-}
-
-/// Why a new file wasn't made.
-fn fault_of(error: &io::Error) -> FileFault {
-    if error.kind() == ErrorKind::AlreadyExists {
-        FileFault::NotEmpty
-    } else {
-        FileFault::System(SystemFault::of(error))
-    }
 }

@@ -95,8 +95,8 @@ fn kept<R: AllocGlobal + Files<File = File> + Eprint>(
     findings: &[Finding],
 ) -> Result<Core<Mounted<Written>>, Unopened> {
     let mut disk = core.into_disk().into_below();
-    if let Err(fault) = keep_pages(rt, place.path, &mut disk, findings) {
-        return Err(Unopened::of_file(rt.alloc(), fault));
+    if !keep_pages(rt, place.path, &mut disk, findings) {
+        return Err(Unopened::of_outcome(rt.alloc(), Outcome::MayBeLost, disk.fault()));
     }
     match Mounted::<Written>::open_core(rt.alloc(), disk) {
         Ok((core, _)) => Ok(core),

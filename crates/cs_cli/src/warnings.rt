@@ -84,10 +84,14 @@ fn text_of<R: AllocGlobal>(rt: &R, scanned: Scanned, commands: u64) -> Result<St
     } else {
         " in the part of the file that was read in 5 seconds"
     };
-    if greatest > commands {
-        let next = commands.saturating_add(1);
+    let next = commands.saturating_add(1);
+    if greatest > next {
         format!(in rt.alloc();
             "commands {next} to {greatest} may be lost, or were never acknowledged (found{part})"
+        )
+    } else if greatest == next {
+        format!(in rt.alloc();
+            "command {next} may be lost, or was never acknowledged (found{part})"
         )
     } else {
         format!(in rt.alloc();

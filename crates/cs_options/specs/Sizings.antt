@@ -1,10 +1,12 @@
 -- How large a new store is asked to be.
-use Rattle.std.specs.Prelude.{ℕ, ◌≢◌, List, Option, None, Some, codes, unwrap_or}
+use Rattle.std.specs.Prelude.{ℕ, ◌≢◌, ◌||◌, Bool, true, false, List, Option, None, Some, codes, is_some, unwrap_or}
 use Rattle.clap.specs.declared.parser.matches.ArgMatches.{ArgMatches}
-use Rattle.clap.specs.Words.{first_value, found_of}
+use Rattle.clap.specs.Words.{first_value, found_of, matched_of}
 use Rattle.cs_frame.specs.Geometries.{sections_needed}
 use Rattle.cs_options.specs.Asked.{number_at}
 use Rattle.cs_options.specs.Sizes.{size_of}
+use Rattle.cs_options.specs.declared.sizings.Sizing.{Sizing}
+use Rattle.cs_options.specs.declared.sizings.Sizing.TheVariants.{Both, Numbers, Sizes, Unsaid}
 
 -- the size of a text, and where there is no text this
 abbrev pub size_or : (usual : ℕ) → (text : Option (List ℕ)) → Option ℕ
@@ -32,3 +34,21 @@ pages_given options = unwrap_or (number_at options (codes "pages")) 256
 
 abbrev pub sections_given : ArgMatches → ℕ
 sections_given options = unwrap_or (number_at options (codes "sections")) (sections_needed (extents_given options))
+
+-- something was given under this name
+abbrev pub is_given : ArgMatches → (name : List ℕ) → Bool
+is_given options name = is_some (matched_of (found_of options) name)
+
+-- a size was given; a number of a geometry was given
+abbrev pub sizes_given : ArgMatches → Bool
+sizes_given options = is_given options (codes "size") || (is_given options (codes "shard-size") || is_given options (codes "shards"))
+
+abbrev pub numbers_given : ArgMatches → Bool
+numbers_given options = is_given options (codes "extents") || (is_given options (codes "pages") || is_given options (codes "sections"))
+
+-- by what a store is asked for, where sizes are given or not, and numbers are
+abbrev pub sizing_by : (sizes numbers : Bool) → Sizing
+sizing_by false false = Unsaid
+sizing_by true false = Sizes
+sizing_by false true = Numbers
+sizing_by true true = Both

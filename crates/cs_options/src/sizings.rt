@@ -2,7 +2,7 @@
 ghost use Rattle.std.specs.Prelude.{◌≡◌, ◌↔◌, IfErr, IfOk, IsOk, MatchOption, Some, codes};
 ghost use Rattle.cs_frame.specs.Geometries.{IsGeometry};
 ghost use Rattle.cs_options.specs.Asked.{number_at};
-ghost use Rattle.cs_options.specs.Sizings.{IsWished, extents_given, pages_given, sections_given, shards_asked, size_at};
+ghost use Rattle.cs_options.specs.Sizings.{IsWished, extents_given, numbers_given, pages_given, sections_given, shards_asked, size_at, sizes_given, sizing_by};
 
 use crate::geometries::Wish;
 use crate::options::number_given;
@@ -31,7 +31,9 @@ pub enum Sizing {
 }
 
 /// By what the options ask for a new store.
-pub fn sizing_of(options: &ArgMatches) -> Sizing {
+pub fn sizing_of(options: &ArgMatches) -> Sizing
+    ensures { result ≡ sizing_by (sizes_given options.now) (numbers_given options.now) }
+{
     match (are_sizes_given(options), are_numbers_given(options)) {
         (false, false) => Sizing::Unsaid,
         (true, false) => Sizing::Sizes,
@@ -41,14 +43,18 @@ pub fn sizing_of(options: &ArgMatches) -> Sizing {
 }
 
 /// Whether a size is given.
-fn are_sizes_given(options: &ArgMatches) -> bool {
+fn are_sizes_given(options: &ArgMatches) -> bool
+    ensures { result ≡ sizes_given options.now }
+{
     options.contains_id("size")
         || options.contains_id("shard-size")
         || options.contains_id("shards")
 }
 
 /// Whether a number of a geometry is given.
-fn are_numbers_given(options: &ArgMatches) -> bool {
+fn are_numbers_given(options: &ArgMatches) -> bool
+    ensures { result ≡ numbers_given options.now }
+{
     options.contains_id("extents")
         || options.contains_id("pages")
         || options.contains_id("sections")
