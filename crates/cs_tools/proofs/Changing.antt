@@ -23,7 +23,7 @@ use Rattle.cs_store.proofs.Accepting.{accepts_none, does_accepts, sync_quiet, sy
 use Rattle.cs_store.proofs.Running.{Left}
 use Rattle.cs_tools.specs.Changes.{Commits, DeclinesDelete, Deletes, DeletesFrom, Puts, PutsInto}
 use Rattle.cs_tools.specs.declared.outcomes.Outcome.{Outcome}
-use Rattle.cs_tools.specs.declared.outcomes.Outcome.TheVariants.{Absent, Damaged, Done, Failed, NoStore, Refused, Unread}
+use Rattle.cs_tools.specs.declared.outcomes.Outcome.TheVariants.{Absent, Damaged, Done, Failed, MayBeLost, NoStore, Refused, Unopened, Unread}
 
 module _ {D : Type 0} (disks : PageDisk D) where
   -- ---- the events
@@ -38,6 +38,8 @@ module _ {D : Type 0} (disks : PageDisk D) where
   commits_quiet old new Damaged h = absurd h
   commits_quiet old new (NoStore r) h = absurd h
   commits_quiet old new (Unread r) h = absurd h
+  commits_quiet old new (Unopened f) h = absurd h
+  commits_quiet old new MayBeLost h = absurd h
 
   pub refused_commit : (old new : View D) (r told : Refusal) → told ≡ r → IsHalted old r new ⊎ StopsSync disks old r new → IsHalted old told new ⊎ StopsSync disks old told new
   refused_commit old new r told is stops = subst (λ (x : Refusal). IsHalted old x new ⊎ StopsSync disks old x new) (sym is) stops
@@ -63,6 +65,8 @@ module _ {D : Type 0} (disks : PageDisk D) where
   deletes id n old mid new Damaged does commits = absurd commits
   deletes id n old mid new (NoStore r) does commits = absurd commits
   deletes id n old mid new (Unread r) does commits = absurd commits
+  deletes id n old mid new (Unopened f) does commits = absurd commits
+  deletes id n old mid new MayBeLost does commits = absurd commits
 
   pub puts : (id : ShardId) (text : List ℕ) (n : ℕ) (old mid new : View D) (o : Outcome) → Does disks old (Put id text) (reply.Accepted n) mid → Commits disks mid new o → Puts disks id text old new o
   puts id text n old mid new Done does commits = (mid, n, does, commits)
@@ -72,6 +76,8 @@ module _ {D : Type 0} (disks : PageDisk D) where
   puts id text n old mid new Damaged does commits = absurd commits
   puts id text n old mid new (NoStore r) does commits = absurd commits
   puts id text n old mid new (Unread r) does commits = absurd commits
+  puts id text n old mid new (Unopened f) does commits = absurd commits
+  puts id text n old mid new MayBeLost does commits = absurd commits
 
   -- ---- the map
 
@@ -89,6 +95,8 @@ module _ {D : Type 0} (disks : PageDisk D) where
         go Damaged is c = absurd c
         go (NoStore r) is c = absurd c
         go (Unread r) is c = absurd c
+        go (Unopened f) is c = absurd c
+        go MayBeLost is c = absurd c
 
     pub puts_into : (text : List ℕ) → HasMap mid (changed m (id_number id, Some text)) → Does disks old (Put id text) (reply.Accepted n) mid → Commits disks mid new o → PutsInto disks m id text old new o
     puts_into text map does commits = go o refl commits
@@ -101,6 +109,8 @@ module _ {D : Type 0} (disks : PageDisk D) where
         go Damaged is c = absurd c
         go (NoStore r) is c = absurd c
         go (Unread r) is c = absurd c
+        go (Unopened f) is c = absurd c
+        go MayBeLost is c = absurd c
 
   -- with the number that a delete gave, if any
   pub deletes_found : (m : Map) (id : ShardId) (found : Option ℕ) (n : ℕ) (old mid new : View D) (o : Outcome) → found ≡ Some n → (found ≡ None) ↔ (m (id_number id) ≡ None)

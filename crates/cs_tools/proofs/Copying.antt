@@ -6,7 +6,7 @@ use Rattle.std.specs.List.{AllByRecursion}
 use Rattle.cs_core.specs.Views.{View}
 use Rattle.cs_frame.specs.declared.identifiers.ShardId.{ShardId}
 use Rattle.cs_index.specs.State.{id_number}
-use Rattle.cs_model.specs.Element.{Content, Map}
+use Rattle.cs_model.specs.Element.{Bytes, Content, Map}
 use Rattle.cs_model.specs.Lists.{◌∈◌}
 use Rattle.cs_store.specs.Maps.{HasMap}
 use Rattle.cs_survey.specs.Listings.{AreAll}
@@ -57,3 +57,7 @@ agree_more m n ids k d lt each here = subst (AgreeOn m n) (sym (take_more ids k 
 pub same_more : (xs ys : List ShardId) (k : ℕ) (d : ShardId) → k < length xs → k < length ys → take k xs ≡ take k ys → get_or xs k d ≡ get_or ys k d → take (k + 1) xs ≡ take (k + 1) ys
 same_more xs ys k d inside inside' was here =
     take_more xs k d inside ∙ ap (λ (l : List ShardId). l ++ get_or xs k d ∷ []) was ∙ ap (λ (x : ShardId). take k ys ++ x ∷ []) here ∙ sym (take_more ys k d inside')
+
+-- the same bytes were read of both
+pub bytes_agree : (x y : Option Content) (read put a b : List ℕ) → b ≡ read → a ≡ put → b ≡ a → y ≡ Some (Bytes read) → x ≡ Some (Bytes put) → y ≡ x
+bytes_agree x y read put a b is_b is_a same of_y of_x = of_y ∙ ap (λ (bytes : List ℕ). Some (Bytes bytes)) (sym is_b ∙ same ∙ is_a) ∙ sym of_x

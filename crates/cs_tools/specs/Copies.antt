@@ -14,14 +14,14 @@ HasAMap v = (m : Map) × HasMap v m
 abbrev pub Agree : (m n : Map) → Type 0
 Agree m n = (id : ℕ) → n id ≡ m id
 
--- a copy may end so
-abbrev pub MayEndCopy : Outcome → Type 0
-MayEndCopy Done = Unit {0}
-MayEndCopy (Refused r) = Unit {0}
-MayEndCopy (Unread r) = Unit {0}
-MayEndCopy Damaged = Unit {0}
-MayEndCopy Absent = ⊥
-MayEndCopy Failed = ⊥
-MayEndCopy (NoStore r) = ⊥
-MayEndCopy (Unopened f) = ⊥
-MayEndCopy MayBeLost = ⊥
+-- a copy may end so before it is done
+abbrev pub MayStopCopy : Outcome → Type 0
+MayStopCopy (Refused r) = Unit {0}
+MayStopCopy (Unread r) = Unit {0}
+MayStopCopy Damaged = Unit {0}
+MayStopCopy Done = ⊥
+MayStopCopy Absent = ⊥
+MayStopCopy Failed = ⊥
+MayStopCopy (NoStore r) = ⊥
+MayStopCopy (Unopened f) = ⊥
+MayStopCopy MayBeLost = ⊥

@@ -18,7 +18,7 @@ Rescues f view id before after (Ended Failed) = Unit {0}
 Rescues f view id before after (Ended Damaged) = ⊥
 Rescues f view id before after (Ended (Refused r)) = ⊥
 Rescues f view id before after (Ended (NoStore r)) = ⊥
-Rescues f view id before after (Ended (Unopened f)) = ⊥
+Rescues f view id before after (Ended (Unopened fault)) = ⊥
 Rescues f view id before after (Ended MayBeLost) = ⊥
 Rescues f view id before after RunLost = IsUnknown f id × (after ≡ before)
 

@@ -1,6 +1,6 @@
 //! What a refusal means, and what to do about it.
 ghost use Rattle.std.specs.Prelude.{◌≡◌, ◌<◌, length};
-ghost use Rattle.cs_tools.specs.declared.advices.Advice.TheVariants.{Make};
+ghost use Rattle.cs_tools.specs.declared.advices.Todo.TheVariants.{Make};
 ghost use Rattle.cs_tools.specs.declared.knowns.Content.TheVariants.{Empty};
 
 use crate::knowns::{Content, Known};
@@ -9,7 +9,7 @@ use cs_disk::SystemFault;
 
 /// What to do about a refusal.
 #[derive(Clone, Copy, Debug, PartialEq, Eq)]
-pub enum Advice {
+pub enum Todo {
     /// Make a store in the file, in which nothing is.
     Make,
     /// The file has another number of pages than its superblock names.
@@ -114,11 +114,11 @@ pub fn system_text(fault: SystemFault) -> &'static str
 
 /// What to do about a refusal, by what is known of the file. To make a store is advised only where the file has no
 /// byte.
-pub fn advice(refusal: Refusal, known: &Known) -> Advice
+pub fn advice(refusal: Refusal, known: &Known) -> Todo
     ensures make { result ≡ Make → known.now.content ≡ Empty }
 {
     match refusal {
-        Refusal::DeviceFault => Advice::Text(advice_of_system(known.system)),
+        Refusal::DeviceFault => Todo::Text(advice_of_system(known.system)),
         Refusal::NotAStore
         | Refusal::BadMagic
         | Refusal::BadDigest
@@ -128,22 +128,22 @@ pub fn advice(refusal: Refusal, known: &Known) -> Advice
         | Refusal::OutOfOrder
         | Refusal::Misplaced
         | Refusal::RootLost => advice_of_content(refusal, known.content),
-        _ => Advice::Text(advice_of_call(refusal)),
+        _ => Todo::Text(advice_of_call(refusal)),
     }
 }
 
 /// What to do about a page that isn't as it must be, by what the file holds.
-fn advice_of_content(refusal: Refusal, content: Content) -> Advice
+fn advice_of_content(refusal: Refusal, content: Content) -> Todo
     ensures make { result ≡ Make → content ≡ Empty }
 {
     match content {
-        Content::Empty => Advice::Make,
-        Content::Length { pages, wanted } => Advice::Length { pages, wanted },
-        Content::Torn { .. } => Advice::Text(TORN),
-        Content::Left => Advice::Text(LEFT),
-        Content::Foreign => Advice::Text(FOREIGN),
-        Content::Store { format } => Advice::Text(advice_of_store(refusal, format)),
-        Content::Unknown => Advice::Text(advice_of_damage(refusal, NO_STORE)),
+        Content::Empty => Todo::Make,
+        Content::Length { pages, wanted } => Todo::Length { pages, wanted },
+        Content::Torn { .. } => Todo::Text(TORN),
+        Content::Left => Todo::Text(LEFT),
+        Content::Foreign => Todo::Text(FOREIGN),
+        Content::Store { format } => Todo::Text(advice_of_store(refusal, format)),
+        Content::Unknown => Todo::Text(advice_of_damage(refusal, NO_STORE)),
     }
 }
 

@@ -1,16 +1,15 @@
 //! Copies of a whole store into another one.
-ghost use Rattle.std.specs.Prelude.{◌≡◌, ◌≢◌, ◌↔◌, IfErr, IfOk, OnOk, None, Some, length, map};
+ghost use Rattle.std.specs.Prelude.{◌≡◌, ◌≢◌, ◌⊎◌, ◌↔◌, IfErr, IfOk, OnOk, None, Some, length, map};
 ghost use Rattle.std.specs.List.{AllByRecursion};
 ghost use Rattle.cs_disk.specs.Reads.{OnlyReads};
 ghost use Rattle.cs_index.specs.State.{id_number};
 ghost use Rattle.cs_model.specs.Element.{Bytes, Map};
 ghost use Rattle.cs_store.specs.Maps.{HasMap};
 ghost use Rattle.cs_survey.specs.Listings.{AreAll};
-ghost use Rattle.cs_tools.specs.Copies.{Agree, HasAMap, MayEndCopy};
+ghost use Rattle.cs_tools.specs.Copies.{Agree, HasAMap, MayStopCopy};
 ghost use Rattle.cs_tools.specs.Reclaims.{IsPersistent};
 ghost use Rattle.cs_tools.specs.declared.outcomes.Outcome.TheVariants.{Done};
 
-use crate::commits::commit;
 use crate::exports::LINES;
 use crate::outcomes::Outcome;
 use cs_deps::Refusal;
@@ -32,7 +31,7 @@ pub fn copy<D: PageDisk, E: PageDisk, P: Progress>(
     progress: &P,
 ) -> Outcome
     ensures copied { (m : Map) → HasMap from.old m → HasAMap to.old → D.honest from.old.disk → E.honest to.old.disk → result ≡ Done → HasMap to.new m × IsPersistent to.new }
-    ensures ends { MayEndCopy result }
+    ensures ends { (result ≡ Done) ⊎ MayStopCopy result }
     // The store that is copied is only read.
     ensures same { from.new ≡ record from.old { disk = from.new.disk } }
     ensures disk { OnlyReads D.PageDisk from.old.disk from.new.disk }
@@ -56,7 +55,7 @@ fn put_all<D: PageDisk, E: PageDisk, P: Progress>(
 ) -> Result<(), Outcome>
     ensures persistent { E.honest to.old.disk → OnOk result (IsPersistent to.new) }
     ensures map { HasAMap to.old → HasAMap to.new }
-    ensures ends { IfErr result MayEndCopy }
+    ensures ends { IfErr result MayStopCopy }
     ensures same { from.new ≡ record from.old { disk = from.new.disk } }
     ensures disk { OnlyReads D.PageDisk from.old.disk from.new.disk }
     ensures honest { E.honest to.old.disk ↔ E.honest to.new.disk }
@@ -81,7 +80,7 @@ fn put_next<D: PageDisk, E: PageDisk>(
     done: usize,
 ) -> Result<(), Outcome>
     ensures map { HasAMap to.old → HasAMap to.new }
-    ensures ends { IfErr result MayEndCopy }
+    ensures ends { IfErr result MayStopCopy }
     ensures same { from.new ≡ record from.old { disk = from.new.disk } }
     ensures disk { OnlyReads D.PageDisk from.old.disk from.new.disk }
     ensures honest { E.honest to.old.disk ↔ E.honest to.new.disk }
@@ -99,7 +98,7 @@ fn put_one<D: PageDisk, E: PageDisk>(
     id: ShardId,
 ) -> Result<(), Outcome>
     ensures map { HasAMap to.old → HasAMap to.new }
-    ensures ends { IfErr result MayEndCopy }
+    ensures ends { IfErr result MayStopCopy }
     ensures same { from.new ≡ record from.old { disk = from.new.disk } }
     ensures disk { OnlyReads D.PageDisk from.old.disk from.new.disk }
     ensures honest { E.honest to.old.disk ↔ E.honest to.new.disk }
@@ -118,19 +117,19 @@ fn put_one<D: PageDisk, E: PageDisk>(
 fn finish<E: PageDisk>(to: &mut Store<E>) -> Result<(), Outcome>
     ensures persistent { E.honest to.old.disk → OnOk result (IsPersistent to.new) }
     ensures map { HasAMap to.old → HasAMap to.new }
-    ensures ends { IfErr result MayEndCopy }
+    ensures ends { IfErr result MayStopCopy }
     ensures honest { E.honest to.old.disk ↔ E.honest to.new.disk }
 {
-    match commit(to) {
-        Outcome::Done => Ok(()),
-        outcome => Err(outcome),
+    match to.sync() {
+        Ok(_) => Ok(()),
+        Err(error) => Err(Outcome::Refused(error.refusal())),
     }
 }
 
 /// The bytes of a shard that a store has.
 fn read_one<D: PageDisk>(store: &mut Store<D>, id: ShardId) -> Result<Vec<u8>, Outcome>
     ensures bytes { (m : Map) → HasMap store.old m → D.honest store.old.disk → IfOk result (λ bytes. m (id_number id) ≡ Some (Bytes bytes.items)) }
-    ensures ends { IfErr result MayEndCopy }
+    ensures ends { IfErr result MayStopCopy }
     ensures same { store.new ≡ record store.old { disk = store.new.disk } }
     ensures disk { OnlyReads D.PageDisk store.old.disk store.new.disk }
 {
@@ -150,7 +149,7 @@ fn compare_all<D: PageDisk, E: PageDisk, P: Progress>(
 ) -> Outcome
     ensures agree { (m n : Map) → HasMap from.old m → HasMap to.old n → D.honest from.old.disk → E.honest to.old.disk → AreAll (λ id. m id ≢ None) (map id_number ids.now)
         → result ≡ Done → Agree m n }
-    ensures ends { MayEndCopy result }
+    ensures ends { (result ≡ Done) ⊎ MayStopCopy result }
     ensures same { from.new ≡ record from.old { disk = from.new.disk } }
     ensures disk { OnlyReads D.PageDisk from.old.disk from.new.disk }
     ensures to_same { to.new ≡ record to.old { disk = to.new.disk } }
@@ -177,7 +176,7 @@ fn compare_each<D: PageDisk, E: PageDisk, P: Progress>(
     ensures ids { result ≡ Done → copied.now ≡ ids.now }
     ensures agree { (m n : Map) → HasMap from.old m → HasMap to.old n → D.honest from.old.disk → E.honest to.old.disk
         → result ≡ Done → AllByRecursion (λ id. n (id_number id) ≡ m (id_number id)) ids.now }
-    ensures ends { MayEndCopy result }
+    ensures ends { (result ≡ Done) ⊎ MayStopCopy result }
     ensures same { from.new ≡ record from.old { disk = from.new.disk } }
     ensures disk { OnlyReads D.PageDisk from.old.disk from.new.disk }
     ensures to_same { to.new ≡ record to.old { disk = to.new.disk } }
@@ -204,7 +203,7 @@ fn compare_one<D: PageDisk, E: PageDisk>(
 ) -> Result<(), Outcome>
     ensures id { OnOk result (copied ≡ id) }
     ensures agree { (m n : Map) → HasMap from.old m → HasMap to.old n → D.honest from.old.disk → E.honest to.old.disk → OnOk result (n (id_number id) ≡ m (id_number id)) }
-    ensures ends { IfErr result MayEndCopy }
+    ensures ends { IfErr result MayStopCopy }
     ensures same { from.new ≡ record from.old { disk = from.new.disk } }
     ensures disk { OnlyReads D.PageDisk from.old.disk from.new.disk }
     ensures to_same { to.new ≡ record to.old { disk = to.new.disk } }
@@ -223,7 +222,7 @@ fn compare_bytes<D: PageDisk, E: PageDisk>(
     id: ShardId,
 ) -> Result<(), Outcome>
     ensures agree { (m n : Map) → HasMap from.old m → HasMap to.old n → D.honest from.old.disk → E.honest to.old.disk → OnOk result (n (id_number id) ≡ m (id_number id)) }
-    ensures ends { IfErr result MayEndCopy }
+    ensures ends { IfErr result MayStopCopy }
     ensures same { from.new ≡ record from.old { disk = from.new.disk } }
     ensures disk { OnlyReads D.PageDisk from.old.disk from.new.disk }
     ensures to_same { to.new ≡ record to.old { disk = to.new.disk } }
@@ -234,8 +233,19 @@ fn compare_bytes<D: PageDisk, E: PageDisk>(
         Err(outcome) => return Err(outcome),
     };
     match read_one(to, id) {
-        Ok(read) if read.as_slice() == put.as_slice() => Ok(()),
-        Ok(_) => Err(Outcome::Damaged),
+        Ok(read) => check_same(&read, &put),
         Err(outcome) => Err(outcome),
+    }
+}
+
+/// Checks that these are the same bytes.
+fn check_same(read: &[u8], put: &[u8]) -> Result<(), Outcome>
+    ensures same { OnOk result (read.now ≡ put.now) }
+    ensures ends { IfErr result MayStopCopy }
+{
+    if read == put {
+        Ok(())
+    } else {
+        Err(Outcome::Damaged)
     }
 }

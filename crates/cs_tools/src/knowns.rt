@@ -128,7 +128,7 @@ fn named_at_end<D: PageDisk>(alloc: Global, disk: &mut D) -> Option<Named>
 }
 
 /// The store that a page of the device names: page 0, or else one of the last.
-fn named<D: PageDisk>(alloc: Global, disk: &mut D) -> Option<Named>
+fn find_named<D: PageDisk>(alloc: Global, disk: &mut D) -> Option<Named>
     requires { 0 < D.page_count disk.old }
     ensures disk { OnlyReads D.PageDisk disk.old disk.new }
 {
@@ -187,7 +187,7 @@ fn content_of<D: PageDisk>(alloc: Global, disk: &mut D) -> Content
     ensures disk { OnlyReads D.PageDisk disk.old disk.new }
 {
     let pages = disk.pages();
-    match named(alloc, disk) {
+    match find_named(alloc, disk) {
         None => content_without(alloc, disk),
         Some(named) if named.pages != pages => Content::Length {
             pages,

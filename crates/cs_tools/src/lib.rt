@@ -25,7 +25,7 @@ mod stats;
 mod tellings;
 mod timings;
 
-pub use advices::{Advice, advice, meaning};
+pub use advices::{Todo, advice, meaning};
 pub use benches::{Load, bench};
 pub use copies::copy;
 pub use deletes::delete;
@@ -51,6 +51,3 @@ pub use cs_rescue as rescue;
 pub use cs_salvage::{Missing, Patience, Scanned};
 pub use cs_scrub::Progress;
 pub use cs_store as store;
-
-#[cfg(test)]
-mod tests;

@@ -19,7 +19,7 @@ ghost use Rattle.cs_tools.specs.Rescues.{Rescues, status_of_got};
 ghost use Rattle.cs_tools.specs.declared.outcomes.Outcome.TheVariants.{Absent, Damaged, Done, Failed, Refused};
 ghost use Rattle.cs_tools.specs.declared.rescues.Got.TheVariants.{Ended, RunLost};
 
-use crate::advices::Advice;
+use crate::advices::Todo;
 use crate::gets::write_out;
 use crate::knowns::Known;
 use crate::lists::print_ids;
@@ -157,6 +157,6 @@ fn reason_of_run() -> Reason {
         name: refusal.name(),
         text: "a run of the index that may name it can't be read",
         system: None,
-        advice: Advice::Text(RUN_LOST),
+        advice: Todo::Text(RUN_LOST),
     }
 }

@@ -1,5 +1,5 @@
 //! Scans of a device for the greatest number of a command.
-ghost use Rattle.std.specs.Prelude.{◌≡◌, ◌⊎◌, ◌<◌, ◌≤◌, Err, IfErr, IfOk, MatchOption, None, ⊥};
+ghost use Rattle.std.specs.Prelude.{◌≡◌, ◌⊎◌, ◌<◌, ◌≤◌, Err, IfErr, IfOk, MatchOption, None};
 ghost use Rattle.cs_chunk.specs.Reads.{IsCaused};
 ghost use Rattle.cs_disk.specs.Disk.{seen};
 ghost use Rattle.cs_disk.specs.Reads.{OnlyReads};

@@ -6,7 +6,7 @@ ghost use Rattle.cs_tools.specs.Outcomes.{refusal_in, status_of};
 ghost use Rattle.cs_tools.specs.Stats.{BeginsWith, GoesOn};
 ghost use Rattle.cs_tools.specs.Tellings.{head_text};
 
-use crate::advices::{Advice, advice, advice_of_system, meaning, system_text};
+use crate::advices::{Todo, advice, advice_of_system, meaning, system_text};
 use crate::knowns::Known;
 use crate::outcomes::Outcome;
 use crate::outputs::Style;
@@ -50,7 +50,7 @@ pub struct Reason {
     pub name: &'static str,
     pub text: &'static str,
     pub system: Option<SystemFault>,
-    pub advice: Advice,
+    pub advice: Todo,
 }
 
 impl Reason {
@@ -82,7 +82,7 @@ impl Reason {
             name: Refusal::DeviceFault.name(),
             text: "the file can't be opened",
             system: Some(fault),
-            advice: Advice::Text(advice_of_system(Some(fault))),
+            advice: Todo::Text(advice_of_system(Some(fault))),
         }
     }
 }
@@ -130,7 +130,7 @@ fn print_text<W: Write>(writer: &mut W, text: &str, system: Option<SystemFault>)
 }
 
 /// Prints what to do, and the end of what is told.
-fn print_advice<W: Write>(writer: &mut W, advice: Advice, style: Style) -> io::Result<()>
+fn print_advice<W: Write>(writer: &mut W, advice: Todo, style: Style) -> io::Result<()>
     ensures { OnOk result (GoesOn (W.contents writer.old) (W.contents writer.new)) }
 {
     match style {
@@ -148,16 +148,16 @@ fn print_advice<W: Write>(writer: &mut W, advice: Advice, style: Style) -> io::R
 }
 
 /// Prints what to do.
-fn print_todo<W: Write>(writer: &mut W, advice: Advice) -> io::Result<()>
+fn print_todo<W: Write>(writer: &mut W, advice: Todo) -> io::Result<()>
     ensures { OnOk result (GoesOn (W.contents writer.old) (W.contents writer.new)) }
 {
     match advice {
-        Advice::Make => write!(
+        Todo::Make => write!(
             writer,
             "The file is empty: make a store in it by `cs_cli create` with its name."
         ),
-        Advice::Text(text) => write!(writer, "{text}"),
-        Advice::Length { pages, wanted } => print_length(writer, pages, wanted),
+        Todo::Text(text) => write!(writer, "{text}"),
+        Todo::Length { pages, wanted } => print_length(writer, pages, wanted),
     }
 }
 

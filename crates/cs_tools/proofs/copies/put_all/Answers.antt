@@ -20,3 +20,6 @@ loop-k-preserved g c =
       map = λ has. c.put_next.ensures.map (was.map has);
       honest = (λ h. c.put_next.ensures.honest.0 (was.honest.0 h), λ h. was.honest.1 (c.put_next.ensures.honest.1 h));
     }
+
+pub returns-in-Err-clause-disk : goal.returns-in-Err-clause-disk
+returns-in-Err-clause-disk g c = reads_on g.D.PageDisk c.args.from.now.disk c.loop-k.from.disk c.put_next.new.from.disk c.loop-k.invariant.disk c.put_next.ensures.disk
