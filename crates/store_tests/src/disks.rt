@@ -1,9 +1,8 @@
 //! Disks: crashes, calls that fail, and files, by scripts. What a line says is done on a disk of any kind, and what is done with files
 //! stands in one function over any runtime, since a call that knows the runtime takes long to prove.
 use crate::texts::{byte, is_said, sides, text_of, words_of};
-use cs_disk::{
-    CrashDisk, DiskFault, FailAt, FileDisk, ImageFault, MemoryDisk, OpenFault, PageDisk,
-};
+use cs_disk::{Access, CrashDisk, DiskFault, FailAt, FileDisk, ImageFault, MemoryDisk, PageDisk};
+use std::fmt::Debug;
 use std::fs::File;
 use std::os::unix::fs::MetadataExt;
 use std::process::Abort;
@@ -194,10 +193,10 @@ read 0 > (Ok(()), 1, 1)
 failures > 1";
 
 /// Keeps a disk that was opened, and tells why another one wasn't.
-fn kept(
+fn kept<E: Debug + Drop>(
     rt: &(impl Abort + AllocGlobal),
     disk: &mut Option<FileDisk>,
-    opened: Result<FileDisk, OpenFault>,
+    opened: Result<FileDisk, E>,
 ) -> String {
     match opened {
         Ok(opened) => {
@@ -236,6 +235,14 @@ fn crashes(rt: &impl Abort, disk: &mut Option<FileDisk>) -> bool {
     disk.is_some()
 }
 
+/// What a word says of how a file that is only read is locked.
+fn access_of(word: &str) -> Access {
+    match word {
+        "unlocked" => Access::ReadUnlocked,
+        _ => Access::Read,
+    }
+}
+
 /// What comes of a line, as text: of words for files, and of others on the disk that is open.
 fn done<R: Abort + AllocGlobal + Files<File = File>>(
     rt: &R,
@@ -252,6 +259,20 @@ fn done<R: Abort + AllocGlobal + Files<File = File>>(
             kept(rt, disk, FileDisk::create(rt, rt.alloc(), path, pages))
         }
         "open" => kept(rt, disk, FileDisk::open(rt, rt.alloc(), path)),
+        "new" => {
+            let pages = last.parse().unwrap_or(0);
+            kept(
+                rt,
+                disk,
+                FileDisk::create_new(rt, rt.alloc(), path, pages, 0o600),
+            )
+        }
+        "read_alone" => kept(
+            rt,
+            disk,
+            FileDisk::open_for(rt, rt.alloc(), path, access_of(last)),
+        ),
+        "fault" => text_of(rt, &disk.as_ref().expect(rt, "a disk").last_fault()),
         "close" => text_of(rt, &disk.take().is_some()),
         "crash" => text_of(rt, &crashes(rt, disk)),
         "fill" => text_of(rt, &std::fs::write(rt, path, last).is_ok()),
@@ -376,6 +397,45 @@ file cs_disk_locked > (16384, [Some(0), Some(0), Some(0), Some(0)])
 failures > 0
 close > true
 remove cs_disk_locked > true";
+
+/// Files that are only read are read beside each other, and not beside one that writes. Nothing that is there is lost to a new file.
+#[test]
+fn a_file_is_read_alone(rt: HostRuntime) {
+    plays_files(&rt, READ_ALONE);
+}
+
+const READ_ALONE: &str = "new cs_disk_read 4 > \"open\"
+write 1 5 > Ok(())
+flush > Ok(())
+fault > None
+read_alone cs_disk_read > System(InUse)
+read_alone cs_disk_read unlocked > \"open\"
+read 1 > (Ok(()), 5, 5)
+read_alone cs_disk_read > \"open\"
+read_alone cs_disk_read > \"open\"
+open cs_disk_read > DeviceFault
+new cs_disk_read 4 > System(InUse)
+read 1 > (Ok(()), 5, 5)
+write 1 6 > Err(DeviceFault)
+fault > Some(ReadOnly)
+failures > 1
+flush > Ok(())
+read 1 > (Ok(()), 5, 5)
+close > true
+new cs_disk_read 4 > NotEmpty
+file cs_disk_read > (16384, [Some(0), Some(5), Some(0), Some(0)])
+fill cs_disk_read odd > true
+read_alone cs_disk_read > OddLength
+remove cs_disk_read > true
+read_alone cs_disk_read > System(NotThere)
+read_alone . > System(Folder)
+new . 4 > System(Folder)
+new no_such_folder/pages 4 > System(NotThere)
+fill cs_disk_read > true
+new cs_disk_read 2 > \"open\"
+pages > 2
+close > true
+remove cs_disk_read > true";
 
 /// A file of more pages than are written in one call.
 #[test]
