@@ -1,12 +1,12 @@
 //! The command `copy`.
 ghost use Rattle.std.specs.Prelude.{◌≤◌};
 
-use crate::creates::{Plot, geometry_said, mode_given, warn_of_format};
+use crate::creates::{geometry_said, mode_given, plural_of, warn_of_format};
 use crate::files::{OverFile, Place, Read, Written, disk_to_read, new_disk};
 use crate::manners::Manner;
 use crate::openings::{Shown, Unopened, open_typed};
 use crate::progress::Told;
-use crate::warnings::{explain_unopened, warn_of};
+use crate::warnings::{explain_unopened, warn_of, warn_text};
 use clap::ArgMatches;
 use cs_deps::Refusal;
 use cs_disk::{FileFault, SystemFault};
@@ -172,12 +172,7 @@ fn copy_into<R: AllocGlobal + Clock + Files<File = File> + Eprint>(
     };
     let disk = match new_disk(rt, &path, geometry, job.mode) {
         Ok(disk) => disk,
-        Err(fault) => {
-            let _ = eprintln!(rt;
-                "error: {path} can't be made: {fault}; if a copy that ended early left it there, remove it"
-            );
-            return Err(Unopened::of_file(rt.alloc(), fault));
-        }
+        Err(fault) => return Err(unmade(rt, &path, fault, manner)),
     };
     let copied = match Store::make_mounted(rt.alloc(), disk, geometry, LIMITS) {
         Ok(store) => fill(rt, job, &path, store, manner),
@@ -193,6 +188,30 @@ fn copy_into<R: AllocGlobal + Clock + Files<File = File> + Eprint>(
         Ok(()) => Ok(geometry),
         Err(unmade) => Err(unmade),
     }
+}
+
+/// The new file wasn't made, which is reported; what was begun of it is removed.
+fn unmade<R: AllocGlobal + Files<File = File> + Eprint>(
+    rt: &R,
+    path: &str,
+    fault: FileFault,
+    manner: Manner,
+) -> Unopened {
+    match fault {
+        FileFault::NotEmpty => warn_text(
+            rt,
+            format!(in rt.alloc();
+                "{path} is there: if a copy that ended early left it, remove it"
+            ),
+            manner.style,
+        ),
+        // The file was made, and left with nothing in it.
+        FileFault::System(SystemFault::NoRoom | SystemFault::Failed) => {
+            let _ = fs::remove_file(rt, path);
+        }
+        _ => {}
+    }
+    Unopened::of_file(rt.alloc(), fault)
 }
 
 /// Copies all shards into an empty store in a file, which is given its name when all of it is there.
@@ -256,10 +275,11 @@ fn print_copied<W: Write>(
     let pages = geometry.pages();
     let sections = geometry.sections();
     let bytes = geometry.device_pages().saturating_mul(4096);
+    let plural = plural_of(sections);
     match style {
         Style::Text => writeln!(
             writer,
-            "copied {shards} shards: format 3, {extents} extents of {pages} pages, {sections} sections: {bytes} bytes"
+            "copied {shards} shards: format 3, {extents} extents of {pages} pages, {sections} section{plural}: {bytes} bytes"
         )?,
         Style::Json => writeln!(
             writer,

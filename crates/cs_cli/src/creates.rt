@@ -220,6 +220,11 @@ fn largest_shard(geometry: Geometry) -> u64 {
     chunks.saturating_mul(geometry.chunk_bytes() as u64)
 }
 
+/// What a word has at its end for so many things.
+pub fn plural_of(count: u8) -> &'static str {
+    if count == 1 { "" } else { "s" }
+}
+
 /// Prints what was made.
 fn print_created<W: Write>(plot: Plot, style: Style, writer: &mut W) -> io::Result<()> {
     let Plot { path, geometry, .. } = plot;
@@ -229,10 +234,11 @@ fn print_created<W: Write>(plot: Plot, style: Style, writer: &mut W) -> io::Resu
     let bytes = geometry.device_pages().saturating_mul(4096);
     let largest = largest_shard(geometry);
     let identifiers = geometry.most_weight() / 33;
+    let plural = plural_of(sections);
     match style {
         Style::Text => writeln!(
             writer,
-            "created {path}: format 3, {extents} extents of {pages} pages, {sections} sections: {bytes} bytes; shards up to {largest} bytes, up to {identifiers} identifiers of one chunk"
+            "created {path}: format 3, {extents} extents of {pages} pages, {sections} section{plural}: {bytes} bytes; shards up to {largest} bytes, up to {identifiers} identifiers of one chunk"
         )?,
         Style::Json => writeln!(
             writer,

@@ -1,7 +1,9 @@
 //! Damaged pages that are kept beside a store before they are written anew.
 
+use crate::warnings::warn_text;
 use cs_disk::PageDisk;
 use cs_mount::Finding;
+use cs_tools::Style;
 use std::fs::File;
 use std::io;
 use std::io::Write;
@@ -15,10 +17,11 @@ pub fn keep_pages<D: PageDisk, R: AllocGlobal + Files<File = File> + Eprint>(
     path: &str,
     disk: &mut D,
     findings: &[Finding],
+    style: Style,
 ) -> bool {
     for finding in findings {
         if let Some(page) = finding.passed_over() {
-            if !is_kept(rt, path, disk, page) {
+            if !is_kept(rt, path, disk, page, style) {
                 return false;
             }
         }
@@ -32,23 +35,34 @@ fn is_kept<D: PageDisk, R: AllocGlobal + Files<File = File> + Eprint>(
     path: &str,
     disk: &mut D,
     page: u64,
+    style: Style,
 ) -> bool {
     let mut bytes = [0; 4096];
     if page >= disk.pages() || disk.read(page, &mut bytes).is_err() {
-        let _ = eprintln!(rt; "error: page {page} can't be read, so it isn't kept");
+        warn_text(
+            rt,
+            format!(in rt.alloc(); "page {page} can't be read, so it isn't kept"),
+            style,
+        );
         return false;
     }
     let Ok(name) = format!(in rt.alloc(); "{path}.page-{page}") else {
-        let _ = eprintln!(rt; "error: no memory to keep page {page}");
         return false;
     };
     match write_new(rt, &name, &bytes) {
         Ok(()) => {
-            let _ = eprintln!(rt; "kept page {page} as {name}");
+            warn_text(
+                rt,
+                format!(in rt.alloc(); "page {page} is kept as {name}"),
+                style,
+            );
             true
         }
         Err(error) => {
-            let _ = eprintln!(rt; "error: page {page} can't be kept as {name}: {error}; move away what is there");
+            let text = format!(in rt.alloc();
+                "page {page} can't be kept as {name}: {error}; move away what is there"
+            );
+            warn_text(rt, text, style);
             false
         }
     }

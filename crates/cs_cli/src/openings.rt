@@ -157,23 +157,22 @@ pub fn open_core<E: Shown + Drop, R: AllocGlobal + Clock>(
         Ok(disk) => disk,
         Err(fault) => return Err(Unopened::of_file(rt.alloc(), fault)),
     };
-    match E::open_core(rt.alloc(), disk) {
-        Ok((core, findings)) if may_be_lost(&findings) => {
-            let mut disk = core.into_disk().into_below();
-            let scanned = scan(rt, &mut disk);
-            core_of(rt.alloc(), E::open_core(rt.alloc(), disk), scanned)
-        }
-        opened => core_of(rt.alloc(), opened, None),
+    let opened = core_on::<E>(rt.alloc(), disk, None)?;
+    if !may_be_lost(&opened.findings) {
+        return Ok(opened);
     }
+    let mut disk = opened.store.into_disk().into_below();
+    let scanned = scan(rt, &mut disk);
+    core_on::<E>(rt.alloc(), disk, scanned)
 }
 
-/// A core that was opened, or why it wasn't.
-fn core_of<E: Shown + Drop>(
+/// The store on a disk, of which a scan found this.
+fn core_on<E: Shown + Drop>(
     alloc: Global,
-    opened: Result<(Core<E>, Vec<Finding>), (Refusal, E::Below)>,
+    disk: E::Below,
     scanned: Option<Scanned>,
 ) -> Result<Opened<Core<E>>, Unopened> {
-    match opened {
+    match E::open_core(alloc, disk) {
         Ok((store, findings)) => Ok(Opened {
             store,
             findings,
@@ -195,23 +194,22 @@ pub fn open_typed<E: Shown + Drop, R: AllocGlobal + Clock>(
         Ok(disk) => disk,
         Err(fault) => return Err(Unopened::of_file(rt.alloc(), fault)),
     };
-    match E::open_typed(rt.alloc(), disk) {
-        Ok((store, findings)) if may_be_lost(&findings) => {
-            let mut disk = store.close().into_below();
-            let scanned = scan(rt, &mut disk);
-            typed_of(rt.alloc(), E::open_typed(rt.alloc(), disk), scanned)
-        }
-        opened => typed_of(rt.alloc(), opened, None),
+    let opened = typed_on::<E>(rt.alloc(), disk, None)?;
+    if !may_be_lost(&opened.findings) {
+        return Ok(opened);
     }
+    let mut disk = opened.store.close().into_below();
+    let scanned = scan(rt, &mut disk);
+    typed_on::<E>(rt.alloc(), disk, scanned)
 }
 
-/// A typed store that was opened, or why it wasn't.
-fn typed_of<E: Shown + Drop>(
+/// The typed store on a disk, of which a scan found this.
+fn typed_on<E: Shown + Drop>(
     alloc: Global,
-    opened: Result<(Store<E>, Vec<Finding>), (Refusal, E::Below)>,
+    disk: E::Below,
     scanned: Option<Scanned>,
 ) -> Result<Opened<Store<E>>, Unopened> {
-    match opened {
+    match E::open_typed(alloc, disk) {
         Ok((store, findings)) => Ok(Opened {
             store,
             findings,

@@ -47,7 +47,7 @@ pub fn repair_file<R: AllocGlobal + Clock + Files<File = File> + Print + Eprint>
         let outcome = stop(rt, &opened, manner);
         return explain(rt, outcome, &Known::nothing(), manner.style);
     }
-    match mended(rt, place, opened, loss) {
+    match mended(rt, place, opened, loss, manner) {
         Ok(mended) => scrub_mended(rt, mended, manner),
         Err(unopened) => explain_unopened(rt, &unopened, manner.style),
     }
@@ -71,6 +71,7 @@ fn mended<R: AllocGlobal + Files<File = File> + Eprint>(
     place: Place,
     opened: Opened<Core<Mounted<Written>>>,
     loss: Loss,
+    manner: Manner,
 ) -> Result<Mended, Unopened> {
     let Opened {
         store,
@@ -79,7 +80,7 @@ fn mended<R: AllocGlobal + Files<File = File> + Eprint>(
     } = opened;
     let core = match loss {
         Loss::Stops => store,
-        Loss::Accepted => kept(rt, place, store, &findings)?,
+        Loss::Accepted => kept(rt, place, store, &findings, manner)?,
     };
     match mend(core) {
         Ok(disk) => reopened(rt, Core::open(rt.alloc(), disk, limits()), findings),
@@ -93,9 +94,10 @@ fn kept<R: AllocGlobal + Files<File = File> + Eprint>(
     place: Place,
     core: Core<Mounted<Written>>,
     findings: &[Finding],
+    manner: Manner,
 ) -> Result<Core<Mounted<Written>>, Unopened> {
     let mut disk = core.into_disk().into_below();
-    if !keep_pages(rt, place.path, &mut disk, findings) {
+    if !keep_pages(rt, place.path, &mut disk, findings, manner.style) {
         return Err(Unopened::of_outcome(rt.alloc(), Outcome::MayBeLost, disk.fault()));
     }
     match Mounted::<Written>::open_core(rt.alloc(), disk) {

@@ -2,18 +2,20 @@
 ghost use Rattle.std.specs.Prelude.{◌≤◌};
 
 use crate::files::{OverFile, Place, Read, disk_to_read};
+use crate::heads::scan;
 use crate::manners::Manner;
-use crate::openings::{Shown, Unopened};
+use crate::openings::{Opened, Shown, Unopened};
 use crate::progress::Told;
-use crate::warnings::{explain_unopened, warn_of_findings, warn_of_rescue, warn_of_salvage};
+use crate::warnings::{explain_unopened, warn_of, warn_of_rescue, warn_of_salvage};
 use cs_frame::ShardId;
 use cs_mount::Mounted;
 use cs_options::Listing;
 use cs_tools::rescue::Rescue;
 use cs_tools::{
-    Known, Outcome, explain, explain_got, export_salvaged, get_rescued, list_rescued, open_rescue,
-    salvage,
+    Known, Outcome, Scanned, explain, explain_got, export_salvaged, get_rescued, list_rescued,
+    may_be_lost, open_rescue, salvage,
 };
+use std::alloc::Global;
 use std::fs::File;
 use std::io;
 use std::io::BufWriter;
@@ -65,20 +67,47 @@ fn rescue_in_file<R: AllocGlobal + Clock + Files<File = File> + Eprint>(
         Ok(disk) => disk,
         Err(fault) => return Err(Unopened::of_file(rt.alloc(), fault)),
     };
-    match open_rescue(rt.alloc(), disk) {
-        Ok((rescue, findings)) => {
-            warn_of_findings(rt, &findings, manner.style);
-            let root = if rescue.root_lost() {
-                Some(rescue.version())
-            } else {
-                None
-            };
-            warn_of_rescue(rt, root, rescue.damaged(), manner.style);
-            Ok(rescue)
-        }
+    let opened = rescued(rt, disk)?;
+    let rescue = &opened.store;
+    warn_of(rt, &opened, rescue.commands(), manner.style);
+    let root = if rescue.root_lost() {
+        Some(rescue.version())
+    } else {
+        None
+    };
+    warn_of_rescue(rt, root, rescue.damaged(), manner.style);
+    Ok(opened.store)
+}
+
+/// What can be got of the store on a disk. If the newest root may be the one that is damaged, the device is scanned first for the commands that are on it.
+fn rescued<R: AllocGlobal + Clock>(
+    rt: &R,
+    disk: Read,
+) -> Result<Opened<Rescue<Mounted<Read>>>, Unopened> {
+    let opened = rescue_on(rt.alloc(), disk, None)?;
+    if !may_be_lost(&opened.findings) {
+        return Ok(opened);
+    }
+    let mut disk = opened.store.into_disk().into_below();
+    let scanned = scan(rt, &mut disk);
+    rescue_on(rt.alloc(), disk, scanned)
+}
+
+/// What can be got of the store on a disk, of which a scan found this.
+fn rescue_on(
+    alloc: Global,
+    disk: Read,
+    scanned: Option<Scanned>,
+) -> Result<Opened<Rescue<Mounted<Read>>>, Unopened> {
+    match open_rescue(alloc, disk) {
+        Ok((store, findings)) => Ok(Opened {
+            store,
+            findings,
+            scanned,
+        }),
         Err((refusal, disk)) => {
             let mut disk = disk;
-            Err(Unopened::of_disk(rt.alloc(), refusal, &mut disk))
+            Err(Unopened::of_disk(alloc, refusal, &mut disk))
         }
     }
 }

@@ -13,7 +13,7 @@ use uuid::Uuid;
 const ROOT: u64 = 1;
 
 /// Prints a warning. Where its text finds no memory it says that alone.
-fn warn_text<R: Eprint>(rt: &R, text: Result<String, AllocError>, style: Style) {
+pub fn warn_text<R: Eprint>(rt: &R, text: Result<String, AllocError>, style: Style) {
     match text {
         Ok(text) => warn(rt, &text, style),
         Err(_) => warn(rt, "no memory for the text of a warning", style),
@@ -101,7 +101,7 @@ fn text_of<R: AllocGlobal>(rt: &R, scanned: Scanned, commands: u64) -> Result<St
 }
 
 /// Warns of each page that is damaged and whose other copy is used, and of pairs of which neither page is whole.
-pub fn warn_of_findings<R: AllocGlobal + Eprint>(rt: &R, findings: &[Finding], style: Style) {
+fn warn_of_findings<R: AllocGlobal + Eprint>(rt: &R, findings: &[Finding], style: Style) {
     for finding in findings {
         warn_of_pages(rt, *finding, style);
     }
