@@ -1,12 +1,12 @@
 -- What a crash leaves, and what is printed of it.
-use Rattle.std.proofs.Common.{◌≡◌, ◌⊎◌, ℕ, Bool, List, ◌++◌, length, None, sym, subst, refl, inl, inr}
+use Rattle.std.proofs.Common.{◌≡◌, ℕ, Bool, List, ◌++◌, length, sym, subst, refl}
 use Rattle.std.specs.Prelude.{Option, ◌↔◌}
 use Rattle.std.specs.Io.KnownBytes.{Appends}
 use Rattle.cs_deps.specs.declared.refusals.Refusal.{Refusal}
 use Rattle.cs_disk.specs.declared.disk.PageDisk.{Ghosts as PageDisk}
 use Rattle.cs_disk.specs.Disk.{crashed}
 use Rattle.cs_core.specs.Views.{View}
-use Rattle.cs_script.specs.Crashes.{Crashes, CrashesForGood, IsCrash, IsCrashed, IsNotReopened, Reopens, kept_count}
+use Rattle.cs_script.specs.Crashes.{Crashes, CrashesUnder, IsCrash, IsCrashed, IsNotReopened, Reopens, kept_count}
 use Rattle.cs_script.specs.Lines.{says_crash}
 use Rattle.cs_script.specs.Outputs.{crash_line, open_line, refusal_line}
 use Rattle.cs_script.proofs.Appended.{appends_then}
@@ -28,17 +28,11 @@ module _ {D : Type 0} (disks : PageDisk D) (can_crash : D → Type 0) (volatile_
   )
 
   -- no core goes on
-  pub ends : {T : Type 0} (mask : List Bool) (old : View D) (r : Refusal) (count status : ℕ) (a b c : Option (List ℕ)) → count ≡ kept_count mask → Appends a b (crash_line count (length mask))
-      → IsCrash can_crash volatile_count (says_crash mask) old mask → IsNotReopened disks can_crash volatile_count mask old r
-      → ((status ≡ 3) × Appends b c (refusal_line r)) ⊎ (status ≡ 4)
-      → ((status ≡ 3) × (◌≡◌ {A = Option T} None None) × ((out : List ℕ) × CrashesForGood disks can_crash volatile_count (says_crash mask) old out × Appends a c out)) ⊎ (status ≡ 4)
-  ends mask old r count status a b c e first is_crash why (inl (is, second)) = inl (
-    is,
-    refl,
-    (
-      crash_line (kept_count mask) (length mask) ++ refusal_line r,
-      (mask, is_crash, r, why, refl),
-      appends_then a b c (crash_line (kept_count mask) (length mask)) (refusal_line r) (subst (λ n. Appends a b (crash_line n (length mask))) e first) second,
-    ),
+  pub ends : (mask : List Bool) (old : View D) (r : Refusal) (count : ℕ) (a b c : Option (List ℕ)) → count ≡ kept_count mask → Appends a b (crash_line count (length mask))
+      → IsCrash can_crash volatile_count (says_crash mask) old mask → IsNotReopened disks can_crash volatile_count mask old r → Appends b c (refusal_line r)
+      → (out : List ℕ) × CrashesUnder disks can_crash volatile_count (says_crash mask) old r out × Appends a c out
+  ends mask old r count a b c e first is_crash why second = (
+    crash_line (kept_count mask) (length mask) ++ refusal_line r,
+    (mask, is_crash, why, refl),
+    appends_then a b c (crash_line (kept_count mask) (length mask)) (refusal_line r) (subst (λ n. Appends a b (crash_line n (length mask))) e first) second,
   )
-  ends mask old r count status a b c e first is_crash why (inr is) = inr is

@@ -5,6 +5,8 @@ pub mod SyncRefusals
 pub mod Rounds
 pub mod SyncSteps
 pub mod LineSteps
+pub mod OneLine
+pub mod WatchedRuns
 pub mod PlanSteps
 pub mod CheckSteps
 pub mod HexSteps

@@ -1,6 +1,6 @@
 -- A sync as it is printed, from what it does and the lines of its rounds.
 use Rattle.std.proofs.Common.{◌≡◌, ◌∙◌, ℕ, ◌+◌, List, [], ◌∷◌, ◌++◌, length, sym, ap, subst, refl, inl, inr, append_assoc}
-use Rattle.std.specs.Prelude.{Option, None, Result, Ok, Err, MatchResult, IsErrAnd, IfErr, OnOk}
+use Rattle.std.specs.Prelude.{Option, None, Result, Ok, Err, MatchResult, IsErrAnd, IfErr, IfOk, OnOk}
 use Rattle.std.proofs.lemmas.List.{append-nil}
 use Rattle.std.specs.Io.KnownBytes.{Appends}
 use Rattle.cs_deps.specs.declared.elements.Element.{Element}
@@ -19,9 +19,11 @@ use Rattle.cs_drive.specs.Rounds.{Finishes, Turn, events_of_all, rounds_of}
 use Rattle.cs_drive.specs.Syncs.{AreTold, StopsInRounds}
 use Rattle.cs_drive.proofs.SyncSteps.{finishes_none, none_staged, round_refused, stage_refused, written}
 use Rattle.cs_drive.proofs.Turned.{went_turns}
+use Rattle.cs_script.specs.declared.answers.Answer.{Answer}
+use Rattle.cs_script.specs.declared.answers.Answer.TheVariants.{Refused as RefusedAnswer}
 use Rattle.cs_script.specs.Lines.{says_sync}
 use Rattle.cs_script.specs.Outputs.{acknowledged_line, chain_line, end_lines, flushes_line, refusal_line, round_line, round_lines}
-use Rattle.cs_script.specs.Scripts.{Answers, IsBestOfAll, PrintsStop, PrintsSync}
+use Rattle.cs_script.specs.Scripts.{AnswersSo, IsBestOfAll, PrintsStop, PrintsSync}
 use Rattle.cs_script.specs.Stops.{StopsAfter}
 use Rattle.cs_script.proofs.Appended.{appends_none, appends_then}
 use Rattle.cs_script.proofs.PlanSteps.{best_in_turn, stages}
@@ -96,10 +98,15 @@ module _ {D : Type 0} (disks : PageDisk D) where
   stops_later contents old ended staged new before mid after reply (Untold e) first g may none rounds = tt
 
   -- the refusal is printed
-  pub stops : (old new : View D) (before mid after : Option (List ℕ)) (r : Refusal) → StopsAfterLines old new before mid r → Appends mid after (refusal_line r)
-      → (out : List ℕ) × Answers disks says_sync old new out × Appends before after out
-  stops old new before mid after r (out, stopped, printed) last =
-      (out ++ refusal_line r, inr (r, out, stopped, refl), appends_then before mid after out (refusal_line r) printed last)
+  pub stops : {E : Type 0} (old new : View D) (before mid after : Option (List ℕ)) (r : Refusal) (s : Result Answer E) → StopsAfterLines old new before mid r
+      → IfOk s (λ answer. (answer ≡ RefusedAnswer r) × Appends mid after (refusal_line r))
+      → IfOk s (λ answer. (out : List ℕ) × AnswersSo disks says_sync answer old new out × Appends before after out)
+  stops old new before mid after r (Ok answer) (out, stopped, printed) (is, last) = (
+    out ++ refusal_line r,
+    subst (λ (a : Answer). AnswersSo disks says_sync a old new (out ++ refusal_line r)) (sym is) (out, stopped, refl),
+    appends_then before mid after out (refusal_line r) printed last,
+  )
+  stops old new before mid after r (Err e) stopped last = tt
 
   -- all is printed
   pub synced : {W : Type 0} (contents : W → Option (List ℕ)) (old ended staged new : View D) (before : Option (List ℕ)) (c0 c1 : W) (after : Option (List ℕ)) (reply : Reply) (planned : List (List Element)) (chain : List Element) (n m : ℕ)

@@ -61,7 +61,11 @@ module _ {D : Type 0} (disks : PageDisk D) (can_crash : D → Type 0) (volatile_
   abbrev pub Crashes : List Bool → (old new : View D) → List ℕ → Type 0
   Crashes mask old new out = Reopens mask old new × (out ≡ crash_line (kept_count mask) (length mask) ++ open_line new.found.0 new.found.1)
 
+  -- the disk crashes, and the store that is left isn't opened for this reason: that is printed
+  abbrev pub CrashesUnder : Said → View D → Refusal → List ℕ → Type 0
+  CrashesUnder said old r out = (mask : List Bool) × IsCrash can_crash volatile_count said old mask × IsNotReopened mask old r
+      × (out ≡ crash_line (kept_count mask) (length mask) ++ refusal_line r)
+
   -- the disk crashes, and the store that is left isn't opened: that is printed
   abbrev pub CrashesForGood : Said → View D → List ℕ → Type 0
-  CrashesForGood said old out = (mask : List Bool) × IsCrash can_crash volatile_count said old mask × (r : Refusal) × IsNotReopened mask old r
-      × (out ≡ crash_line (kept_count mask) (length mask) ++ refusal_line r)
+  CrashesForGood said old out = (r : Refusal) × CrashesUnder said old r out

@@ -1,8 +1,11 @@
+pub mod BadLines
 pub mod Checks
 pub mod Crashes
+pub mod Ends
 pub mod Lines
 pub mod Outputs
 pub mod RaceNumbers
 pub mod Scripts
 pub mod Stops
 pub mod Stores
+pub mod Watched

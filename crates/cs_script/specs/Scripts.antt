@@ -20,6 +20,8 @@ use Rattle.cs_drive.specs.Rounds.{Finishes, StopsFirst, rounds_of, step_event}
 use Rattle.cs_drive.specs.Sweeps.{IsSweepRefused, Sweeps}
 use Rattle.cs_drive.specs.Syncs.{IsStageDone, StopsLater, Syncs}
 use Rattle.cs_script.specs.Crashes.{Crashes, CrashesForGood, IsCrash}
+use Rattle.cs_script.specs.declared.answers.Answer.{Answer}
+use Rattle.cs_script.specs.declared.answers.Answer.TheVariants.{Given, Bad, Refused}
 use Rattle.cs_script.specs.Lines.{Said, says_put, says_get, says_delete, says_sweep, says_sync, says_step, says_plan, says_document, says_crash, says_nothing, unreadable, said_of}
 use Rattle.cs_script.specs.Outputs.{absent_line, acknowledged_line, bad_line, begin_line, chain_line, delete_line, end_line, end_lines, flushes_line, idle_line, issue_line, letters, line_of, plan_lines, put_line, refusal_line, round_lines, swept_line, value_line}
 
@@ -34,10 +36,6 @@ step_line (Ended frontier) out = out ≡ end_line frontier
 step_line (Begun round) out = out ≡ begin_line round
 step_line Nothing out = out ≡ idle_line
 step_line reply out = ⊥
-
--- the line of a refusal of which this holds
-abbrev pub IsRefusalOf : (Refusal → Type 0) → List ℕ → Type 0
-IsRefusalOf P out = (r : Refusal) × P r × (out ≡ refusal_line r)
 
 -- a letter for each family
 abbrev pub document_letters : Pending → List ℕ
@@ -57,8 +55,8 @@ IsDocumentRefused s r = ((s.out ≢ None) × (r ≡ refusal.InFlight)) ⊎ (r �
 
 module _ {D : Type 0} (disks : PageDisk D) where
   -- the event is refused, and that is printed
-  abbrev pub Declines : View D → Event → View D → List ℕ → Type 0
-  Declines old event new out = IsRefusalOf (λ r. IsStopped disks old [] event r new) out
+  abbrev pub Declines : View D → Event → Refusal → View D → List ℕ → Type 0
+  Declines old event r new out = IsStopped disks old [] event r new × (out ≡ refusal_line r)
 
   -- the event is recorded with this reply, and this line is printed
   abbrev pub Answered : View D → Event → Reply → View D → (printed out : List ℕ) → Type 0
@@ -114,24 +112,51 @@ module _ {D : Type 0} (disks : PageDisk D) where
   abbrev pub Steps : View D → View D → List ℕ → Type 0
   Steps old new out = (reply : Reply) × Went disks old ((step_event old.store, reply) ∷ []) new × step_line reply out
 
-  -- what a line does to the core, and what it prints. A line `crash` stands here for one that isn't readable
-  abbrev pub Answers : Said → View D → View D → List ℕ → Type 0
-  Answers (says_put id bytes) old new out = ((n : ℕ) × Answered old (Put (record { 0 = id }) bytes) (Accepted n) new (put_line n) out)
-      ⊎ Declines old (Put (record { 0 = id }) bytes) new out
-  Answers (says_get id) old new out = ((bytes : List ℕ) × Answered old (Get (record { 0 = id })) (Found bytes) new (value_line bytes) out)
+  -- what a line that is readable and isn't refused does to the core, and what it prints
+  abbrev pub Does : Said → View D → View D → List ℕ → Type 0
+  Does (says_put id bytes) old new out = (n : ℕ) × Answered old (Put (record { 0 = id }) bytes) (Accepted n) new (put_line n) out
+  Does (says_get id) old new out = ((bytes : List ℕ) × Answered old (Get (record { 0 = id })) (Found bytes) new (value_line bytes) out)
       ⊎ Answered old (Get (record { 0 = id })) Absent new absent_line out
-      ⊎ Declines old (Get (record { 0 = id })) new out
-  Answers (says_delete id) old new out = ((n : ℕ) × Answered old (Delete (record { 0 = id })) (Accepted n) new (delete_line n) out)
+  Does (says_delete id) old new out = ((n : ℕ) × Answered old (Delete (record { 0 = id })) (Accepted n) new (delete_line n) out)
       ⊎ Answered old (Delete (record { 0 = id })) Absent new absent_line out
-      ⊎ Declines old (Delete (record { 0 = id })) new out
-  Answers (says_sweep extent) old new out = PrintsSweep extent old new out ⊎ IsRefusalOf (IsSweepRefused disks extent old new) out
-  Answers says_sync old new out = PrintsSync old new out ⊎ ((r : Refusal) × (before : List ℕ) × PrintsStop old new r before × (out ≡ before ++ refusal_line r))
-  Answers says_step old new out = Steps old new out ⊎ Declines old (step_event old.store) new out
-  Answers says_plan old new out = Plans old new out ⊎ IsRefusalOf (IsPlanRefused old new) out
-  Answers says_document old new out = (new ≡ old) × (Documents old.store out ⊎ IsRefusalOf (IsDocumentRefused old.store) out)
-  Answers says_nothing old new out = (new ≡ old) × (out ≡ [])
-  Answers (says_crash mask) old new out = (new ≡ old) × (out ≡ bad_line)
-  Answers unreadable old new out = (new ≡ old) × (out ≡ bad_line)
+  Does (says_sweep extent) old new out = PrintsSweep extent old new out
+  Does says_sync old new out = PrintsSync old new out
+  Does says_step old new out = Steps old new out
+  Does says_plan old new out = Plans old new out
+  Does says_document old new out = (new ≡ old) × Documents old.store out
+  Does says_nothing old new out = (new ≡ old) × (out ≡ [])
+  Does (says_crash mask) old new out = ⊥
+  Does unreadable old new out = ⊥
+
+  -- what a line does that is refused, and what it prints
+  abbrev pub IsDeclined : Said → Refusal → View D → View D → List ℕ → Type 0
+  IsDeclined (says_put id bytes) r old new out = Declines old (Put (record { 0 = id }) bytes) r new out
+  IsDeclined (says_get id) r old new out = Declines old (Get (record { 0 = id })) r new out
+  IsDeclined (says_delete id) r old new out = Declines old (Delete (record { 0 = id })) r new out
+  IsDeclined (says_sweep extent) r old new out = IsSweepRefused disks extent old new r × (out ≡ refusal_line r)
+  IsDeclined says_sync r old new out = (before : List ℕ) × PrintsStop old new r before × (out ≡ before ++ refusal_line r)
+  IsDeclined says_step r old new out = Declines old (step_event old.store) r new out
+  IsDeclined says_plan r old new out = IsPlanRefused old new r × (out ≡ refusal_line r)
+  IsDeclined says_document r old new out = (new ≡ old) × IsDocumentRefused old.store r × (out ≡ refusal_line r)
+  IsDeclined says_nothing r old new out = ⊥
+  IsDeclined (says_crash mask) r old new out = ⊥
+  IsDeclined unreadable r old new out = ⊥
+
+  -- nothing is done, and it is printed that the line isn't readable
+  abbrev pub IsBad : Said → View D → View D → List ℕ → Type 0
+  IsBad (says_crash mask) old new out = (new ≡ old) × (out ≡ bad_line)
+  IsBad unreadable old new out = (new ≡ old) × (out ≡ bad_line)
+  IsBad said old new out = ⊥
+
+  -- what a line does to the core that is answered so, and what it prints. A line `crash` stands here for one that isn't readable
+  abbrev pub AnswersSo : Said → Answer → View D → View D → List ℕ → Type 0
+  AnswersSo said Given old new out = Does said old new out
+  AnswersSo said Bad old new out = IsBad said old new out
+  AnswersSo said (Refused r) old new out = IsDeclined said r old new out
+
+  -- what a line does to the core, and what it prints
+  abbrev pub Answers : Said → View D → View D → List ℕ → Type 0
+  Answers said old new out = (answer : Answer) × AnswersSo said answer old new out
 
 -- what a line says to a disk of which it is told whether it can crash: where it can't, a line `step` isn't readable
 abbrev pub said_to : (can_crash : Bool) → Said → Said

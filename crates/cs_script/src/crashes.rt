@@ -1,16 +1,16 @@
 //! The line `crash`. Where the writer fails, the script ends.
-ghost use Rattle.std.specs.Prelude.{◌≡◌, ◌⊎◌, ℕ, Bool, List, None, IfErr, IfOk, MatchOption, OnOk, length};
+ghost use Rattle.std.specs.Prelude.{◌≡◌, ℕ, Bool, List, IfErr, IfOk, MatchOption, OnOk, length};
 ghost use Rattle.std.specs.Io.KnownBytes.{Appends};
-ghost use Rattle.cs_script.specs.Crashes.{Crashes, CrashesForGood, IsCrash, IsCrashed, IsNotReopened, Reopens, kept_count};
+ghost use Rattle.cs_script.specs.Crashes.{Crashes, IsCrash, IsCrashed, IsNotReopened, Reopens, kept_count};
+ghost use Rattle.cs_script.specs.Ends.{IsEnd};
 ghost use Rattle.cs_script.specs.Lines.{said_by, says_crash};
 ghost use Rattle.cs_script.specs.Outputs.{open_line};
 
 use crate::lines::Line;
-use crate::outputs::{print_crash, print_no_store, print_open};
-use crate::scripts::Ran;
+use crate::outputs::{print_crash, print_last, print_open};
 use cs_core::{Core, Limits};
 use cs_deps::Refusal;
-use cs_disk::CrashDisk;
+use cs_disk::{CrashDisk, PageDisk};
 use std::alloc::Global;
 use std::io;
 use std::io::Write;
@@ -38,41 +38,41 @@ fn fitting<'a, D: CrashDisk>(disk: &D, mask: &'a [bool]) -> Option<&'a [bool]>
     }
 }
 
-/// Crashes the disk, opens the store that is left, and prints what was kept and what was found. It gives the core and the
-/// status with which the script goes on, or what it left behind.
+/// How a line ends a script.
+#[derive(Drop)]
+pub enum End<D: PageDisk> {
+    /// No store was opened after a crash, which is printed.
+    Unopened(Refusal),
+    /// The reader or the writer failed, or the line's text found no memory. What is left of the core, if one was opened.
+    Broken(Option<Core<D>>),
+}
+
+/// Crashes the disk, opens the store that is left, and prints what was kept and what was found. It gives the core with which the
+/// script goes on, or how it ends.
 pub fn crash<D: CrashDisk + Drop, W: Write>(
     alloc: Global,
     core: Core<D>,
     mask: &[bool],
-    status: u8,
     writer: &mut W,
-) -> Result<(Core<D>, u8), Ran<D>>
+) -> Result<Core<D>, End<D>>
     requires { IsCrash D.can_crash D.volatile_count (says_crash mask.now) core mask.now }
-    ensures on { IfOk result (λ on. (on.1 ≡ status) × ((out : List ℕ) × Crashes D.PageDisk D.can_crash D.volatile_count mask.now core on.0 out
-        × Appends (W.contents writer.old) (W.contents writer.new) out)) }
-    ensures ended { IfErr result (λ ran. ((ran.status ≡ 3) × (ran.core ≡ None)
-        × ((out : List ℕ) × CrashesForGood D.PageDisk D.can_crash D.volatile_count (says_crash mask.now) core out × Appends (W.contents writer.old) (W.contents writer.new) out))
-        ⊎ (ran.status ≡ 4)) }
+    ensures on { IfOk result (λ new. (out : List ℕ) × Crashes D.PageDisk D.can_crash D.volatile_count mask.now core new out
+        × Appends (W.contents writer.old) (W.contents writer.new) out) }
+    ensures ended { IfErr result (IsEnd D.PageDisk D.can_crash D.volatile_count (says_crash mask.now) core (W.contents writer.old) (W.contents writer.new)) }
 {
     match print_crash(writer, count_kept(mask), mask.len()) {
         Ok(()) => {}
-        Err(_) => return Err(Ran {
-            status: cs_status::STREAM,
-            core: Some(core),
-        }),
+        Err(_) => return Err(End::Broken(Some(core))),
     }
     match reopen(alloc, core, mask) {
         Ok(core) => match print_found(writer, &core) {
-            Ok(()) => Ok((core, status)),
-            Err(_) => Err(Ran {
-                status: cs_status::STREAM,
-                core: Some(core),
-            }),
+            Ok(()) => Ok(core),
+            Err(_) => Err(End::Broken(Some(core))),
         },
-        Err(refusal) => Err(Ran {
-            status: print_no_store(writer, refusal),
-            core: None,
-        }),
+        Err(refusal) => match print_last(writer, refusal) {
+            Ok(()) => Err(End::Unopened(refusal)),
+            Err(_) => Err(End::Broken(None)),
+        },
     }
 }
 

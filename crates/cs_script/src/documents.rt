@@ -1,12 +1,12 @@
 //! The line `document`. Where the writer fails, it ends with that error.
-ghost use Rattle.std.specs.Prelude.{ℕ, List, IfErr, IfOk, OnOk, string_bytes};
+ghost use Rattle.std.specs.Prelude.{ℕ, List, IfErr, IfOk, string_bytes};
 ghost use Rattle.std.specs.Io.KnownBytes.{Appends};
 ghost use Rattle.cs_script.specs.Lines.{says_document};
 ghost use Rattle.cs_script.specs.Outputs.{line_of};
-ghost use Rattle.cs_script.specs.Scripts.{Answers, Documents, IsDocumentRefused};
+ghost use Rattle.cs_script.specs.Scripts.{AnswersSo, Documents, IsDocumentRefused};
 
+use crate::answers::{Answer, given, print_refused};
 use crate::letters::letters_of;
-use crate::outputs::print_refusal;
 use crate::plans::plan_all;
 use cs_check::to_document;
 use cs_core::Core;
@@ -21,12 +21,12 @@ pub fn document<D: PageDisk, W: Write>(
     alloc: Global,
     core: &Core<D>,
     writer: &mut W,
-) -> io::Result<()>
-    ensures { OnOk result ((out : List ℕ) × Answers D.PageDisk says_document core.now core.now out × Appends (W.contents writer.old) (W.contents writer.new) out) }
+) -> io::Result<Answer>
+    ensures { IfOk result (λ answer. (out : List ℕ) × AnswersSo D.PageDisk says_document answer core.now core.now out × Appends (W.contents writer.old) (W.contents writer.new) out) }
 {
     match document_of(alloc, core) {
-        Ok(text) => writeln!(writer, "{text}"),
-        Err(refusal) => print_refusal(writer, refusal),
+        Ok(text) => given(writeln!(writer, "{text}")),
+        Err(refusal) => print_refused(writer, refusal),
     }
 }
 

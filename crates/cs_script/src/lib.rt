@@ -3,6 +3,8 @@
 //! crate of their own; here are the numbers that one is run with, so that what reads them needs no node.
 #![tactic(auto)]
 
+mod answers;
+mod bad_lines;
 mod bounded_readers;
 mod checks;
 mod crashes;
@@ -10,7 +12,6 @@ mod documents;
 mod laws;
 mod letters;
 mod lines;
-mod older_stores;
 mod outputs;
 mod plans;
 mod race_numbers;
@@ -19,13 +20,15 @@ mod steps;
 mod stores;
 mod sweeps;
 mod syncs;
+mod watchers;
 
+pub use bad_lines::{BadLine, first_word};
 pub use checks::run_check;
-pub use laws::a_sync_line_is_never_out_of_turn;
-pub use older_stores::{look_in_file, open_older_in_file};
-pub use outputs::{print_acknowledged, print_no_store, print_refusal};
-pub use race_numbers::Race;
-pub use scripts::{Ran, run_script};
-pub use stores::{new_in_file, new_in_memory, open_in_file, run_over};
 pub use cs_core as the_core;
 pub use cs_mount as mount;
+pub use laws::{a_sync_line_is_never_out_of_turn, a_watched_script_is_a_script};
+pub use outputs::{print_acknowledged, print_no_store, print_refusal};
+pub use race_numbers::Race;
+pub use scripts::{Ran, run_script, run_watched};
+pub use stores::{limits, new_in_memory, run_over, run_over_watched};
+pub use watchers::{LineFault, Onward, Unwatched, Watcher};

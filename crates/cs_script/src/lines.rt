@@ -79,7 +79,7 @@ fn is_silent(text: &[u8]) -> bool
 }
 
 /// The first word, and what follows it.
-fn take_word(text: &[u8]) -> Option<(&[u8], &[u8])>
+pub fn take_word(text: &[u8]) -> Option<(&[u8], &[u8])>
     ensures { MatchOption result (words text.now ≡ []) (λ r. words text.now ≡ r.0.now ∷ words r.1.now) }
 {
     let start = word_start(text)?;
@@ -224,7 +224,7 @@ fn read_one_id(rest: &[u8]) -> Option<[u8; 16]>
 }
 
 /// The identifier that a word stands for.
-fn read_id(word: &[u8]) -> Option<[u8; 16]>
+pub fn read_id(word: &[u8]) -> Option<[u8; 16]>
     ensures { result ≡ parsed word.now }
 {
     match Uuid::try_parse_ascii(word) {
@@ -278,7 +278,7 @@ fn read_mask(alloc: Global, word: &[u8]) -> Result<Option<Vec<bool>>, AllocError
 }
 
 /// Whether all bytes are binary digits.
-fn are_binary(word: &[u8]) -> bool
+pub fn are_binary(word: &[u8]) -> bool
     ensures { result ≡ list_all is_binary word.now }
 {
     word.iter().all(|byte| *byte == b'0' || *byte == b'1')

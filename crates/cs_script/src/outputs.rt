@@ -92,7 +92,7 @@ pub fn print_no_store<W: Write>(writer: &mut W, refusal: Refusal) -> u8
 }
 
 /// Prints a refusal as the last line. Where that doesn't reach the output, it ends with the writer's error.
-fn print_last<W: Write>(writer: &mut W, refusal: Refusal) -> io::Result<()>
+pub fn print_last<W: Write>(writer: &mut W, refusal: Refusal) -> io::Result<()>
     ensures { OnOk result (Appends (W.contents writer.old) (W.contents writer.new) (refusal_line refusal)) }
 {
     print_refusal(writer, refusal)?;

@@ -5,9 +5,10 @@ ghost use Rattle.cs_deps.specs.Staging.{IsKept};
 ghost use Rattle.cs_deps.specs.View.{rounds_of};
 ghost use Rattle.cs_script.specs.Lines.{says_plan};
 ghost use Rattle.cs_script.specs.Outputs.{plan_lines, round_lines};
-ghost use Rattle.cs_script.specs.Scripts.{Answers, IsBestOfAll, IsPlanRefused, Stages};
+ghost use Rattle.cs_script.specs.Scripts.{AnswersSo, IsBestOfAll, IsPlanRefused, Stages};
 
-use crate::outputs::{print_chain, print_flushes, print_refusal, print_round};
+use crate::answers::{Answer, given, print_refused};
+use crate::outputs::{print_chain, print_flushes, print_round};
 use cs_core::{Core, Event};
 use cs_deps::{Element, Plan, Refusal};
 use cs_disk::PageDisk;
@@ -17,12 +18,12 @@ use std::io::Write;
 
 /// Prints how all that was put would be made persistent: the rounds, the chain and the number of flushes. As a `sync` does,
 /// it stages the index's changes first; nothing is written back, and nothing is acknowledged.
-pub fn plan<D: PageDisk, W: Write>(core: &mut Core<D>, writer: &mut W) -> io::Result<()>
-    ensures { OnOk result ((out : List ℕ) × Answers D.PageDisk says_plan core.old core.new out × Appends (W.contents writer.old) (W.contents writer.new) out) }
+pub fn plan<D: PageDisk, W: Write>(core: &mut Core<D>, writer: &mut W) -> io::Result<Answer>
+    ensures { IfOk result (λ answer. (out : List ℕ) × AnswersSo D.PageDisk says_plan answer core.old core.new out × Appends (W.contents writer.old) (W.contents writer.new) out) }
 {
     match stage_and_plan(core) {
-        Ok(plan) => print_plan(writer, &plan),
-        Err(refusal) => print_refusal(writer, refusal),
+        Ok(plan) => given(print_plan(writer, &plan)),
+        Err(refusal) => print_refused(writer, refusal),
     }
 }
 

@@ -1,10 +1,11 @@
 //! The line `sweep`. Where the writer fails, it ends with that error.
-ghost use Rattle.std.specs.Prelude.{ℕ, List, OnOk};
+ghost use Rattle.std.specs.Prelude.{ℕ, List, IfOk};
 ghost use Rattle.std.specs.Io.KnownBytes.{Appends};
 ghost use Rattle.cs_script.specs.Lines.{says_sweep};
-ghost use Rattle.cs_script.specs.Scripts.{Answers};
+ghost use Rattle.cs_script.specs.Scripts.{AnswersSo};
 
-use crate::outputs::{print_refusal, print_swept};
+use crate::answers::{Answer, given, print_refused};
+use crate::outputs::print_swept;
 use cs_core::Core;
 use cs_disk::PageDisk;
 use cs_drive::sweep as sweep_extent;
@@ -17,11 +18,11 @@ pub fn sweep<D: PageDisk, W: Write>(
     core: &mut Core<D>,
     extent: usize,
     writer: &mut W,
-) -> io::Result<()>
-    ensures { OnOk result ((out : List ℕ) × Answers D.PageDisk (says_sweep extent) core.old core.new out × Appends (W.contents writer.old) (W.contents writer.new) out) }
+) -> io::Result<Answer>
+    ensures { IfOk result (λ answer. (out : List ℕ) × AnswersSo D.PageDisk (says_sweep extent) answer core.old core.new out × Appends (W.contents writer.old) (W.contents writer.new) out) }
 {
     match sweep_extent(core, extent) {
-        Ok(swept) => print_swept(writer, extent, swept),
-        Err(refusal) => print_refusal(writer, refusal),
+        Ok(swept) => given(print_swept(writer, extent, swept)),
+        Err(refusal) => print_refused(writer, refusal),
     }
 }

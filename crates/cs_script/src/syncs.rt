@@ -1,15 +1,14 @@
 //! The line `sync`. Where the writer fails, it ends with that error.
-ghost use Rattle.std.specs.Prelude.{◌++◌, ℕ, List, Option, IfErr, OnOk};
+ghost use Rattle.std.specs.Prelude.{◌++◌, ℕ, List, Option, IfErr, IfOk, OnOk};
 ghost use Rattle.std.specs.Io.KnownBytes.{Appends};
 ghost use Rattle.cs_drive.specs.Rounds.{Finishes};
 ghost use Rattle.cs_script.specs.Lines.{says_sync};
 ghost use Rattle.cs_script.specs.Outputs.{acknowledged_line, chain_line, end_lines, flushes_line, round_line};
-ghost use Rattle.cs_script.specs.Scripts.{Answers, PrintsSync};
+ghost use Rattle.cs_script.specs.Scripts.{AnswersSo, PrintsSync};
 ghost use Rattle.cs_script.specs.Stops.{StopsAfter, StopsAtFirst};
 
-use crate::outputs::{
-    print_acknowledged, print_chain, print_end, print_flushes, print_refusal, print_round,
-};
+use crate::answers::{Answer, print_refused};
+use crate::outputs::{print_acknowledged, print_chain, print_end, print_flushes, print_round};
 use crate::plans::plan_all;
 use cs_core::{Core, Event};
 use cs_deps::Element;
@@ -32,12 +31,12 @@ impl<W: Write> Observer<W> for Printed {
 }
 
 /// Makes all accepted commands persistent, and prints each round as it ends.
-pub fn sync<D: PageDisk, W: Write>(core: &mut Core<D>, writer: &mut W) -> io::Result<()>
-    ensures { OnOk result ((out : List ℕ) × Answers D.PageDisk says_sync core.old core.new out × Appends (W.contents writer.old) (W.contents writer.new) out) }
+pub fn sync<D: PageDisk, W: Write>(core: &mut Core<D>, writer: &mut W) -> io::Result<Answer>
+    ensures { IfOk result (λ answer. (out : List ℕ) × AnswersSo D.PageDisk says_sync answer core.old core.new out × Appends (W.contents writer.old) (W.contents writer.new) out) }
 {
     match write_back(core, writer) {
-        Ok(()) => Ok(()),
-        Err(Stop::Refused(refusal)) => print_refusal(writer, refusal),
+        Ok(()) => Ok(Answer::Given),
+        Err(Stop::Refused(refusal)) => print_refused(writer, refusal),
         Err(Stop::Untold(error)) => Err(error),
     }
 }

@@ -13,6 +13,7 @@ mod plans;
 mod puts;
 mod stops;
 mod streams;
+mod watchers;
 
 use cs_core::{Core, Limits};
 use cs_disk::{CrashDisk, MemoryDisk};

@@ -2,9 +2,11 @@
 use super::{printed, script_text};
 use cs_core::Core;
 use cs_deps::Refusal;
-use cs_disk::CrashDisk;
+use cs_disk::{CrashDisk, FileDisk, OpenFault};
 use cs_frame::Geometry;
-use cs_script::{new_in_file, open_in_file, run_over};
+use cs_mount::{Mounted, make_store, open_store};
+use cs_script::{limits, run_over};
+use std::alloc::Global;
 use std::fs::File;
 use std::process::Abort;
 use std::rt::Files;
@@ -36,13 +38,36 @@ fn make(rt: &(impl Abort + AllocGlobal + Files<File = File>), path: &str) -> Res
     Ok(())
 }
 
-/// The core of a store that was opened.
-fn core_of<D: CrashDisk + Drop, F: Drop>(
-    opened: Result<(Core<D>, F), Refusal>,
-) -> Result<Core<D>, Refusal> {
-    match opened {
+/// A new store in a file, which is made, or emptied where it is there.
+fn new_in_file<R: Files<File = File>>(
+    rt: &R,
+    alloc: Global,
+    path: &str,
+    geometry: Geometry,
+) -> Result<Core<Mounted<FileDisk>>, Refusal> {
+    let Ok(disk) = FileDisk::create(rt, alloc, path, geometry.device_pages()) else {
+        return Err(Refusal::DeviceFault);
+    };
+    match make_store(alloc, disk, geometry, limits()) {
+        Ok(core) => Ok(core),
+        Err((refusal, _)) => Err(refusal),
+    }
+}
+
+/// The store that is in a file.
+fn open_in_file<R: Files<File = File>>(
+    rt: &R,
+    alloc: Global,
+    path: &str,
+) -> Result<Core<Mounted<FileDisk>>, Refusal> {
+    let disk = match FileDisk::open(rt, alloc, path) {
+        Ok(disk) => disk,
+        Err(OpenFault::DeviceFault) => return Err(Refusal::DeviceFault),
+        Err(OpenFault::OddLength) => return Err(Refusal::OddLength),
+    };
+    match open_store(alloc, disk, limits()) {
         Ok((core, _)) => Ok(core),
-        Err(refusal) => Err(refusal),
+        Err((refusal, _)) => Err(refusal),
     }
 }
 
@@ -56,7 +81,7 @@ fn opens(
 ) -> Result<(), Fail> {
     let text = script_text(rt.alloc(), script)?;
     let wanted = printed(rt.alloc(), lines)?;
-    let store = core_of(open_in_file(rt, rt.alloc(), path));
+    let store = open_in_file(rt, rt.alloc(), path);
     prints_over(rt, store, &text, &wanted, status);
     Ok(())
 }

@@ -1,22 +1,21 @@
-use Rattle.std.proofs.Common.{[], ℕ, List, inl, inr, refl, subst}
-use Rattle.std.specs.Prelude.{OnOk}
+use Rattle.std.proofs.Common.{[], ℕ, List, inl, refl, subst}
+use Rattle.std.specs.Prelude.{IfOk}
 use Rattle.std.specs.Io.KnownBytes.{Appends}
 use Rattle.cs_core.specs.declared.events.Event.TheVariants.{Put}
 use Rattle.cs_deps.specs.declared.refusals.Refusal.TheVariants.{OutOfMemory}
 use Rattle.cs_script.specs.Lines.{says_put}
-use Rattle.cs_script.specs.Outputs.{refusal_line}
-use Rattle.cs_script.specs.Scripts.{Answers}
-use Rattle.cs_script.proofs.Appended.{prints}
+use Rattle.cs_script.specs.Scripts.{AnswersSo}
+use Rattle.cs_script.proofs.OneLine.{is_refused}
 use Rattle.cs_drive.proofs.Histories.{stays_same, stopped_unrecorded}
 use Rattle.cs_script.proofs.scripts.put.Goals as goal
 
 pub returns-in-Ok : goal.returns-in-Ok
 returns-in-Ok g c =
-    subst (λ (l : List ℕ). OnOk c.put_bytes.result ((out : List ℕ) × Answers g.D.PageDisk (says_put c.args.id l) c.args.core.now c.put_bytes.new.core out × Appends (g.W.Write.contents c.args.writer.now) (g.W.Write.contents c.put_bytes.new.writer) out))
+    subst (λ (l : List ℕ). IfOk c.put_bytes.result (λ answer. (out : List ℕ) × AnswersSo g.D.PageDisk (says_put c.args.id l) answer c.args.core.now c.put_bytes.new.core out × Appends (g.W.Write.contents c.args.writer.now) (g.W.Write.contents c.put_bytes.new.writer) out))
     c.in-Ok.ensures c.put_bytes.ensures
 
 pub returns-in-Err : goal.returns-in-Err
 returns-in-Err g c =
     let old = c.args.core.now in
-    prints c.print_refusal.result (g.W.Write.contents c.args.writer.now) (g.W.Write.contents c.print_refusal.new.writer) (refusal_line OutOfMemory) (Answers g.D.PageDisk (says_put c.args.id c.args.bytes.items) old old)
-    (inr (OutOfMemory, stopped_unrecorded g.D.PageDisk [] old old (Put (record { 0 = c.args.id }) c.args.bytes.items) OutOfMemory (stays_same g.D.PageDisk old) (inl refl), refl)) c.print_refusal.ensures
+    is_refused OutOfMemory c.print_refused.result (g.W.Write.contents c.args.writer.now) (g.W.Write.contents c.print_refused.new.writer) (λ answer. AnswersSo g.D.PageDisk (says_put c.args.id c.args.bytes.items) answer old old)
+    (stopped_unrecorded g.D.PageDisk [] old old (Put (record { 0 = c.args.id }) c.args.bytes.items) OutOfMemory (stays_same g.D.PageDisk old) (inl refl), refl) c.print_refused.ensures
