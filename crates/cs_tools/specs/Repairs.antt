@@ -1,8 +1,8 @@
 -- What is told of a repair that stops.
-use Rattle.std.specs.Prelude.{◌==◌, ◌&&◌, ℕ, Bool, List, ◌∷◌, ◌++◌, [], codes, decimal}
+use Rattle.std.specs.Prelude.{◌==◌, ◌&&◌, ℕ, Bool, List, ◌∷◌, ◌++◌, [], codes}
 use Rattle.cs_pair.specs.declared.findings.Finding.{Finding}
 use Rattle.cs_pair.specs.Findings.{is_halved}
-use Rattle.cs_tools.specs.Stats.{member}
+use Rattle.cs_tools.specs.Stats.{member, number_text}
 use Rattle.cs_tools.specs.declared.outputs.Style.{Style}
 use Rattle.cs_tools.specs.declared.outputs.Style.TheVariants.{Json, Text}
 
@@ -12,5 +12,5 @@ may_hide_root it = it.pair.page == 1 && is_halved it
 
 -- the line that names the last command that isn't lost
 abbrev pub lost_line : Style → (commands : ℕ) → List ℕ
-lost_line Text commands = codes "commands after " ++ decimal commands ++ codes " may be lost" ++ 10 ∷ []
-lost_line Json commands = 123 ∷ member (codes "lost_after") ++ decimal commands ++ 125 ∷ 10 ∷ []
+lost_line Text commands = number_text (codes "commands after ") commands ++ (codes " may be lost" ++ 10 ∷ [])
+lost_line Json commands = number_text (123 ∷ member (codes "lost_after")) commands ++ (125 ∷ 10 ∷ [])

@@ -5,10 +5,12 @@ ghost use Rattle.std.specs.List.{list_any};
 ghost use Rattle.cs_tools.specs.Repairs.{lost_line, may_hide_root};
 ghost use Rattle.cs_tools.specs.Stats.{BeginsWith};
 ghost use Rattle.cs_tools.specs.declared.outcomes.Outcome.TheVariants.{Failed, MayBeLost};
+ghost use Rattle.cs_tools.specs.declared.outputs.Style.TheVariants.{Json, Text};
 
 use crate::outcomes::Outcome;
 use crate::outputs::Style;
 use crate::pages::print_pages;
+use crate::stats::print_number;
 use cs_core::Core;
 use cs_disk::PageDisk;
 use cs_store::mount::Finding;
@@ -74,7 +76,23 @@ fn print_lost<W: Write>(writer: &mut W, commands: u64, style: Style) -> io::Resu
     ensures { OnOk result (Appends (W.contents writer.old) (W.contents writer.new) (lost_line style commands)) }
 {
     match style {
-        Style::Text => writeln!(writer, "commands after {commands} may be lost"),
-        Style::Json => writeln!(writer, "{{\"lost_after\":{commands}}}"),
+        Style::Text => print_lost_line(writer, commands),
+        Style::Json => print_lost_object(writer, commands),
     }
+}
+
+/// The line in words.
+fn print_lost_line<W: Write>(writer: &mut W, commands: u64) -> io::Result<()>
+    ensures { OnOk result (Appends (W.contents writer.old) (W.contents writer.new) (lost_line Text commands)) }
+{
+    print_number(writer, "commands after ", commands)?;
+    writeln!(writer, " may be lost")
+}
+
+/// The line as a JSON object.
+fn print_lost_object<W: Write>(writer: &mut W, commands: u64) -> io::Result<()>
+    ensures { OnOk result (Appends (W.contents writer.old) (W.contents writer.new) (lost_line Json commands)) }
+{
+    print_number(writer, "{\"lost_after\":", commands)?;
+    writeln!(writer, "}}")
 }

@@ -161,7 +161,7 @@ fn print_geometry<W: Write>(writer: &mut W, geometry: Geometry) -> io::Result<()
 }
 
 /// A number behind this.
-fn print_number<W: Write>(writer: &mut W, before: &str, number: u64) -> io::Result<()>
+pub fn print_number<W: Write>(writer: &mut W, before: &str, number: u64) -> io::Result<()>
     ensures { OnOk result (Appends (W.contents writer.old) (W.contents writer.new) (number_text before.now number)) }
 {
     write!(writer, "{before}{number}")

@@ -1,5 +1,5 @@
 use Rattle.cs_disk.specs.Disk.{seen}
-use Rattle.cs_tools.proofs.Salvaging.{all_stand, salvages}
+use Rattle.cs_tools.proofs.Salvaging.{all_stand, means_salvage, salvages}
 use Rattle.cs_tools.proofs.salvages.export_salvaged.Goals as goal
 
 pub returns-in-Ok-clause-script : goal.returns-in-Ok-clause-script
@@ -9,4 +9,10 @@ returns-in-Ok-clause-script g c honest is =
     let found = c.args.found.now in
     let image = seen (disks.state c.args.disk.now) in
     salvages image found (disks.failure_count c.args.disk.now) (disks.failure_count c.print_shards.new.disk) (contents c.args.writer.now) (contents c.print_shards.new.writer) c.in-Ok.whole c.outcome_of.result
-    (c.in-Ok.ensures.script honest (all_stand image found is)) (rw c.deref.ensures.value at c.outcome_of.ensures)
+    (c.in-Ok.ensures.script honest (all_stand image found is)) (rw c.deref-in-Ok.ensures.value at (rw c.deref.ensures.value at c.outcome_of.ensures))
+
+pub returns-in-Ok-clause-meant : goal.returns-in-Ok-clause-meant
+returns-in-Ok-clause-meant g c =
+    let contents = g.W.Write.contents in
+    means_salvage c.args.found.now (contents c.args.writer.now) (contents c.print_shards.new.writer) c.in-Ok.whole c.outcome_of.result c.in-Ok.ensures.meant
+    (rw c.deref-in-Ok.ensures.value at (rw c.deref.ensures.value at c.outcome_of.ensures))

@@ -1,6 +1,7 @@
 use Rattle.std.proofs.Common.{List, ℕ, refl, subst}
 use Rattle.std.specs.Prelude.{Err, Ok}
 use Rattle.std.specs.Io.KnownBytes.{Appends}
+use Rattle.cs_deps.specs.declared.refusals.Refusal.TheVariants.{Misplaced}
 use Rattle.cs_tools.specs.Exports.{put_line}
 use Rattle.cs_tools.proofs.Salvaging.{why_not}
 use Rattle.cs_tools.proofs.salvages.print_shard.Goals as goal
@@ -39,3 +40,6 @@ returns-in_ok-print_put-in-Ok-Some-clause-meant g c =
 
 pub returns-in_ok-print_remark-in-Err-clause-meant : goal.returns-in_ok-print_remark-in-Err-clause-meant
 returns-in_ok-print_remark-in-Err-clause-meant g c = ((c.args.shard.now.put.id, Err c.refusal_of_disk.result), refl, refl, c.in_ok-print_remark-in-Err.ensures)
+
+pub returns-in_ok-print_remark-in-Ok-None-clause-meant : goal.returns-in_ok-print_remark-in-Ok-None-clause-meant
+returns-in_ok-print_remark-in-Ok-None-clause-meant g c = ((c.args.shard.now.put.id, Err Misplaced), refl, refl, c.in_ok-print_remark-in-Ok-None.ensures)

@@ -4,4 +4,4 @@ use Rattle.cs_tools.proofs.stats.print_uses.Goals as goal
 pub loop-number-preserved : goal.loop-number-preserved
 loop-number-preserved g c =
     let contents = g.W.Write.contents in
-    goes_then (contents c.args.writer.now) (contents c.loop-number.writer) (contents c.print_use.new.writer) c.loop-number.invariant c.in_ok-print_use.ensures
+    goes_then (contents c.args.writer.now) (contents c.loop-number.writer) (contents c.print_use.new.writer) c.loop-number.invariant c.in_ok-printed.ensures

@@ -1,0 +1,10 @@
+use Rattle.cs_disk.proofs.OnlyRead.{reads_on}
+use Rattle.cs_tools.proofs.scans.greatest_command.Goals as goal
+
+pub returns-in-Ok-clause-disk : goal.returns-in-Ok-clause-disk
+returns-in-Ok-clause-disk g c =
+    reads_on g.D.PageDisk c.args.disk.now c.find_geometry.new.disk c.scan_commands.new.disk c.find_geometry.ensures.disk c.scan_commands.ensures.disk
+
+pub returns-in-Err-scan_commands-clause-disk : goal.returns-in-Err-scan_commands-clause-disk
+returns-in-Err-scan_commands-clause-disk g c =
+    reads_on g.D.PageDisk c.args.disk.now c.find_geometry.new.disk c.scan_commands.new.disk c.find_geometry.ensures.disk c.scan_commands.ensures.disk
