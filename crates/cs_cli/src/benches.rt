@@ -1,26 +1,31 @@
 //! The command `bench`: over a file that it makes and removes.
 ghost use Rattle.std.specs.Prelude.{◌≤◌};
 
+use crate::files::{OverFile, new_disk};
+use crate::manners::Manner;
+use crate::openings::Shown;
 use crate::progress::Told;
-use crate::tools::style_of;
 use clap::ArgMatches;
+use cs_deps::Refusal;
+use cs_disk::FileFault;
 use cs_frame::Geometry;
+use cs_mount::make_store;
 use cs_options::{Measure, geometry_of, measure_of};
-use cs_script::new_in_file;
-use cs_tools::{Load, Outcome, Style, bench, explain};
-use std::fs::{self, File};
-use std::io;
+use cs_script::limits;
+use cs_tools::{Known, Load, Outcome, bench, explain};
+use std::fs::File;
 use std::rt::Files;
 use std::time::Clock;
+use std::{fs, io};
 
 /// Measures over a new file, removes it, and gives the exit status.
 pub fn bench_in_file<R: AllocGlobal + Clock + Files<File = File> + Print + Eprint>(
     rt: &R,
     path: &str,
     options: &ArgMatches,
-    terminal: bool,
+    manner: Manner,
 ) -> u8
-    ensures { result ≤ 5 }
+    ensures { result ≤ 7 }
 {
     let Some(measure) = measure_of(options) else {
         let _ = eprintln!(rt;
@@ -34,46 +39,50 @@ pub fn bench_in_file<R: AllocGlobal + Clock + Files<File = File> + Print + Eprin
         );
         return cs_status::COMMAND_LINE;
     };
-    match fs::exists(rt, path) {
-        Ok(false) => {}
-        _ => {
+    match bench_new(rt, path, geometry, measure, manner) {
+        Ok((outcome, known)) => explain(rt, outcome, &known, manner.style),
+        Err(FileFault::NotEmpty) => {
             let _ = eprintln!(rt; "error: {path} is there already; name a file that isn't");
-            return cs_status::COMMAND_LINE;
+            cs_status::COMMAND_LINE
         }
+        Err(fault) => explain(rt, Outcome::of_file(fault), &Known::nothing(), manner.style),
     }
-    let style = style_of(options.get_flag("json"));
-    let outcome = bench_new(rt, path, geometry, measure, style, terminal);
-    let _ = fs::remove_file(rt, path);
-    explain(rt, outcome)
 }
 
-/// Measures over a new file.
+/// Measures over a new file, and removes it.
 fn bench_new<R: AllocGlobal + Clock + Files<File = File> + Print + Eprint>(
     rt: &R,
     path: &str,
     geometry: Geometry,
     measure: Measure,
-    style: Style,
-    terminal: bool,
-) -> Outcome {
+    manner: Manner,
+) -> Result<(Outcome, Known), FileFault> {
     let load = Load {
         calls: measure.calls,
         bytes: measure.bytes as usize,
         batch: measure.batch,
     };
-    match new_in_file(rt, rt.alloc(), path, geometry) {
+    let disk = new_disk(rt, path, geometry, 0o600)?;
+    let ended = match make_store(rt.alloc(), disk, geometry, limits()) {
         Ok(mut core) => {
-            let told = Told::new(rt, terminal);
-            bench(
+            let told = Told::new(rt, manner);
+            let mut writer = io::writer(rt);
+            let outcome = bench(
                 rt,
                 rt.alloc(),
                 &mut core,
                 load,
                 &told,
-                style,
-                &mut io::writer(rt),
+                manner.style,
+                &mut writer,
+            );
+            (
+                outcome,
+                Known::of_system(core.into_disk().into_below().fault()),
             )
         }
-        Err(refusal) => Outcome::NoStore(refusal),
-    }
+        Err((refusal, disk)) => (Outcome::NoStore(refusal), Known::of_system(disk.fault())),
+    };
+    let _ = fs::remove_file(rt, path);
+    Ok(ended)
 }

@@ -1,16 +1,37 @@
-//! The program: its command line, by which it runs a script, checks a plan document, or runs a race.
+//! The program: its command line, by which it makes a store in a file, does a command over one, runs a script, checks a plan document, or runs a race.
 #![tactic(auto)]
 
 mod benches;
 mod command_lines;
+mod copies;
+mod creates;
+mod descriptors;
+mod files;
+mod heads;
+mod inputs;
+mod kept_pages;
+mod lefts;
+mod manners;
+mod openings;
 mod progress;
+mod queries;
+mod repairs;
+mod runs;
 mod salvages;
+mod shards;
 mod tools;
+mod versions;
 mod warnings;
+mod watchers;
+mod words;
 
 use std::io::IsTerminal;
 use std::process::ExitCode;
 
 fn main(rt: HostRuntime) -> ExitCode {
-    ExitCode::from(command_lines::run(&rt, rt.stderr().is_terminal()))
+    // Before anything else is opened, and up to the program's end.
+    match descriptors::stand_in(&rt) {
+        Ok(_standing) => { ExitCode::from(command_lines::run(&rt, rt.stderr().is_terminal())) }
+        Err(_) => ExitCode::from(cs_status::STREAM),
+    }
 }

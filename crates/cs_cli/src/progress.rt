@@ -1,53 +1,97 @@
-//! What is told on standard error while something takes time.
+//! What is printed on standard error while something takes time.
 
+use crate::manners::Manner;
 use cs_tools::Progress;
+use std::time::{Clock, Instant};
 
-/// From how many pages on it may take a second and more to make a file: 64 MiB.
-const LARGE: u64 = 16_384;
+/// From how many pages on it may take a second and more to make a file: 64 MiB, less the extent that gives way to the superblock.
+const LARGE: u64 = 16_128;
 
 /// Whether it takes time to make a file of so many pages.
-pub fn takes_time(pages: u64) -> bool {
+fn takes_time(pages: u64) -> bool {
     pages >= LARGE
 }
 
-/// Tells that a file of so many pages of 4,096 bytes is being made.
-pub fn tell_making<R: Eprint>(rt: &R, path: &str, pages: u64) {
-    let _ = eprintln!(rt; "making {path}: {} MiB", pages / 256);
-}
-
-/// Tells that it was made, or couldn't be.
-pub fn tell_ended<R: Eprint>(rt: &R, path: &str, made: bool) {
-    if made {
-        let _ = eprintln!(rt; "made {path}");
-    } else {
-        let _ = eprintln!(rt; "{path} isn't made");
+/// Prints on a terminal that a file of so many pages of 4,096 bytes is being made, if that takes time.
+pub fn tell_making<R: Eprint>(rt: &R, path: &str, pages: u64, manner: Manner) {
+    if manner.terminal && takes_time(pages) {
+        let _ = eprintln!(rt; "making {path}: {} MiB", pages / 256);
     }
 }
 
-/// Whether it is told that so many are done, of so many in all: each of a few, else each thousandth, and the last.
+/// Prints on a terminal that it was made, or couldn't be.
+pub fn tell_ended<R: Eprint, T, E>(
+    rt: &R,
+    path: &str,
+    pages: u64,
+    manner: Manner,
+    made: &Result<T, E>,
+) {
+    if manner.terminal && takes_time(pages) {
+        let _ = if made.is_ok() {
+            eprintln!(rt; "made {path}")
+        } else {
+            eprintln!(rt; "{path} isn't made")
+        };
+    }
+}
+
+/// Whether it is printed that so many are done, of so many in all: each of a few, else each thousandth, and the last.
 fn is_told(done: usize, all: usize) -> bool {
     all < 10 || done % 1_000 == 0 || done == all
 }
 
-/// Tells on standard error how far a command has come, where that is a terminal.
+/// Prints on standard error how far a command has come, in percent and how many a second, if that is a terminal.
 #[derive_where(Clone, Copy)]
 pub struct Told<'a, R> {
     rt: &'a R,
     terminal: bool,
+    start: Option<Instant>,
 }
 
-impl<'a, R: Eprint> Told<'a, R> {
-    /// It is told whether standard error is a terminal.
-    pub fn new(rt: &'a R, terminal: bool) -> Self {
-        Told { rt, terminal }
+impl<'a, R: Clock + Eprint> Told<'a, R> {
+    /// From now on.
+    pub fn new(rt: &'a R, manner: Manner) -> Self {
+        Told {
+            rt,
+            terminal: manner.terminal,
+            start: Instant::now(rt).ok(),
+        }
+    }
+
+    /// How many were done a second, 0 where the clock fails.
+    fn rate(&self, done: usize) -> u64 {
+        let Some(start) = self.start else {
+            return 0;
+        };
+        match start.elapsed(self.rt) {
+            Ok(gone) => {
+                let rate = done as u128 * 1_000 / gone.as_millis().max(1);
+                u64::try_from(rate).unwrap_or(u64::MAX)
+            }
+            Err(_) => 0,
+        }
     }
 }
 
-impl<R: Eprint> Progress for Told<'_, R> {
+/// How many of a hundred so many are, of so many in all.
+fn percent(done: usize, all: usize) -> u128 {
+    if all == 0 {
+        100
+    } else {
+        done as u128 * 100 / all as u128
+    }
+}
+
+impl<R: Clock + Eprint> Progress for Told<'_, R> {
     fn tell(&self, done: usize, all: usize) {
         if self.terminal && is_told(done, all) {
             let rt = self.rt;
-            let _ = eprintln!(rt; "{done} of {all}");
+            let _ = eprintln!(rt;
+                "{done} of {all}, {} %, {} a second",
+                percent(done, all),
+                self.rate(done)
+            );
         }
     }
 }

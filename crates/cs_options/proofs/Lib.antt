@@ -1,2 +1,3 @@
+pub mod GeometrySteps
 pub mod IdSteps
 pub mod NumberSteps

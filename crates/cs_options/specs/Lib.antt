@@ -1,1 +1,5 @@
 pub mod Asked
+pub mod Files
+pub mod Sizes
+pub mod Sizings
+pub mod Wishes

@@ -1,16 +1,45 @@
 //! The command line, made of the table of its commands.
 
-use crate::forms::{Choice, FORMS, Form, Takes};
+use crate::examples::PROGRAM;
+use crate::forms::{Choice, Form, Takes};
+use crate::tables::{COPY_FORMS, OTHER_FORMS, SHARD_FORMS, WHOLE_FORMS};
 use clap::{Arg, ArgAction, Command};
 use std::alloc::{AllocError, Global};
 
 /// The command line that is understood.
 pub fn command<'a>(alloc: Global) -> Result<Command<'a>, AllocError> {
-    let forms = commands_of(alloc, FORMS)?;
+    let command = program(alloc).subcommands(shard_commands(alloc)?)?;
+    let command = command.subcommands(whole_commands(alloc)?)?;
+    let command = command.subcommands(copy_commands(alloc)?)?;
+    command.subcommands(other_commands(alloc)?)
+}
+
+/// The commands that make a store, and those over one shard.
+fn shard_commands<'a>(alloc: Global) -> Result<Vec<Command<'a>>, AllocError> {
+    commands_of(alloc, SHARD_FORMS)
+}
+
+/// The commands over the whole of a store.
+fn whole_commands<'a>(alloc: Global) -> Result<Vec<Command<'a>>, AllocError> {
+    commands_of(alloc, WHOLE_FORMS)
+}
+
+/// The commands that copy one.
+fn copy_commands<'a>(alloc: Global) -> Result<Vec<Command<'a>>, AllocError> {
+    commands_of(alloc, COPY_FORMS)
+}
+
+/// The commands that have a store of their own, or none.
+fn other_commands<'a>(alloc: Global) -> Result<Vec<Command<'a>>, AllocError> {
+    commands_of(alloc, OTHER_FORMS)
+}
+
+/// The program, without its commands, one of which is required.
+fn program<'a>(alloc: Global) -> Command<'a> {
     Command::new(alloc, "cs_cli")
-        .about("A shard store that writes back with the fewest flushes")
+        .about("A shard store in a file that loses nothing that it acknowledged")
+        .after_help(PROGRAM)
         .subcommand_required(true)
-        .subcommands(forms)
 }
 
 /// These commands.
@@ -37,7 +66,7 @@ fn named<'a>(alloc: Global, form: &Form) -> Command<'a> {
     }
 }
 
-/// These options.
+/// These words and options.
 fn options_of<'a>(alloc: Global, choices: &[Choice]) -> Result<Vec<Arg<'a>>, AllocError> {
     let mut options = Vec::new(alloc);
     for choice in choices {
@@ -46,14 +75,15 @@ fn options_of<'a>(alloc: Global, choices: &[Choice]) -> Result<Vec<Arg<'a>>, All
     Ok(options)
 }
 
-/// An option, or the identifier that stands alone.
+/// A word that stands by itself, or an option.
 fn option_of<'a>(alloc: Global, choice: &Choice) -> Arg<'a> {
     let argument = Arg::new(alloc, choice.name).help(choice.help);
     match choice.takes {
-        Takes::ItsId => argument
-            .value_name("ID")
+        Takes::Word(name) => argument
+            .value_name(name)
             .required(true)
             .action(ArgAction::Set),
+        Takes::WordOrNone(name) => argument.value_name(name).action(ArgAction::Set),
         takes => taking(argument.long(choice.name), takes),
     }
 }
@@ -68,12 +98,13 @@ fn taking<'a>(option: Arg<'a>, takes: Takes) -> Arg<'a> {
         Takes::NumberOrNone => option
             .action(ArgAction::Set)
             .value_parser(clap::value_parser!(u64)),
-        Takes::Path => option.value_name("PATH").action(ArgAction::Set),
-        Takes::Store => option
-            .value_name("PATH")
-            .required(true)
-            .action(ArgAction::Set),
-        Takes::Id => option.value_name("ID").action(ArgAction::Set),
-        Takes::Nothing | Takes::ItsId => option.action(ArgAction::SetTrue),
+        Takes::Text(name) => option.value_name(name).action(ArgAction::Set),
+        Takes::TextOr(name, default) => option
+            .value_name(name)
+            .action(ArgAction::Set)
+            .default_value(default),
+        Takes::Nothing | Takes::Word(_) | Takes::WordOrNone(_) => {
+            option.action(ArgAction::SetTrue)
+        }
     }
 }

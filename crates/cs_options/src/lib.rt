@@ -1,9 +1,20 @@
 //! The words that the command line understands, and what they ask for.
 #![tactic(auto)]
 
+mod choices;
 mod commands;
+mod examples;
+mod files;
 mod forms;
+mod geometries;
 mod options;
+mod sizes;
+mod sizings;
+mod tables;
 
 pub use commands::command;
-pub use options::{Listing, Measure, geometry_of, id_of, listing_of, measure_of, race_of};
+pub use files::{NoFile, file_of, mode_of, wait_of};
+pub use geometries::{TooSmall, Wish, geometry_for};
+pub use options::{Listing, Measure, from_of, geometry_of, id_of, listing_of, measure_of, race_of};
+pub use sizes::size_of;
+pub use sizings::{Sizing, exact_of, sizing_of, wish_of};

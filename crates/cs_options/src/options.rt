@@ -10,7 +10,7 @@ use cs_frame::{Geometry, ShardId};
 use cs_script::Race;
 
 /// The number of an option, None where it has none.
-fn number_given(options: &ArgMatches, name: &str) -> Option<u64>
+pub fn number_given(options: &ArgMatches, name: &str) -> Option<u64>
     ensures { result ≡ number_at options.now name.now }
 {
     options.get_one(name)
@@ -83,7 +83,7 @@ pub fn listing_of(options: &ArgMatches) -> Option<Listing>
     ensures most { IfSome result (λ listing. listing.most ≡ limit_asked options.now) }
     ensures json { IfSome result (λ listing. TellsFlag options.now (codes "json") listing.json) }
 {
-    let from = from_given(options)?;
+    let from = from_of(options)?;
     Some(Listing {
         from,
         most: number_given(options, "limit").unwrap_or(u64::MAX),
@@ -91,8 +91,8 @@ pub fn listing_of(options: &ArgMatches) -> Option<Listing>
     })
 }
 
-/// From which identifier on is to be listed: the first of all where none is given, None where the text is none.
-fn from_given(options: &ArgMatches) -> Option<ShardId>
+/// From which identifier on shards are asked for: the first of all where none is given, None where the text is none.
+pub fn from_of(options: &ArgMatches) -> Option<ShardId>
     ensures { option_map (λ id. id.0) result ≡ from_asked options.now }
 {
     match options.get_str("from") {

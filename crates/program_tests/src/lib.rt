@@ -4,6 +4,7 @@
 #![tactic(auto)]
 
 #[cfg(test)]
+mod geometries;
 mod nodes;
 #[cfg(test)]
 mod numbers;

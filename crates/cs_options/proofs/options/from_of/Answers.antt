@@ -3,7 +3,7 @@ use Rattle.std.specs.Prelude.{Option, option_map, replicate}
 use Rattle.cs_frame.specs.declared.identifiers.ShardId.{ShardId}
 use Rattle.cs_options.specs.Asked.{id_or}
 use Rattle.cs_options.proofs.IdSteps.{id_read}
-use Rattle.cs_options.proofs.options.from_given.Goals as goal
+use Rattle.cs_options.proofs.options.from_of.Goals as goal
 
 pub returns-in-Some : goal.returns-in-Some
 returns-in-Some c =

@@ -1,0 +1,249 @@
+//! The command `create`, and how it and `copy` choose a geometry.
+ghost use Rattle.std.specs.Prelude.{◌≤◌, IfErr};
+
+use crate::files::new_disk;
+use crate::manners::Manner;
+use crate::openings::Unopened;
+use crate::progress::{tell_ended, tell_making};
+use crate::warnings::explain_unopened;
+use clap::ArgMatches;
+use cs_deps::Refusal;
+use cs_frame::Geometry;
+use cs_mount::make_store;
+use cs_options::{Sizing, TooSmall, Wish, exact_of, geometry_for, mode_of, sizing_of, wish_of};
+use cs_script::limits;
+use cs_tools::{Known, Outcome, Style, explain, warn};
+use std::fs::File;
+use std::io::Write;
+use std::rt::Files;
+use std::{fs, io};
+
+/// A new file: its path, the geometry of the store in it, and its permissions.
+#[derive(Clone, Copy)]
+pub struct Plot<'a> {
+    pub path: &'a str,
+    pub geometry: Geometry,
+    pub mode: u32,
+}
+
+/// Makes a new store in a file, and gives the exit status.
+pub fn create_in_file<R: AllocGlobal + Files<File = File> + Print + Eprint>(
+    rt: &R,
+    path: &str,
+    options: &ArgMatches,
+    manner: Manner,
+) -> u8
+    ensures { result ≤ 7 }
+{
+    let geometry = match geometry_asked(rt, options, manner) {
+        Ok(Some(geometry)) => geometry,
+        Ok(None) => return cs_status::COMMAND_LINE,
+        Err(status) => return status,
+    };
+    let Some(mode) = mode_given(rt, options) else {
+        return cs_status::COMMAND_LINE;
+    };
+    let plot = Plot {
+        path,
+        geometry,
+        mode,
+    };
+    match make(rt, plot, manner) {
+        Ok(()) => tell_created(rt, plot, manner),
+        Err(unopened) => explain_unopened(rt, &unopened, manner.style),
+    }
+}
+
+/// The permissions that are asked for; if there are none, that is reported.
+pub fn mode_given<R: Eprint>(rt: &R, options: &ArgMatches) -> Option<u32> {
+    let mode = mode_of(options);
+    if mode.is_none() {
+        let _ = eprintln!(rt; "error: --mode is an octal number of at most 0777, as 0640");
+    }
+    mode
+}
+
+/// The geometry that the options ask for, 64 MiB for shards of 1 MiB if they ask for nothing; or the exit status if there is none.
+fn geometry_asked<R: Eprint>(
+    rt: &R,
+    options: &ArgMatches,
+    manner: Manner,
+) -> Result<Option<Geometry>, u8>
+    ensures { IfErr result (λ status. status ≤ 7) }
+{
+    match sizing_of(options) {
+        Sizing::Unsaid => fitting(rt, options, manner),
+        _ => geometry_said(rt, options, manner),
+    }
+}
+
+/// The geometry that the options ask for, none if they ask for nothing; or the exit status if they ask for one that there isn't.
+pub fn geometry_said<R: Eprint>(
+    rt: &R,
+    options: &ArgMatches,
+    manner: Manner,
+) -> Result<Option<Geometry>, u8>
+    ensures { IfErr result (λ status. status ≤ 7) }
+{
+    match sizing_of(options) {
+        Sizing::Unsaid => Ok(None),
+        Sizing::Sizes => fitting(rt, options, manner),
+        Sizing::Numbers => match exact_of(options) {
+            Ok(geometry) => Ok(Some(geometry)),
+            Err(refusal) => Err(explain(
+                rt,
+                Outcome::Refused(refusal),
+                &Known::nothing(),
+                manner.style,
+            )),
+        },
+        Sizing::Both => {
+            let _ = eprintln!(rt;
+                "error: --size, --shard-size and --shards choose a geometry, and --extents, --pages and --sections are one: give either"
+            );
+            Err(cs_status::COMMAND_LINE)
+        }
+    }
+}
+
+/// The geometry that suits the sizes that the options give, or the exit status if none does.
+fn fitting<R: Eprint>(rt: &R, options: &ArgMatches, manner: Manner) -> Result<Option<Geometry>, u8>
+    ensures { IfErr result (λ status. status ≤ 7) }
+{
+    let Some(wish) = wish_of(options) else {
+        let _ = eprintln!(rt;
+            "error: a size is a number of bytes, or of K, M, G or T, each 1,024 of the one before: 64M"
+        );
+        return Err(cs_status::COMMAND_LINE);
+    };
+    match geometry_for(wish) {
+        Ok(geometry) => Ok(Some(geometry)),
+        Err(small) => Err(tell_too_small(rt, wish, small, manner)),
+    }
+}
+
+/// Reports that no geometry suits, and what size would be enough, and gives the exit status.
+fn tell_too_small<R: Eprint>(rt: &R, wish: Wish, small: TooSmall, manner: Manner) -> u8
+    ensures { result ≤ 7 }
+{
+    let number = Refusal::BadGeometry.number();
+    let name = Refusal::BadGeometry.name();
+    let Wish {
+        size,
+        shard_size,
+        shards,
+    } = wish;
+    let _ = match (small.least, manner.style) {
+        (Some(least), Style::Text) => eprintln!(rt;
+            "refused {number} {name}: {size} bytes are too few for shards of {shard_size} bytes and {shards} identifiers\n--size {least} is the least that is enough."
+        ),
+        (None, Style::Text) => eprintln!(rt;
+            "refused {number} {name}: no store is for shards of {shard_size} bytes and {shards} identifiers\nCut the shards into smaller ones, or use several stores."
+        ),
+        (Some(least), Style::Json) => eprintln!(rt;
+            "{{\"refused\":{number},\"name\":\"{name}\",\"text\":\"{size} bytes are too few for shards of {shard_size} bytes and {shards} identifiers\",\"advice\":\"--size {least} is the least that is enough.\",\"least\":{least}}}"
+        ),
+        (None, Style::Json) => eprintln!(rt;
+            "{{\"refused\":{number},\"name\":\"{name}\",\"text\":\"no store is for shards of {shard_size} bytes and {shards} identifiers\",\"advice\":\"Cut the shards into smaller ones, or use several stores.\",\"least\":null}}"
+        ),
+    };
+    cs_status::REFUSED
+}
+
+/// Makes a new file with an empty store. Where that fails there is no file.
+fn make<R: AllocGlobal + Files<File = File> + Eprint>(
+    rt: &R,
+    plot: Plot,
+    manner: Manner,
+) -> Result<(), Unopened> {
+    let pages = plot.geometry.device_pages();
+    tell_making(rt, plot.path, pages, manner);
+    let made = make_store_in(rt, plot);
+    tell_ended(rt, plot.path, pages, manner, &made);
+    made
+}
+
+/// The same, without a word on it.
+fn make_store_in<R: AllocGlobal + Files<File = File>>(rt: &R, plot: Plot) -> Result<(), Unopened> {
+    let disk = match new_disk(rt, plot.path, plot.geometry, plot.mode) {
+        Ok(disk) => disk,
+        Err(fault) => return Err(Unopened::of_file(rt.alloc(), fault)),
+    };
+    match make_store(rt.alloc(), disk, plot.geometry, limits()) {
+        Ok(_) => Ok(()),
+        Err((refusal, disk)) => {
+            let mut disk = disk;
+            let unopened = Unopened::of_disk(rt.alloc(), refusal, &mut disk);
+            let _ = fs::remove_file(rt, plot.path);
+            Err(unopened)
+        }
+    }
+}
+
+/// Prints what was made, and that its format isn't the last one, and gives the exit status.
+fn tell_created<R: Print + Eprint>(rt: &R, plot: Plot, manner: Manner) -> u8
+    ensures { result ≤ 7 }
+{
+    let outcome = match print_created(plot, manner.style, &mut io::writer(rt)) {
+        Ok(()) => Outcome::Done,
+        Err(_) => Outcome::Failed,
+    };
+    warn_of_format(rt, manner.style);
+    explain(rt, outcome, &Known::nothing(), manner.style)
+}
+
+/// Notes that format 3 is replaced by a later one.
+pub fn warn_of_format<R: Eprint>(rt: &R, style: Style) {
+    match style {
+        Style::Text => {
+            let _ = eprintln!(rt;
+                "note: a later version replaces format 3; bring a store over by `export`"
+            );
+        }
+        Style::Json => warn(
+            rt,
+            "a later version replaces format 3; bring a store over by `export`",
+            style,
+        ),
+    }
+}
+
+/// How many extents hold the runs of the index at most.
+fn run_extents(extents: u64) -> u64 {
+    if extents >= 16 { 2 } else { 1 }
+}
+
+/// The bytes of the largest shard that a new store takes: 8 chunks, if there are extents enough beside those that puts leave.
+fn largest_shard(geometry: Geometry) -> u64 {
+    let extents = u64::from(geometry.extents());
+    let chunks = extents.saturating_sub(run_extents(extents) + 2).min(8);
+    chunks.saturating_mul(geometry.chunk_bytes() as u64)
+}
+
+/// What a word has at its end for so many things.
+pub fn plural_of(count: u8) -> &'static str {
+    if count == 1 { "" } else { "s" }
+}
+
+/// Prints what was made.
+fn print_created<W: Write>(plot: Plot, style: Style, writer: &mut W) -> io::Result<()> {
+    let Plot { path, geometry, .. } = plot;
+    let extents = geometry.extents();
+    let pages = geometry.pages();
+    let sections = geometry.sections();
+    let bytes = geometry.device_pages().saturating_mul(4096);
+    let largest = largest_shard(geometry);
+    let identifiers = geometry.most_weight() / 33;
+    let plural = plural_of(sections);
+    match style {
+        Style::Text => writeln!(
+            writer,
+            "created {path}: format 3, {extents} extents of {pages} pages, {sections} section{plural}: {bytes} bytes; shards up to {largest} bytes, up to {identifiers} identifiers of one chunk"
+        )?,
+        Style::Json => writeln!(
+            writer,
+            "{{\"created\":true,\"format\":3,\"extents\":{extents},\"pages\":{pages},\"sections\":{sections},\"bytes\":{bytes},\"shard_bytes\":{largest},\"identifiers\":{identifiers}}}"
+        )?,
+    }
+    writer.flush()
+}

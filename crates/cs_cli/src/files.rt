@@ -1,0 +1,113 @@
+//! Files as disks: the only place that names their type.
+
+use cs_deps::Refusal;
+use cs_disk::{Access, FileDisk, FileFault, PageDisk, ReadOnly, SystemFault};
+use cs_frame::Geometry;
+use std::alloc::Global;
+use std::fs::File;
+use std::rt::Files;
+use std::thread;
+use std::time::{Clock, Duration};
+
+/// A file of a store, what it is opened for, and for how many seconds at most it is waited for.
+#[derive(Clone, Copy)]
+pub struct Place<'a> {
+    pub path: &'a str,
+    pub access: Access,
+    pub wait: u64,
+}
+
+impl<'a> Place<'a> {
+    /// A file that is only read, and not waited for.
+    pub fn to_look(path: &'a str) -> Self {
+        Place {
+            path,
+            access: Access::Read,
+            wait: 0,
+        }
+    }
+}
+
+/// A disk over a file that is read and written.
+pub type Written = FileDisk;
+
+/// A disk over a file that is only read.
+pub type Read = ReadOnly<FileDisk>;
+
+/// A disk over a file.
+pub trait OverFile: PageDisk {
+    /// What the operating system said as it refused a call last.
+    fn fault(&self) -> Option<SystemFault>;
+}
+
+impl OverFile for FileDisk {
+    fn fault(&self) -> Option<SystemFault> {
+        self.last_fault()
+    }
+}
+
+impl OverFile for ReadOnly<FileDisk> {
+    fn fault(&self) -> Option<SystemFault> {
+        self.below().last_fault()
+    }
+}
+
+/// How often a second a file that is in use is tried again.
+const TRIES: u64 = 20;
+
+/// The file at a place. While another process has it open it is tried again, up to the end of the time.
+fn disk_at<R: AllocGlobal + Clock + Files<File = File>>(
+    rt: &R,
+    place: Place,
+) -> Result<FileDisk, FileFault> {
+    for _ in 0..place.wait.saturating_mul(TRIES) {
+        match FileDisk::open_for(rt, rt.alloc(), place.path, place.access) {
+            Err(FileFault::System(SystemFault::InUse)) => {
+                thread::sleep(rt, Duration::from_millis(1_000 / TRIES));
+            }
+            opened => return opened,
+        }
+    }
+    FileDisk::open_for(rt, rt.alloc(), place.path, place.access)
+}
+
+/// The file at a place, to be read and written as its access says. One that is opened for reading refuses each write itself.
+pub fn disk_to_write<R: AllocGlobal + Clock + Files<File = File>>(
+    rt: &R,
+    place: Place,
+) -> Result<Written, FileFault> {
+    disk_at(rt, place)
+}
+
+/// The file at a place, to be read alone.
+pub fn disk_to_read<R: AllocGlobal + Clock + Files<File = File>>(
+    rt: &R,
+    place: Place,
+) -> Result<Read, FileFault> {
+    match disk_at(rt, place) {
+        Ok(disk) => Ok(ReadOnly::new(disk)),
+        Err(fault) => Err(fault),
+    }
+}
+
+/// A new file with these permissions for a store of this geometry. One that is there with something in it stays as it is.
+pub fn new_disk<R: AllocGlobal + Files<File = File>>(
+    rt: &R,
+    path: &str,
+    geometry: Geometry,
+    mode: u32,
+) -> Result<Written, FileFault> {
+    FileDisk::create_new(rt, rt.alloc(), path, geometry.device_pages(), mode)
+}
+
+/// A file for a store of this geometry, in place of what is there. Refused 1 DeviceFault alone.
+pub fn emptied_disk<R: AllocGlobal + Files<File = File>>(
+    rt: &R,
+    path: &str,
+    geometry: Geometry,
+) -> Result<Written, Refusal> {
+    match FileDisk::create(rt, rt.alloc(), path, geometry.device_pages()) {
+        Ok(disk) => Ok(disk),
+        Err(_) => Err(Refusal::DeviceFault),
+    }
+}

@@ -1,0 +1,223 @@
+//! Stores over files as they are opened, and what is known where one isn't.
+
+use crate::files::OverFile;
+use crate::heads::scan;
+use cs_core::Core;
+use cs_deps::Refusal;
+use cs_disk::{FileFault, PageDisk, SystemFault};
+use cs_mount::{AsOf, Finding, Mounted, look, open_older_store, open_store};
+use cs_script::limits;
+use cs_tools::store::Store;
+use cs_tools::{Known, Outcome, Scanned, known_of, may_be_lost};
+use std::alloc::Global;
+use std::time::Clock;
+
+/// A disk that shows a store that lies on a disk below.
+pub trait Shown: PageDisk {
+    type Below: OverFile + Drop;
+
+    /// The store on the disk below, and what the pages hold that it has twice.
+    fn open_core(
+        alloc: Global,
+        disk: Self::Below,
+    ) -> Result<(Core<Self>, Vec<Finding>), (Refusal, Self::Below)>;
+
+    /// The same as a typed store.
+    fn open_typed(
+        alloc: Global,
+        disk: Self::Below,
+    ) -> Result<(Store<Self>, Vec<Finding>), (Refusal, Self::Below)>;
+
+    /// The disk below.
+    fn into_below(self) -> Self::Below;
+}
+
+impl<D: OverFile + Drop> Shown for Mounted<D> {
+    type Below = D;
+
+    fn open_core(alloc: Global, disk: D) -> Result<(Core<Mounted<D>>, Vec<Finding>), (Refusal, D)> {
+        open_store(alloc, disk, limits())
+    }
+
+    fn open_typed(
+        alloc: Global,
+        disk: D,
+    ) -> Result<(Store<Mounted<D>>, Vec<Finding>), (Refusal, D)> {
+        Store::open_mounted(alloc, disk, limits())
+    }
+
+    fn into_below(self) -> D {
+        self.into_disk()
+    }
+}
+
+impl<D: OverFile + Drop> Shown for AsOf<Mounted<D>> {
+    type Below = D;
+
+    fn open_core(
+        alloc: Global,
+        disk: D,
+    ) -> Result<(Core<AsOf<Mounted<D>>>, Vec<Finding>), (Refusal, D)> {
+        open_older_store(alloc, disk, limits())
+    }
+
+    fn open_typed(
+        alloc: Global,
+        disk: D,
+    ) -> Result<(Store<AsOf<Mounted<D>>>, Vec<Finding>), (Refusal, D)> {
+        let (core, findings) = open_older_store(alloc, disk, limits())?;
+        match Store::open(alloc, core.into_disk(), limits()) {
+            Ok(store) => Ok((store, findings)),
+            Err((refusal, older)) => Err((refusal, older.into_below())),
+        }
+    }
+
+    fn into_below(self) -> D {
+        self.into_disk().into_disk()
+    }
+}
+
+/// A store that was opened: its core, or the typed store.
+#[derive(Drop)]
+pub struct Opened<S> {
+    pub store: S,
+    /// What the pages hold that it has twice.
+    pub findings: Vec<Finding>,
+    /// What a scan found of the commands on the device, if the newest root may be the damaged one.
+    pub scanned: Option<Scanned>,
+}
+
+/// Why the store in a file wasn't opened, and what is known of the file.
+#[derive(Drop)]
+pub struct Unopened {
+    pub outcome: Outcome,
+    pub known: Known,
+    /// What the pages hold that the store has twice, as far as that can be read.
+    pub findings: Vec<Finding>,
+}
+
+impl Unopened {
+    /// The operating system refused the file, or it is none.
+    pub fn of_file(alloc: Global, fault: FileFault) -> Self {
+        Unopened {
+            outcome: Outcome::of_file(fault),
+            known: Known::nothing(),
+            findings: Vec::new(alloc),
+        }
+    }
+
+    /// It ended so, and the operating system said this.
+    pub fn of_outcome(alloc: Global, outcome: Outcome, system: Option<SystemFault>) -> Self {
+        Unopened {
+            outcome,
+            known: Known::of_system(system),
+            findings: Vec::new(alloc),
+        }
+    }
+
+    /// The same, with what the operating system said, if that isn't known yet.
+    pub fn with_fault(self, system: Option<SystemFault>) -> Self {
+        let Unopened {
+            outcome,
+            known,
+            findings,
+        } = self;
+        let Known {
+            content,
+            system: known,
+        } = known;
+        Unopened {
+            outcome,
+            known: Known {
+                content,
+                system: known.or(system),
+            },
+            findings,
+        }
+    }
+
+    /// What is on this disk is refused so.
+    pub fn of_disk<D: OverFile>(alloc: Global, refusal: Refusal, disk: &mut D) -> Self {
+        let system = disk.fault();
+        let content = known_of(alloc, disk).content;
+        Unopened {
+            outcome: Outcome::NoStore(refusal),
+            known: Known { content, system },
+            findings: look(alloc, disk).unwrap_or(Vec::new(alloc)),
+        }
+    }
+}
+
+/// Opens the store in a file. If the newest root may be the one that is damaged, the device is scanned first for the commands that are on it.
+pub fn open_core<E: Shown + Drop, R: AllocGlobal + Clock>(
+    rt: &R,
+    disk: Result<E::Below, FileFault>,
+) -> Result<Opened<Core<E>>, Unopened> {
+    let disk = match disk {
+        Ok(disk) => disk,
+        Err(fault) => return Err(Unopened::of_file(rt.alloc(), fault)),
+    };
+    let opened = core_on::<E>(rt.alloc(), disk, None)?;
+    if !may_be_lost(&opened.findings) {
+        return Ok(opened);
+    }
+    let mut disk = opened.store.into_disk().into_below();
+    let scanned = scan(rt, &mut disk);
+    core_on::<E>(rt.alloc(), disk, scanned)
+}
+
+/// The store on a disk, of which a scan found this.
+fn core_on<E: Shown + Drop>(
+    alloc: Global,
+    disk: E::Below,
+    scanned: Option<Scanned>,
+) -> Result<Opened<Core<E>>, Unopened> {
+    match E::open_core(alloc, disk) {
+        Ok((store, findings)) => Ok(Opened {
+            store,
+            findings,
+            scanned,
+        }),
+        Err((refusal, disk)) => {
+            let mut disk = disk;
+            Err(Unopened::of_disk(alloc, refusal, &mut disk))
+        }
+    }
+}
+
+/// Opens the store in a file as a typed store, as `open_core`.
+pub fn open_typed<E: Shown + Drop, R: AllocGlobal + Clock>(
+    rt: &R,
+    disk: Result<E::Below, FileFault>,
+) -> Result<Opened<Store<E>>, Unopened> {
+    let disk = match disk {
+        Ok(disk) => disk,
+        Err(fault) => return Err(Unopened::of_file(rt.alloc(), fault)),
+    };
+    let opened = typed_on::<E>(rt.alloc(), disk, None)?;
+    if !may_be_lost(&opened.findings) {
+        return Ok(opened);
+    }
+    let mut disk = opened.store.close().into_below();
+    let scanned = scan(rt, &mut disk);
+    typed_on::<E>(rt.alloc(), disk, scanned)
+}
+
+/// The typed store on a disk, of which a scan found this.
+fn typed_on<E: Shown + Drop>(
+    alloc: Global,
+    disk: E::Below,
+    scanned: Option<Scanned>,
+) -> Result<Opened<Store<E>>, Unopened> {
+    match E::open_typed(alloc, disk) {
+        Ok((store, findings)) => Ok(Opened {
+            store,
+            findings,
+            scanned,
+        }),
+        Err((refusal, disk)) => {
+            let mut disk = disk;
+            Err(Unopened::of_disk(alloc, refusal, &mut disk))
+        }
+    }
+}

@@ -1,0 +1,129 @@
+//! The commands over the whole of a store in a file: `list`, `stat`, `scrub`, `reclaim`, `export`.
+ghost use Rattle.std.specs.Prelude.{◌≤◌};
+
+use crate::files::{OverFile, Place, Read, Written, disk_to_read, disk_to_write};
+use crate::manners::Manner;
+use crate::openings::{Opened, Shown, Unopened, open_core};
+use crate::progress::Told;
+use crate::warnings::{explain_unopened, warn_of, warn_of_older};
+use clap::ArgMatches;
+use cs_core::Core;
+use cs_disk::PageDisk;
+use cs_frame::ShardId;
+use cs_mount::{AsOf, Finding, Mounted};
+use cs_options::{Listing, from_of, listing_of};
+use cs_tools::{Known, Outcome, Progress, Style, explain, export, list, reclaim, scrub, stat};
+use std::alloc::Global;
+use std::fs::File;
+use std::io;
+use std::io::{BufWriter, Write};
+use std::rt::Files;
+use std::time::Clock;
+
+/// What is asked of a store, or done with the whole of it.
+#[derive(Clone, Copy)]
+pub enum Query {
+    List(Listing),
+    Stat(Style),
+    Scrub(Style),
+    Reclaim(Style),
+    /// From this identifier on.
+    Export(ShardId),
+}
+
+/// What the command of this name asks of a store; none where a word is no identifier.
+pub fn query_of(name: &str, options: &ArgMatches, style: Style) -> Option<Query> {
+    match name {
+        "list" => listing_of(options).map(Query::List),
+        "export" => from_of(options).map(Query::Export),
+        "stat" => Some(Query::Stat(style)),
+        "scrub" => Some(Query::Scrub(style)),
+        _ => Some(Query::Reclaim(style)),
+    }
+}
+
+/// Asks the store in a file, or does what is asked with it, and gives the exit status.
+pub fn ask_file<R: AllocGlobal + Clock + Files<File = File> + Print + Eprint>(
+    rt: &R,
+    place: Place,
+    older: bool,
+    query: Query,
+    manner: Manner,
+) -> u8
+    ensures { result ≤ 7 }
+{
+    let Ok(mut writer) = BufWriter::new(rt.alloc(), io::writer(rt)) else {
+        return explain(rt, Outcome::Failed, &Known::nothing(), manner.style);
+    };
+    if let Query::Reclaim(_) = query {
+        let opened = open_core::<Mounted<Written>, R>(rt, disk_to_write(rt, place));
+        return ask_opened(rt, opened, query, manner, &mut writer);
+    }
+    if older {
+        let opened = open_core::<AsOf<Mounted<Read>>, R>(rt, disk_to_read(rt, place));
+        if opened.is_ok() {
+            warn_of_older(rt, manner.style);
+        }
+        return ask_opened(rt, opened, query, manner, &mut writer);
+    }
+    let opened = open_core::<Mounted<Read>, R>(rt, disk_to_read(rt, place));
+    ask_opened(rt, opened, query, manner, &mut writer)
+}
+
+/// Asks the store that was opened, if it was, and gives the exit status.
+fn ask_opened<E: Shown + Drop, R: AllocGlobal + Clock + Eprint, W: Write>(
+    rt: &R,
+    opened: Result<Opened<Core<E>>, Unopened>,
+    query: Query,
+    manner: Manner,
+    writer: &mut W,
+) -> u8
+    ensures { result ≤ 7 }
+{
+    let opened = match opened {
+        Ok(opened) => opened,
+        Err(unopened) => return explain_unopened(rt, &unopened, manner.style),
+    };
+    let (commands, _) = opened.store.opened();
+    warn_of(rt, &opened, commands, manner.style);
+    let Opened {
+        store,
+        findings,
+        ..
+    } = opened;
+    let mut core = store;
+    let told = Told::new(rt, manner);
+    let outcome = ask(rt.alloc(), &mut core, &findings, query, &told, writer);
+    let known = Known::of_system(core.into_disk().into_below().fault());
+    explain(rt, outcome, &known, manner.style)
+}
+
+/// Asks a store of whose pages this was found.
+fn ask<D: PageDisk, P: Progress, W: Write>(
+    alloc: Global,
+    core: &mut Core<D>,
+    findings: &[Finding],
+    query: Query,
+    progress: &P,
+    writer: &mut W,
+) -> Outcome {
+    match query {
+        Query::List(listing) => list_of(alloc, core, listing, writer),
+        Query::Stat(style) => stat(alloc, core, style, writer),
+        Query::Scrub(style) => scrub(alloc, core, findings, false, progress, style, writer),
+        Query::Reclaim(style) => reclaim(alloc, core, style, writer),
+        Query::Export(from) => export(alloc, core, from, progress, writer),
+    }
+}
+
+/// Lists shards.
+fn list_of<D: PageDisk, W: Write>(
+    alloc: Global,
+    core: &Core<D>,
+    listing: Listing,
+    writer: &mut W,
+) -> Outcome {
+    let Listing { from, most, json } = listing;
+    let style = if json { Style::Json } else { Style::Text };
+    list(alloc, core, from, most as usize, style, writer)
+}

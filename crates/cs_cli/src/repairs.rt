@@ -1,0 +1,152 @@
+//! The command `scrub --repair`.
+ghost use Rattle.std.specs.Prelude.{◌≤◌};
+
+use crate::files::{OverFile, Place, Written, disk_to_write};
+use crate::kept_pages::keep_pages;
+use crate::manners::Manner;
+use crate::openings::{Opened, Shown, Unopened, open_core};
+use crate::progress::Told;
+use crate::warnings::{explain_unopened, warn_of};
+use cs_core::Core;
+use cs_deps::Refusal;
+use cs_mount::{Finding, Mounted, mend};
+use cs_script::limits;
+use cs_tools::{Known, Outcome, explain, may_be_lost, scrub, stop_repair};
+use std::fs::File;
+use std::io;
+use std::io::BufWriter;
+use std::rt::Files;
+use std::time::Clock;
+
+/// Whether a repair goes on by which commands may be lost for good.
+#[derive(Clone, Copy, PartialEq, Eq)]
+pub enum Loss {
+    Stops,
+    Accepted,
+}
+
+/// What is scrubbed: a store of whose pages this was found before they were written anew.
+type Mended = (Core<Mounted<Written>>, Vec<Finding>);
+
+/// Writes the damaged pages of the superblock and of the root anew from their other copies, scrubs the store in a file, and gives the exit status.
+pub fn repair_file<R: AllocGlobal + Clock + Files<File = File> + Print + Eprint>(
+    rt: &R,
+    place: Place,
+    loss: Loss,
+    manner: Manner,
+) -> u8
+    ensures { result ≤ 7 }
+{
+    let opened = match open_core::<Mounted<Written>, R>(rt, disk_to_write(rt, place)) {
+        Ok(opened) => opened,
+        Err(unopened) => return explain_unopened(rt, &unopened, manner.style),
+    };
+    let (commands, _) = opened.store.opened();
+    warn_of(rt, &opened, commands, manner.style);
+    if loss == Loss::Stops && may_be_lost(&opened.findings) {
+        let outcome = stop(rt, &opened, manner);
+        return explain(rt, outcome, &Known::nothing(), manner.style);
+    }
+    match mended(rt, place, opened, loss, manner) {
+        Ok(mended) => scrub_mended(rt, mended, manner),
+        Err(unopened) => explain_unopened(rt, &unopened, manner.style),
+    }
+}
+
+/// Prints that a repair could make a loss final, and stops.
+fn stop<R: AllocGlobal + Print>(
+    rt: &R,
+    opened: &Opened<Core<Mounted<Written>>>,
+    manner: Manner,
+) -> Outcome {
+    match BufWriter::new(rt.alloc(), io::writer(rt)) {
+        Ok(mut writer) => stop_repair(&opened.store, &opened.findings, manner.style, &mut writer),
+        Err(_) => Outcome::Failed,
+    }
+}
+
+/// The store of which each damaged page that has a whole other copy was written anew; where a loss is accepted, after it was kept beside the store.
+fn mended<R: AllocGlobal + Files<File = File> + Eprint>(
+    rt: &R,
+    place: Place,
+    opened: Opened<Core<Mounted<Written>>>,
+    loss: Loss,
+    manner: Manner,
+) -> Result<Mended, Unopened> {
+    let Opened {
+        store,
+        findings,
+        ..
+    } = opened;
+    let core = match loss {
+        Loss::Stops => store,
+        Loss::Accepted => kept(rt, place, store, &findings, manner)?,
+    };
+    match mend(core) {
+        Ok(disk) => reopened(rt, Core::open(rt.alloc(), disk, limits()), findings),
+        Err(refused) => reopened(rt, Err(refused), findings),
+    }
+}
+
+/// The store, after each of its damaged pages was kept.
+fn kept<R: AllocGlobal + Files<File = File> + Eprint>(
+    rt: &R,
+    place: Place,
+    core: Core<Mounted<Written>>,
+    findings: &[Finding],
+    manner: Manner,
+) -> Result<Core<Mounted<Written>>, Unopened> {
+    let mut disk = core.into_disk().into_below();
+    if !keep_pages(rt, place.path, &mut disk, findings, manner.style) {
+        return Err(Unopened::of_outcome(rt.alloc(), Outcome::MayBeLost, disk.fault()));
+    }
+    match Mounted::<Written>::open_core(rt.alloc(), disk) {
+        Ok((core, _)) => Ok(core),
+        Err((refusal, disk)) => {
+            let mut disk = disk;
+            Err(Unopened::of_disk(rt.alloc(), refusal, &mut disk))
+        }
+    }
+}
+
+/// The store that was opened again, with what was found before.
+fn reopened<R: AllocGlobal>(
+    rt: &R,
+    core: Result<Core<Mounted<Written>>, (Refusal, Mounted<Written>)>,
+    findings: Vec<Finding>,
+) -> Result<Mended, Unopened> {
+    match core {
+        Ok(core) => Ok((core, findings)),
+        Err((refusal, disk)) => {
+            let mut disk = disk.into_below();
+            Err(Unopened::of_disk(rt.alloc(), refusal, &mut disk))
+        }
+    }
+}
+
+/// Scrubs a store whose damaged pages were written anew, and gives the exit status.
+fn scrub_mended<R: AllocGlobal + Clock + Print + Eprint>(
+    rt: &R,
+    mended: Mended,
+    manner: Manner,
+) -> u8
+    ensures { result ≤ 7 }
+{
+    let (core, findings) = mended;
+    let mut core = core;
+    let told = Told::new(rt, manner);
+    let outcome = match BufWriter::new(rt.alloc(), io::writer(rt)) {
+        Ok(mut writer) => scrub(
+            rt.alloc(),
+            &mut core,
+            &findings,
+            true,
+            &told,
+            manner.style,
+            &mut writer,
+        ),
+        Err(_) => Outcome::Failed,
+    };
+    let known = Known::of_system(core.into_disk().into_below().fault());
+    explain(rt, outcome, &known, manner.style)
+}

@@ -1,0 +1,37 @@
+//! What is printed on standard error of the lines of a script that are refused or can't be read.
+ghost use Rattle.std.specs.Prelude.{◌≡◌};
+
+use cs_script::{BadLine, LineFault, Onward, Watcher, first_word};
+use std::str;
+
+/// Prints each such line's number and what is wrong with it, and goes on, or ends the script.
+#[derive(Drop)]
+pub struct Reporter<'a, R> {
+    pub rt: &'a R,
+    pub onward: Onward,
+}
+
+impl<R: Eprint> Watcher for Reporter<'_, R> {
+    ghost meets = { λ before number text fault onward after. (onward ≡ before.onward) × (after ≡ before) };
+
+    fn met(&mut self, number: u64, text: &[u8], fault: LineFault) -> Onward {
+        tell(self.rt, number, text, fault);
+        self.onward
+    }
+}
+
+/// Prints the number of a line, and what is wrong with it.
+fn tell<R: Eprint>(rt: &R, number: u64, text: &[u8], fault: LineFault) {
+    let _ = match fault {
+        LineFault::Bad(BadLine::NoCommand) => {
+            let word = str::from_utf8(first_word(text)).unwrap_or("");
+            eprintln!(rt; "line {number}: bad line: no command `{word}`")
+        }
+        LineFault::Bad(bad) => eprintln!(rt; "line {number}: bad line: {bad}"),
+        LineFault::Refused(refusal) => {
+            let code = refusal.number();
+            let name = refusal.name();
+            eprintln!(rt; "line {number}: refused {code} {name}: {refusal}")
+        }
+    };
+}

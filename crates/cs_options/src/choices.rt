@@ -1,0 +1,136 @@
+//! The words and options that several commands have.
+
+use crate::forms::{Choice, Takes};
+
+/// The file of a store, as a word.
+pub const STORE: Choice = Choice {
+    name: "store",
+    takes: Takes::WordOrNone("FILE"),
+    help: "The file of the store [or --file FILE, or the environment's NUGGETLOCH_FILE]",
+};
+
+/// The same as an option.
+pub const FILE: Choice = Choice {
+    name: "file",
+    takes: Takes::Text("FILE"),
+    help: "The same, as an option",
+};
+
+/// The identifier of a shard.
+pub const ID: Choice = Choice {
+    name: "id",
+    takes: Takes::Word("ID"),
+    help: "The identifier, a UUID",
+};
+
+/// The identifier from which on shards are taken.
+pub const FROM: Choice = Choice {
+    name: "from",
+    takes: Takes::Text("ID"),
+    help: "Begins at this identifier [default: the first]",
+};
+
+/// How long to wait for a file that is in use.
+pub const WAIT: Choice = Choice {
+    name: "wait",
+    takes: Takes::Number("0"),
+    help: "Waits at most so many seconds while another process has the file open",
+};
+
+/// Reads without a lock.
+pub const NO_LOCK: Choice = Choice {
+    name: "no-lock",
+    takes: Takes::Nothing,
+    help: "Takes no lock, for file systems that have none; if another process writes, what is read may be wrong",
+};
+
+/// The option for lines that programs read.
+pub const JSON: Choice = Choice {
+    name: "json",
+    takes: Takes::Nothing,
+    help: "Prints JSON objects, one a line, also for refusals and warnings",
+};
+
+/// The option for a store of which a newer root was persistent than is whole.
+pub const AS_OF: Choice = Choice {
+    name: "as-of",
+    takes: Takes::Nothing,
+    help: "Opens the store as of its newest whole root if it is refused 27 RootLost; nothing is written",
+};
+
+/// The option for a store that is damaged.
+pub const SALVAGE: Choice = Choice {
+    name: "salvage",
+    takes: Takes::Nothing,
+    help: "Reads what can be read if a run of the index is damaged or a newer root is lost; nothing is written",
+};
+
+/// The same of an export, which asks no index.
+pub const SALVAGE_FRAMES: Choice = Choice {
+    name: "salvage",
+    takes: Takes::Nothing,
+    help: "Prints the newest whole shard of each identifier that the frames in the file have, whatever the index says",
+};
+
+/// The option for pages that aren't whole.
+pub const REPAIR: Choice = Choice {
+    name: "repair",
+    takes: Takes::Nothing,
+    help: "First writes each page of the superblock and of the root that is not whole anew from its other copy",
+};
+
+/// The option for a repair by which commands may be lost.
+pub const ACCEPT_LOSS: Choice = Choice {
+    name: "accept-loss",
+    takes: Takes::Nothing,
+    help: "Repairs also if the damaged page may be the newest root; each such page is kept as FILE.page-N",
+};
+
+/// The most that a new file may have.
+pub const SIZE: Choice = Choice {
+    name: "size",
+    takes: Takes::Text("SIZE"),
+    help: "The most that the file may have in all: a number of bytes, or of K, M, G or T [default: 64M]",
+};
+
+/// The largest shard that has to fit.
+pub const SHARD_SIZE: Choice = Choice {
+    name: "shard-size",
+    takes: Takes::Text("SIZE"),
+    help: "The largest shard that has to fit [default: 1M]",
+};
+
+/// How many identifiers have to fit.
+pub const SHARDS: Choice = Choice {
+    name: "shards",
+    takes: Takes::NumberOrNone,
+    help: "How many identifiers of one chunk each the index has to have room for [default: 1]",
+};
+
+/// The extents of a new store of format 3.
+pub const EXTENTS: Choice = Choice {
+    name: "extents",
+    takes: Takes::NumberOrNone,
+    help: "In place of the sizes: how many extents, 5 to 7,680 [default: 64]",
+};
+
+/// Their pages.
+pub const PAGES: Choice = Choice {
+    name: "pages",
+    takes: Takes::NumberOrNone,
+    help: "How many pages of 4,096 bytes an extent has, 2 to 65,535 [default: 256]",
+};
+
+/// The sections of its superblock.
+pub const SECTIONS: Choice = Choice {
+    name: "sections",
+    takes: Takes::NumberOrNone,
+    help: "How many sections the superblock has, 1 to 15 [default: as few as the extents need]",
+};
+
+/// The permissions of a new file.
+pub const MODE: Choice = Choice {
+    name: "mode",
+    takes: Takes::TextOr("OCTAL", "0600"),
+    help: "The permissions of the new file",
+};

@@ -1,0 +1,65 @@
+//! Which file a command is about, and how it is opened or made.
+ghost use Rattle.std.specs.Prelude.{◌≡◌, ◌↔◌, ◌≤◌, Err, IfOk, IfSome, None, Some, codes, is_some, option_map, unwrap_or};
+ghost use Rattle.clap.specs.Words.{found_of, first_value, matched_of};
+ghost use Rattle.cs_options.specs.Asked.{number_at};
+ghost use Rattle.cs_options.specs.Files.{NamesTwo, file_asked};
+
+use crate::options::number_given;
+use clap::ArgMatches;
+
+/// Why it isn't known which file a command is about.
+#[derive(Clone, Copy, Debug, PartialEq, Eq)]
+pub enum NoFile {
+    /// It is named twice, as a word and by `--file`, and not the same.
+    NamedTwice,
+    /// It isn't named at all.
+    NotNamed,
+}
+
+/// The file that a command is about: the word, else that of `--file`, else the environment's.
+pub fn file_of<'a>(
+    options: &ArgMatches<'a>,
+    environment: Option<&'a str>,
+) -> Result<&'a str, NoFile>
+    ensures file { IfOk result (λ file. file_asked options.now (option_map (λ text. text.now) environment.entry) ≡ Some file.now) }
+    ensures twice { (result ≡ Err NoFile.NamedTwice) ↔ NamesTwo options.now }
+    ensures none { result ≡ Err NoFile.NotNamed → file_asked options.now (option_map (λ text. text.now) environment.entry) ≡ None }
+{
+    match (options.get_str("store"), options.get_str("file")) {
+        (Some(word), Some(option)) if word != option => Err(NoFile::NamedTwice),
+        (Some(word), _) => Ok(word),
+        (None, Some(option)) => Ok(option),
+        (None, None) => match environment {
+            Some(path) => Ok(path),
+            None => Err(NoFile::NotNamed),
+        },
+    }
+}
+
+/// How many seconds to wait at most for a file that is in use: none where no number is there.
+pub fn wait_of(options: &ArgMatches) -> u64
+    ensures { result ≡ unwrap_or (number_at options.now (codes "wait")) 0 }
+{
+    number_given(options, "wait").unwrap_or(0)
+}
+
+/// The permissions of a new file: those for its owner to read and write where none are given. None where the text is no octal number of at most 0777.
+pub fn mode_of(options: &ArgMatches) -> Option<u32>
+    ensures default { first_value (found_of options.now) (codes "mode") ≡ None → result ≡ Some 384 }
+    ensures small { IfSome result (λ mode. mode ≤ 511) }
+{
+    match options.get_str("mode") {
+        Some(text) => read_mode(text),
+        None => Some(0o600),
+    }
+}
+
+/// The permissions that octal digits stand for.
+fn read_mode(text: &str) -> Option<u32>
+    ensures small { IfSome result (λ mode. mode ≤ 511) }
+{
+    match u32::from_str_radix(text, 8) {
+        Ok(mode) if mode <= 0o777 => Some(mode),
+        _ => None,
+    }
+}

@@ -1,0 +1,103 @@
+//! How large a new store is asked to be.
+ghost use Rattle.std.specs.Prelude.{◌≡◌, ◌↔◌, IfErr, IfOk, IsOk, MatchOption, Some, codes};
+ghost use Rattle.cs_frame.specs.Geometries.{IsGeometry};
+ghost use Rattle.cs_options.specs.Asked.{number_at};
+ghost use Rattle.cs_options.specs.Sizings.{IsWished, extents_given, numbers_given, pages_given, sections_given, shards_asked, size_at, sizes_given, sizing_by};
+
+use crate::geometries::Wish;
+use crate::options::number_given;
+use crate::sizes::size_of;
+use clap::ArgMatches;
+use cs_deps::Refusal;
+use cs_frame::Geometry;
+
+/// The bytes of a new store's device where no size is given: 64 MiB.
+const USUAL_SIZE: u64 = 67_108_864;
+
+/// The bytes of the largest shard that has to fit where none is given: 1 MiB.
+const USUAL_SHARD: u64 = 1_048_576;
+
+/// By what a new store is asked for.
+#[derive(Clone, Copy, Debug, PartialEq, Eq)]
+pub enum Sizing {
+    /// By nothing.
+    Unsaid,
+    /// By sizes: `--size`, `--shard-size`, `--shards`.
+    Sizes,
+    /// By a geometry: `--extents`, `--pages`, `--sections`.
+    Numbers,
+    /// By both, which is none.
+    Both,
+}
+
+/// By what the options ask for a new store.
+pub fn sizing_of(options: &ArgMatches) -> Sizing
+    ensures { result ≡ sizing_by (sizes_given options.now) (numbers_given options.now) }
+{
+    match (are_sizes_given(options), are_numbers_given(options)) {
+        (false, false) => Sizing::Unsaid,
+        (true, false) => Sizing::Sizes,
+        (false, true) => Sizing::Numbers,
+        (true, true) => Sizing::Both,
+    }
+}
+
+/// Whether a size is given.
+fn are_sizes_given(options: &ArgMatches) -> bool
+    ensures { result ≡ sizes_given options.now }
+{
+    options.contains_id("size")
+        || options.contains_id("shard-size")
+        || options.contains_id("shards")
+}
+
+/// Whether a number of a geometry is given.
+fn are_numbers_given(options: &ArgMatches) -> bool
+    ensures { result ≡ numbers_given options.now }
+{
+    options.contains_id("extents")
+        || options.contains_id("pages")
+        || options.contains_id("sections")
+}
+
+/// What the sizes ask for, None where a text is no size: 64 MiB for shards of 1 MiB, and room for one identifier, where they aren't given.
+pub fn wish_of(options: &ArgMatches) -> Option<Wish>
+    ensures { MatchOption result (¬ IsWished options.now) (λ wish. (size_at options.now (codes "size") 67108864 ≡ Some wish.size)
+        × (size_at options.now (codes "shard-size") 1048576 ≡ Some wish.shard_size) × (shards_asked options.now ≡ wish.shards)) }
+{
+    let size = size_given(options, "size", USUAL_SIZE)?;
+    let shard_size = size_given(options, "shard-size", USUAL_SHARD)?;
+    Some(Wish {
+        size,
+        shard_size,
+        shards: number_given(options, "shards").unwrap_or(1),
+    })
+}
+
+/// The size of an option, and this where none is given; None where the text is no size.
+fn size_given(options: &ArgMatches, name: &str, usual: u64) -> Option<u64>
+    ensures { result ≡ size_at options.now name.now usual }
+{
+    match options.get_str(name) {
+        Some(text) => size_of(text),
+        None => Some(usual),
+    }
+}
+
+/// The geometry of format 3 that the numbers ask for: 64 extents of 256 pages where they aren't given. Refused 7 BadGeometry alone.
+pub fn exact_of(options: &ArgMatches) -> Result<Geometry, Refusal>
+    ensures valid { IsOk result ↔ IsGeometry 3 (extents_given options.now) (pages_given options.now) (sections_given options.now) }
+    ensures format { IfOk result (λ geometry. geometry.format ≡ 3) }
+    ensures extents { IfOk result (λ geometry. geometry.extents ≡ extents_given options.now) }
+    ensures pages { IfOk result (λ geometry. geometry.pages ≡ pages_given options.now) }
+    ensures sections { IfOk result (λ geometry. geometry.sections ≡ sections_given options.now) }
+    ensures refusal { IfErr result (λ refusal. refusal ≡ Refusal.BadGeometry) }
+{
+    let extents = number_given(options, "extents").unwrap_or(64);
+    let pages = number_given(options, "pages").unwrap_or(256);
+    let sections = number_given(options, "sections");
+    match Geometry::of_format(3, extents, pages, sections) {
+        Ok(geometry) => Ok(geometry),
+        Err(_) => Err(Refusal::BadGeometry),
+    }
+}
