@@ -1,6 +1,5 @@
 -- Copies of stores.
-use Rattle.std.proofs.Common.{◌≡◌, ◌≢◌, ◌∙◌, ◌⊎◌, ◌<◌, ◌+◌, ℕ, List, [], ◌∷◌, ◌++◌, Option, None, Some, true, false, get_or, length, map, take, inl, inr, refl, sym, ap, subst, arith}
-use Rattle.std.specs.Prelude.{Result, Ok, Err, MatchResult}
+use Rattle.std.proofs.Common.{◌≡◌, ◌≢◌, ◌∙◌, ◌<◌, ◌+◌, ℕ, List, [], ◌∷◌, ◌++◌, Option, None, Some, get_or, length, map, take, inl, inr, refl, sym, ap, subst}
 use Rattle.std.proofs.lemmas.List.{take_more}
 use Rattle.std.specs.List.{AllByRecursion}
 use Rattle.cs_core.specs.Views.{View}
@@ -10,7 +9,7 @@ use Rattle.cs_model.specs.Element.{Bytes, Content, Map}
 use Rattle.cs_model.specs.Lists.{◌∈◌}
 use Rattle.cs_store.specs.Maps.{HasMap}
 use Rattle.cs_survey.specs.Listings.{AreAll}
-use Rattle.cs_tools.specs.Copies.{Agree, HasAMap}
+use Rattle.cs_tools.specs.Copies.{Agree}
 
 -- ---- maps of stores
 

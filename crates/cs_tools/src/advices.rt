@@ -34,9 +34,13 @@ const ROOT_LOST: &str =
 const NOT_WHOLE: &str =
     "The file holds a store, but not all of it is there as it was written. Restore the file from a copy, or read what is left by `--salvage` (format 3).";
 
-/// Of a store of an older format that is read by a way that it hasn't.
+/// Of a store of an older format that is read in a way that it hasn't.
 const OLDER: &str =
-    "The file holds a store of format 2, which `--as-of` and `--salvage` don't read: use the command without them.";
+    "The file holds a store of format 2; `--as-of` and `export --salvage` read format 3 alone. Use the command without them, or `list --salvage` and `get --salvage`.";
+
+/// Of a store of format 2 of whose superblock or root a page isn't whole.
+const BROKEN: &str =
+    "A page is damaged that the store needs, and a store of format 2 has no other copy of it: restore the file from a copy.";
 
 /// Of a store of format 3 of whose superblock or root neither copy is whole.
 const TORN: &str =
@@ -140,6 +144,7 @@ fn advice_of_content(refusal: Refusal, content: Content) -> Todo
         Content::Empty => Todo::Make,
         Content::Length { pages, wanted } => Todo::Length { pages, wanted },
         Content::Torn { .. } => Todo::Text(TORN),
+        Content::Broken => Todo::Text(BROKEN),
         Content::Left => Todo::Text(LEFT),
         Content::Foreign => Todo::Text(FOREIGN),
         Content::Store { format } => Todo::Text(advice_of_store(refusal, format)),
@@ -227,7 +232,9 @@ fn advice_of_call(refusal: Refusal) -> &'static str
         Refusal::WornOut => "A number reached its end: `copy` all into a new store.",
         Refusal::Halted => "A write or a flush failed before: open the store again.",
         Refusal::HistoryFull => "Sync, and try again.",
-        Refusal::Occupied | Refusal::NotEmpty => "Name another file: nothing was written.",
+        Refusal::Occupied | Refusal::NotEmpty => {
+            "Nothing was written. Name another file, or move the one that is there away."
+        }
         Refusal::InFlight | Refusal::NoRound | Refusal::Unsettled => {
             "The script has the rounds of a sync in another order: `begin`, `issue` until nothing is left, `end`."
         }

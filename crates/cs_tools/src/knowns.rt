@@ -31,6 +31,8 @@ pub enum Content {
     Length { pages: u64, wanted: u64 },
     /// A store of format 3, and neither page of this pair is whole.
     Torn { page: u64, twin: u64 },
+    /// A store of format 2, which has one copy of each page, and its root or a section of its superblock isn't whole.
+    Broken,
     /// What is left of a store: its root is whole, and no page that was read is its superblock.
     Left,
 }
@@ -66,6 +68,7 @@ impl Known {
 struct Named {
     format: u8,
     pages: u64,
+    sections: u8,
 }
 
 /// The store that a section of a superblock names, if it is the first section.
@@ -81,6 +84,7 @@ fn named_by(superblock: &Superblock) -> Option<Named> {
             superblock.pages,
             superblock.sections,
         ),
+        sections: superblock.sections,
     })
 }
 
@@ -179,6 +183,47 @@ fn content_of_pairs<D: PageDisk>(alloc: Global, disk: &mut D) -> Content
     Content::Store { format: 3 }
 }
 
+/// Whether a page of a store of format 2 is whole: its root, or a section of its superblock.
+fn is_whole<D: PageDisk>(alloc: Global, disk: &mut D, number: u64) -> bool
+    requires { number < D.page_count disk.old }
+    ensures disk { OnlyReads D.PageDisk disk.old disk.new }
+{
+    let mut buffer = [0; 4096];
+    match disk.read(number, &mut buffer) {
+        Ok(()) if number == ROOT => decode_root(alloc, &buffer, 2).is_ok(),
+        Ok(()) => decode_section(alloc, &buffer, 2).is_ok(),
+        Err(_) => false,
+    }
+}
+
+/// Whether the last pages, up to the end, are all sections of a store of format 2.
+fn are_sections<D: PageDisk>(alloc: Global, disk: &mut D, first: u64) -> bool
+    ensures disk { OnlyReads D.PageDisk disk.old disk.new }
+{
+    for number in first..disk.pages() {
+        if !is_whole(alloc, disk, number) {
+            return false;
+        }
+    }
+    true
+}
+
+/// What a device holds that has a store of format 2 of its pages and of so many sections: those but the first are its
+/// last pages.
+fn content_of_sections<D: PageDisk>(alloc: Global, disk: &mut D, sections: u8) -> Content
+    ensures some { result ≢ Empty }
+    ensures length { (pages wanted : _) → result ≢ Length pages wanted }
+    ensures disk { OnlyReads D.PageDisk disk.old disk.new }
+{
+    let pages = disk.pages();
+    let first = pages.saturating_add(1).saturating_sub(u64::from(sections));
+    if pages > ROOT && is_whole(alloc, disk, ROOT) && are_sections(alloc, disk, first) {
+        Content::Store { format: 2 }
+    } else {
+        Content::Broken
+    }
+}
+
 /// What a device of some pages holds.
 fn content_of<D: PageDisk>(alloc: Global, disk: &mut D) -> Content
     requires { 0 < D.page_count disk.old }
@@ -194,9 +239,7 @@ fn content_of<D: PageDisk>(alloc: Global, disk: &mut D) -> Content
             wanted: named.pages,
         },
         Some(named) if named.format == 3 => content_of_pairs(alloc, disk),
-        Some(named) => Content::Store {
-            format: named.format,
-        },
+        Some(named) => content_of_sections(alloc, disk, named.sections),
     }
 }
 

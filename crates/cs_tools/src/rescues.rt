@@ -39,7 +39,7 @@ use std::io::Write;
 
 /// What to do where it isn't known whether there is a shard.
 const RUN_LOST: &str =
-    "No run of the index that can be read names it, and older ones can't be read: `export --salvage` reads the frames themselves. Restore the file from a copy.";
+    "No run of the index that can be read names it, and older ones can't be read. In format 3 `export --salvage` reads the frames themselves. Else restore the file from a copy.";
 
 /// How a get ended.
 #[derive(Clone, Copy)]

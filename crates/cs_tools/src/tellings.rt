@@ -173,7 +173,7 @@ fn print_length<W: Write>(writer: &mut W, pages: u64, wanted: u64) -> io::Result
     };
     write!(
         writer,
-        "The file has {pages} pages, and its superblock says {wanted}: it is too {how} by {by}. Copy it, `truncate -s {bytes} COPY`, and try again with the copy. If that doesn't open either, `export --salvage` of the copy reads the shards whose frames are there."
+        "The file has {pages} pages, and its superblock says {wanted}: it is too {how} by {by}. Copy it, `truncate -s {bytes} COPY`, and try again with the copy. If that doesn't open either, `export --salvage` of the copy reads the shards whose frames are there (format 3)."
     )
 }
 

@@ -1,6 +1,5 @@
-use Rattle.std.proofs.Common.{◌≡◌, ◌∙◌, List, get_or, refl, sym, subst, take_all, arith}
+use Rattle.std.proofs.Common.{refl, subst, take_all, arith}
 use Rattle.cs_disk.proofs.OnlyRead.{reads_none, reads_on}
-use Rattle.cs_frame.specs.declared.identifiers.ShardId.{ShardId}
 use Rattle.cs_tools.specs.Copies.{MayStopCopy}
 use Rattle.cs_tools.proofs.Copying.{AgreeOn, agree_more, has_still, same_more}
 use Rattle.cs_tools.proofs.Still.{same_on}
