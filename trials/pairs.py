@@ -125,7 +125,9 @@ def root_warnings(image, page, newest):
     """What is told where a page of the root isn't whole and the store is opened as of the other one: as of which, and which commands may be lost."""
     version, commands, _ = reader.root(page_of(image, newest), 3)
     greatest = greatest_command(image)
-    if greatest > commands:
+    if greatest == commands + 1:
+        lost = f"command {greatest} may be lost, or was never acknowledged (found)"
+    elif greatest > commands:
         lost = f"commands {commands + 1} to {greatest} may be lost, or were never acknowledged (found)"
     else:
         lost = f"no put after command {commands} was found; deletions after it may be lost"
