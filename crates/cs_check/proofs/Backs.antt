@@ -11,12 +11,6 @@ use Rattle.cs_deps.proofs.Within.{same_at}
 use Rattle.cs_check.specs.Progress.{AreFloors, NamesFrom, plain_floor, version_floors}
 use Rattle.cs_check.proofs.Held.{from_next}
 
-pub floors_none : (g : Pending) (floor : ℕ) (floors : List ℕ) → AreFloors g (length g.waiting) floor floors
-floors_none g floor floors = record {
-  plain = λ j n d le at. absurd (omega (arith, le, slice_get_within g.waiting j (Plain n, d) at));
-  version = λ j f v d le at. absurd (omega (arith, le, slice_get_within g.waiting j (Version f v, d) at));
-}
-
 -- a number is lowered to this one, or to none where there is no such place
 lowered_there : (floors : List ℕ) (f v : ℕ) → slice_index (slice_set floors f (min (slice_index floors f) (v - 1))) f ≤ v - 1
 lowered_there floors f v = ⊎_elim

@@ -84,14 +84,6 @@ marks_whole g round j i old new le marks = record {
   members = λ x c k d here. marks.members c.0 k x d (omega (arith, c.1, le)) (slice_get-get_or round c.0 x c.1 ∙ ap Some c.2) here;
 }
 
--- no round was looked at yet
-pub held_none : (g : Pending) (rounds : List (List Element)) (firsts : List ℕ) → length firsts ≡ length g.waiting → ((k : ℕ) → k < length g.waiting → slice_index firsts k ≡ length rounds) → AreHeld g rounds (length rounds) firsts
-held_none g rounds firsts count each = record {
-  count = count;
-  held = λ k x d at lt. absurd (omega (arith, lt, each k (slice_get_within g.waiting k (x, d) at)));
-  early = λ i k round x d le at c here. absurd (omega (arith, le, slice_get_within rounds i round at));
-}
-
 -- one round more
 pub held_next : (g : Pending) (rounds : List (List Element)) (b : ℕ) (round : List Element) (old new : List ℕ) → slice_get rounds b ≡ Some round → AreHeld g rounds (b + 1) old → Marks g round b old new → AreHeld g rounds b new
 held_next g rounds b round old new at before marks = record {
@@ -124,16 +116,6 @@ held_next g rounds b round old new at before marks = record {
         (λ (m : (slice_index new k ≡ b) × ((y : Element) (e : Named) → WaitsAt g k y e → Contains round y)). omega (arith, m.0, le))
         (marks.each k))
         (cases_eq i b)
-
--- no place was looked at yet
-pub spread_none : (g : Pending) (rounds : List (List Element)) (firsts families : List ℕ) → AreHeld g rounds 0 firsts → length families ≡ length g.persistent → ((f : ℕ) → f < length g.persistent → slice_index families f ≡ length rounds) → AreSpread g rounds (length g.waiting) firsts families
-spread_none g rounds firsts families are count each = record {
-  are = are;
-  each = count;
-  least = λ j f v d le at. absurd (omega (arith, le, slice_get_within g.waiting j (Version f v, d) at));
-  holds = λ f lt less. absurd (omega (arith, less, each f lt));
-  rising = λ i j f v w d e le more at there. absurd (omega (arith, le, slice_get_within g.waiting i (Version f v, d) at));
-}
 
 -- a later place from k + 1 on, or k
 pub from_next : (k j : ℕ) → k ≤ j → (k + 1 ≤ j) ⊎ (j ≡ k)

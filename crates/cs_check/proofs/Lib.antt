@@ -22,3 +22,4 @@ mod Permuted
 mod BeforeSteps
 mod Backs
 mod Holders
+mod Spelling

@@ -1,6 +1,6 @@
 -- What is named among what waits, collected in order.
 use Rattle.std.proofs.Common.{◌≡◌, ℕ, ◌+◌, ◌<◌, ◌≤◌, ◌⊎◌, List, [], ◌∷◌, ◌++◌, length, get_or, slice_index, refl, sym, subst, inl, inr, ⊎_elim, arith}
-use Rattle.std.specs.Prelude.{AllPairs, Contains, ◌↔◌, All}
+use Rattle.std.specs.Prelude.{Contains, ◌↔◌, All}
 use Rattle.std.proofs.lemmas.Option.{slice_get_within}
 use Rattle.std.proofs.lemmas.List.Elements.{Contains-push, Contains-push_cases, Contains-append_left, Contains-get_or}
 use Rattle.std.proofs.lemmas.List.Quantifiers.{all_pairs_push}
@@ -11,13 +11,8 @@ use Rattle.cs_deps.specs.Pending.{Pending, WaitsAt, Waits, IsPersistent}
 use Rattle.cs_deps.specs.Rounds.{IsListedBefore}
 use Rattle.cs_deps.proofs.Within.{below_next, same_at}
 use Rattle.cs_check.specs.Listing.{IsListing, WaitsBefore}
-use Rattle.cs_check.specs.Progress.{AddsIf, IsListedTill}
+use Rattle.cs_check.specs.Progress.{AddsIf, IsListedTill, ListsTill}
 use Rattle.cs_check.specs.Written.{IsGreatest, IsListOf, NamesListed, HasLetter}
-
--- these are listed till then
-pub record ListsTill (g : Pending) (d : Named) (k f : ℕ) (xs : List Element) : Type 0 where
-  pub members : (x : Element) → Contains xs x ↔ IsListedTill g d k f x
-  pub order : AllPairs IsListedBefore xs
 
 pub lists_none : (g : Pending) (d : Named) → ListsTill g d 0 0 []
 lists_none g d = record {

@@ -7,7 +7,7 @@ use Rattle.cs_deps.specs.declared.elements.Element.{Element}
 use Rattle.cs_deps.specs.declared.elements.Element.TheVariants.{Plain, Version}
 use Rattle.cs_deps.specs.Named.{Named, Names, IsPlain}
 use Rattle.cs_deps.proofs.Within.{below_next}
-use Rattle.cs_check.specs.Documents.{NamesToo, NamesThese}
+use Rattle.cs_check.specs.Documents.{NamesToo}
 use Rattle.cs_check.specs.Progress.{Follows, IsBetween, IsRun, IsRunTo, number_of}
 
 abbrev pub Begins : ℕ → Element → Type 0
@@ -100,7 +100,3 @@ run_whole xs i first last le run y = (
       let n = (run.names y).1 b in
       (n.0, (n.1.0, slice_get_within xs n.1.0 n.0 n.1.2, get_or_from_slice_get xs n.1.0 n.0 n.0 n.1.2), n.2)),
 )
-
-pub run_named : {E : Type 0} (r : Result Named E) (xs : List Element) (first : ℕ) (last : Element) → IsRun xs first last → IfOk r (λ d. (y : Element) → Names d y ↔ IsBetween first last y) → IfOk r (λ d. NamesThese d xs)
-run_named (Ok d) xs first last run is = λ y. ((λ n. (run y).1 ((is y).0 n)), (λ n. (is y).1 ((run y).0 n)))
-run_named (Err e) xs first last run is = tt

@@ -1,5 +1,5 @@
 -- Arrays that are read item by item.
-use Rattle.std.proofs.Common.{add-one, drop, ◌≡◌, ◌∙◌, ℕ, zero, suc, ◌+◌, ◌≤◌, ◌⊎◌, List, [], ◌∷◌, ◌++◌, length, take, take_all, get_or, map, Some, None, Option, option_map, slice_get, refl, sym, ap, subst, inl, inr, ⊎_elim, arith, Bool, is_some, MatchOption, IsTrue, Result, Ok, Err, IfOk, Vec}
+use Rattle.std.proofs.Common.{add-one, drop, ◌≡◌, ◌∙◌, ℕ, zero, suc, ◌+◌, ◌≤◌, ◌⊎◌, List, [], ◌∷◌, ◌++◌, length, take, take_all, map, Some, None, Option, option_map, slice_get, refl, sym, ap, subst, inl, inr, ⊎_elim, arith, Bool, is_some, MatchOption, IsTrue, Result, Ok, Err, IfOk, Vec}
 use Rattle.std.specs.Prelude.{All, Contains, ◌↔◌}
 use Rattle.std.proofs.lemmas.Option.{slice_get-map, slice_get_within, slice_get-get_or, get_or_from_slice_get, same_Some}
 use Rattle.std.proofs.lemmas.List.{take-append-drop}
@@ -15,7 +15,7 @@ use Rattle.cs_deps.specs.Named.{Named, Names}
 use Rattle.cs_deps.specs.State.{IsListed}
 use Rattle.std.specs.Global.{Global}
 use Rattle.cs_check.specs.Progress.{elements_of}
-use Rattle.cs_check.specs.Documents.{elements_in, NamesToo, NamesThese, names_data, rounds_data, letters_data, numbers_data}
+use Rattle.cs_check.specs.Documents.{elements_in, NamesThese, names_data, rounds_data, letters_data, numbers_data}
 use Rattle.cs_check.specs.Names.{AreLetters, IsName, name_of, plain_letter}
 use Rattle.cs_check.specs.Faults.{Blames}
 use Rattle.cs_check.specs.declared.faults.CheckFault.{CheckFault}
@@ -92,18 +92,6 @@ read_next {X} s P vs k v xs ys x at is same pushed all before = (
 
 -- ---- what names name
 
-pub named_none : (d : Named) (xs : List Element) → length xs ≡ 0 → ((y : Element) → Names d y → ⊥) → NamesThese d xs
-named_none d xs none nothing y = ((λ n. absurd (nothing y n)), (λ c. absurd (omega (arith, c.1.1, none))))
-
-pub named_one : (d : Named) (xs : List Element) (x : Element) → length xs ≡ 1 → slice_get xs 0 ≡ Some x → ((y : Element) → Names d y ↔ NamesToo x y) → NamesThese d xs
-named_one d xs x one at is y = (
-  (λ n. (x, (0, omega arith, get_or_from_slice_get xs 0 x x at), (is y).0 n)),
-  (λ c.
-      let first : c.1.0 ≡ 0 = omega (arith, c.1.1, one) in
-      let same : c.0 ≡ x = sym c.1.2 ∙ ap (λ k. get_or xs k c.0) first ∙ get_or_from_slice_get xs 0 x c.0 at in
-      (is y).1 (subst (λ z. NamesToo z y) same c.2)),
-)
-
 pub named_both : (d a b : Named) (xs front back : List Element) → xs ≡ front ++ back → NamesThese a front → NamesThese b back → ((y : Element) → Names d y ↔ (Names a y ⊎ Names b y)) → NamesThese d xs
 named_both d a b xs front back is first second both y = (
   (λ n. ⊎_elim
@@ -115,14 +103,6 @@ named_both d a b xs front back is first second both y = (
       (λ (h : Contains back c.0). (both y).1 (inr ((second y).1 (c.0, h, c.2))))
       (Contains-append_cases front back c.0 (subst (λ zs. Contains zs c.0) is c.1))),
 )
-
-pub version_named : {E : Type 0} (f v : ℕ) (r : Result Named E) → IfOk r (λ d. (n : ℕ) → Names d (Plain n) → ⊥) → IfOk r (λ d. (g w : ℕ) → Names d (Version g w) ↔ ((g ≡ f) × (1 ≤ w) × (w ≤ v))) → IfOk r (λ d. (y : Element) → Names d y ↔ NamesToo (Version f v) y)
-version_named f v (Ok d) plain version = each
-  where
-    each : (y : Element) → Names d y ↔ NamesToo (Version f v) y
-    each (Plain n) = ((λ h. plain n h), (λ h. absurd h))
-    each (Version g w) = version g w
-version_named f v (Err e) plain version = tt
 
 pub both_named : {E : Type 0} (a b : Named) (xs front back : List Element) (r : Result Named E) → xs ≡ front ++ back → NamesThese a front → NamesThese b back → IfOk r (λ d. (y : Element) → Names d y ↔ (Names a y ⊎ Names b y)) → IfOk r (λ d. NamesThese d xs)
 both_named a b xs front back (Ok d) is first second both = named_both d a b xs front back is first second both

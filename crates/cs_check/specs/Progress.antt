@@ -1,10 +1,12 @@
 -- How far a view has been read. Private clauses and proofs alone cite it.
-use Rattle.std.specs.Prelude.{[], ◌∷◌, ◌++◌, ◌≡◌, ℕ, suc, ◌+◌, ◌-◌, ◌^◌, ◌≤◌, ◌<◌, ◌⊎◌, ◌↔◌, List, All, Contains, Some, length, map, min, slice_get, slice_index, slice_set, take, Vec}
+use Rattle.std.specs.Prelude.{[], ◌∷◌, ◌++◌, ◌≡◌, ℕ, suc, ◌+◌, ◌-◌, ◌^◌, ◌≤◌, ◌<◌, ◌⊎◌, ◌↔◌, List, All, AllPairs, Contains, Some, length, map, min, slice_get, slice_index, slice_set, take, Vec}
 use Rattle.std.specs.Global.{Global}
 use Rattle.cs_deps.specs.declared.elements.Element.{Element}
 use Rattle.cs_deps.specs.declared.elements.Element.TheVariants.{Plain, Version}
-use Rattle.cs_deps.specs.Named.{Named, Names, IsPlain}
+use Rattle.cs_deps.specs.declared.spans.Span.{Span}
+use Rattle.cs_deps.specs.Named.{Named, Names, IsInSpan, IsPlain}
 use Rattle.cs_deps.specs.Pending.{Pending, WaitsAt, Waits, Needs, SatisfiedBy}
+use Rattle.cs_deps.specs.Rounds.{IsListedBefore}
 use Rattle.cs_deps.specs.Schedule.{all_of}
 use Rattle.cs_check.specs.Documents.{NamesToo}
 use Rattle.cs_check.specs.Listing.{IsListedAt, NamesOthers, WaitsBefore, versions_before}
@@ -188,3 +190,15 @@ abbrev pub Lowers : ℕ → Element → List ℕ → List ℕ → List ℕ → L
 Lowers k (Plain n) firsts firsts' families families' = (firsts' ≡ firsts) × (families' ≡ families)
 Lowers k (Version f v) firsts firsts' families families' = f < length families → k < length firsts
     → (firsts' ≡ slice_set firsts k (min (slice_index firsts k) (slice_index families f))) × (families' ≡ slice_set families f (min (slice_index firsts k) (slice_index families f)))
+
+-- what is listed till then, in the order of documents
+pub record ListsTill (g : Pending) (d : Named) (k f : ℕ) (xs : List Element) : Type 0 where
+  pub members : (x : Element) → Contains xs x ↔ IsListedTill g d k f x
+  pub order : AllPairs IsListedBefore xs
+
+-- the plain writes of a span are added, which wait
+pub record Spells (g : Pending) (span : Span) (old new : List Element) : Type 0 where
+  pub kept : (x : Element) → Contains old x → Contains new x
+  pub added : (n : ℕ) → IsInSpan n span → Contains new (Plain n)
+  pub each : (x : Element) → Contains new x → Contains old x ⊎ ((n : ℕ) × (x ≡ Plain n) × IsInSpan n span × Waits g (Plain n))
+  pub order : AllPairs IsListedBefore old → ((x : Element) → Contains old x → IsListedBefore x (Plain span.first)) → AllPairs IsListedBefore new

@@ -75,6 +75,9 @@ pub fn from_document(alloc: Global, text: &str) -> Result<Document, CheckFault>
 /// 10 BadDocument where view, target or plan break a rule of documents, the target names a version past the last one listed, or
 /// the letters aren't one of `a` to `z` but `w` for each family, each of them once. 9 OutOfMemory where a
 /// growth was refused.
+///
+/// It takes time in the order of all that it is given and of the text, but for sorting. If needs or target name a plain
+/// write that does not wait, or list their spans out of order, it looks at each waiting element for that one list of names.
 pub fn to_document(
     alloc: Global,
     view: &GraphView,

@@ -16,6 +16,7 @@ mod orders;
 mod plans;
 mod readings;
 mod runs;
+mod spelled;
 mod texts;
 mod values;
 mod verdicts;

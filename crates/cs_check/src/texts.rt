@@ -12,6 +12,7 @@ ghost use Rattle.cs_check.specs.Written.{IsTextOf, HasDocument, HasLetter, AreWr
 
 use crate::faults::CheckFault;
 use crate::listings::is_known;
+use crate::noted::{Places, places_of};
 use crate::verdicts::well_formed;
 use crate::writings::{
     are_letters, elements_value, entries_value, letters_value, named_in, rounds_value,
@@ -63,9 +64,10 @@ fn text(
     requires { HasDocument letters.now (pending_of view.now) target.now (elements_of rounds.now) chain.now }
     ensures { IfOk result (λ text. IsTextOf (string_bytes text) letters.now (pending_of view.now) target.now (elements_of rounds.now) chain.now) }
 {
-    let named = named_in(alloc, view, target)?;
+    let places = places_of(alloc, &view.waiting)?;
+    let named = named_in(alloc, view, &places, target)?;
     let mut members = Map::new(alloc);
-    put_elements(alloc, &mut members, view, chain, letters)?;
+    put_elements(alloc, &mut members, view, &places, chain, letters)?;
     put_families(alloc, &mut members, view, letters)?;
     put_rounds(alloc, &mut members, rounds, &named, letters)?;
     object(members).to_string(alloc)
@@ -76,6 +78,7 @@ fn put_elements(
     alloc: Global,
     members: &mut Map<String, Value>,
     view: &GraphView,
+    places: &Places,
     chain: &[Element],
     letters: &[char],
 ) -> Result<(), AllocError>
@@ -88,7 +91,7 @@ fn put_elements(
 {
     let chain = elements_value(alloc, letters, chain)?;
     put(members, alloc, "chain", chain)?;
-    let elements = entries_value(alloc, view, letters)?;
+    let elements = entries_value(alloc, view, places, letters)?;
     put(members, alloc, "elements", elements)?;
     Ok(())
 }

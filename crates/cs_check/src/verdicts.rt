@@ -108,7 +108,7 @@ fn test(
 ///
 /// It takes time in the order of all that it is given, but for sorting: the waiting elements, the members of rounds and chain,
 /// and the plain writes that needs and target name. If a need or the target names a plain write that does not wait, it
-/// looks at each waiting element for that one list of names. A span of them costs one step more for each.
+/// looks at each waiting element for that one list of names.
 pub fn check(
     alloc: Global,
     view: &GraphView,

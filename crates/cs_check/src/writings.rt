@@ -3,7 +3,7 @@ ghost use Rattle.std.specs.Prelude.{◌≡◌, ◌∷◌, ◌<◌, ◌↔◌, Li
 ghost use Rattle.serde_json.specs.Data.{Data, array};
 ghost use Rattle.serde_json.specs.View.{view as data_of, items_of};
 ghost use Rattle.cs_deps.specs.declared.elements.Element.{Element as Item};
-ghost use Rattle.cs_deps.specs.Named.{Names, IsPlain};
+ghost use Rattle.cs_deps.specs.Named.{Names};
 ghost use Rattle.cs_deps.specs.View.{pending_of};
 ghost use Rattle.cs_check.specs.Listing.{IsListing};
 ghost use Rattle.cs_check.specs.Names.{AreLetters, IsLetter, name_of};
@@ -11,6 +11,8 @@ ghost use Rattle.cs_check.specs.Documents.{names_data, numbers_data, letters_dat
 ghost use Rattle.cs_check.specs.Progress.{AddsIf, elements_of};
 ghost use Rattle.cs_check.specs.Written.{HasLetter, IsListOf, NamesListed, AreWritten, entry_data};
 
+use crate::noted::Places;
+use crate::spelled::plains_in;
 use crate::values::are_distinct;
 use cs_deps::{Dependency, Element, GraphView};
 use serde_json::{Value, json};
@@ -131,41 +133,18 @@ pub fn letters_value(alloc: Global, letters: &[char]) -> Result<Value, AllocErro
 pub fn named_in(
     alloc: Global,
     view: &GraphView,
+    places: &Places,
     needs: &Dependency,
 ) -> Result<Vec<Element>, AllocError>
     requires listing { IsListing (pending_of view.now) }
     requires listed { NamesListed (pending_of view.now) needs.now }
     ensures { IfOk result (λ xs. IsListOf (pending_of view.now) needs.now xs.items) }
 {
-    let mut elements = Vec::new(alloc);
-    for k in 0..view.waiting.len() {
-        add_plain(&mut elements, needs, view.waiting[k].0)?;
-    }
+    let mut elements = plains_in(alloc, view, places, needs)?;
     for family in 0..view.persistent.len() {
         add_version(&mut elements, needs, family, view.persistent[family])?;
     }
     Ok(elements)
-}
-
-/// Whether it is a plain write that is named.
-fn is_plain_need(needs: &Dependency, element: Element) -> bool
-    ensures { IsTrue result ↔ (IsPlain element × Names needs.now element) }
-{
-    element.is_plain() && needs.names(element)
-}
-
-/// Adds the element if it is a plain write that is named.
-fn add_plain(
-    elements: &mut Vec<Element>,
-    needs: &Dependency,
-    element: Element,
-) -> Result<(), AllocError>
-    ensures { OnOk result (AddsIf (IsPlain element × Names needs.now element) elements.old.items element elements.new.items) }
-{
-    if is_plain_need(needs, element) {
-        elements.push(element)?;
-    }
-    Ok(())
 }
 
 /// Adds the greatest version that is named of a family, if it is not persistent.
@@ -202,7 +181,12 @@ fn entry_value(
 }
 
 /// The array of the waiting elements with their needs.
-pub fn entries_value(alloc: Global, view: &GraphView, letters: &[char]) -> Result<Value, AllocError>
+pub fn entries_value(
+    alloc: Global,
+    view: &GraphView,
+    places: &Places,
+    letters: &[char],
+) -> Result<Value, AllocError>
     requires listing { IsListing (pending_of view.now) }
     requires letters { AreLetters letters.now }
     requires count { length letters.now ≡ length view.now.persistent.items }
@@ -211,7 +195,7 @@ pub fn entries_value(alloc: Global, view: &GraphView, letters: &[char]) -> Resul
     let mut values = Vec::new(alloc);
     for k in 0..view.waiting.len() {
         let entry = &view.waiting[k];
-        let needs = named_in(alloc, view, &entry.1)?;
+        let needs = named_in(alloc, view, places, &entry.1)?;
         let value = entry_value(alloc, letters, entry.0, &needs)?;
         values.push(value)?;
     }

@@ -22,7 +22,7 @@ put_rounds-requires-clause-rounds c = All-weaker (λ (xs : List Element). All (W
     (elements_of c.args.rounds.now) c.requires.well_formed.schedule
 
 pub put_rounds-requires-clause-named : goal.put_rounds-requires-clause-named
-put_rounds-requires-clause-named c = rw (c.deref.ensures.value) (list_lettered (pending_of c.args.view.now) c.args.target.now c.args.letters.now c.in_ok-named.named.items c.requires.well_formed.elements c.requires.count c.in_ok-named.ensures)
+put_rounds-requires-clause-named c = rw (c.deref-2.ensures.value) (list_lettered (pending_of c.args.view.now) c.args.target.now c.args.letters.now c.in_ok-named.named.items c.requires.well_formed.elements c.requires.count c.in_ok-named.ensures)
 
 pub returns : goal.returns
 unfolding document_data
@@ -31,7 +31,7 @@ returns c =
     let named = c.in_ok-named.named.items in
     let letters = c.args.letters.now in
     let none : members_view c.new-members.result.entries ≡ no_members = search rules in
-    let rounds = rw (c.deref.ensures.value) at c.in_ok-put_rounds.ensures in
+    let rounds = rw (c.deref-2.ensures.value) at c.in_ok-put_rounds.ensures in
     text_of_document letters (pending_of c.args.view.now) c.args.target.now (elements_of c.args.rounds.now) c.args.chain.now entries.0 named (view c.object.result) c.to_string.result entries.1 c.in_ok-named.ensures
     (members_written (view c.object.result) (members_view c.new-members.result.entries) (members_view c.put_elements.new.members.entries) (members_view c.put_families.new.members.entries) (members_view c.put_rounds.new.members.entries)
     (names_data letters c.args.chain.now) (array (items_of entries.0)) (letters_data letters) (numbers_data c.args.view.now.persistent.items) (rounds_data letters (elements_of c.args.rounds.now)) (names_data letters named)
