@@ -24,6 +24,7 @@ mod tickets;
 mod writebacks;
 
 pub use boards::{Board, Naming};
+pub use cs_core as the_core;
 pub use ferries::{Dock, Ramp, ferry};
 pub use gates::{Gate, Open, Step};
 pub use jobs::Job;
@@ -37,4 +38,3 @@ pub use reclaimers::{Next, Reclaimer};
 pub use rests::{Closed, NotClosed, Rest, Unclosed};
 pub use streams::Stream;
 pub use tickets::{Ack, Ticket};
-pub use cs_core as the_core;

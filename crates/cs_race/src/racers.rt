@@ -3,10 +3,10 @@ ghost use Rattle.std.specs.Prelude.{◌<◌, IfErr};
 ghost use Rattle.cs_race.specs.Races.{IsNoRace};
 
 use crate::traffic::Traffic;
-use cs_node::the_core::Bytes;
 use cs_deps::Refusal;
 use cs_disk::PageDisk;
 use cs_frame::ShardId;
+use cs_node::the_core::Bytes;
 use cs_node::{
     Dock, Gate, Job, Naming, Node, Open, Pilot, Polled, Purse, Ramp, Reclaimer, Step, Stream,
     Ticket, ferry,

@@ -8,12 +8,12 @@ ghost use Rattle.cs_script.specs.Outputs.{refusal_line};
 ghost use Rattle.cs_race.specs.Races.{IsAnswer, IsNoRace, Races, answer_line, answer_status, counts_lines, missing_line};
 
 use crate::racers::{Returned, racers_of};
-use cs_node::the_core::Core;
 use cs_deps::Refusal;
 use cs_disk::{MemoryDisk, PageDisk};
 use cs_frame::Geometry;
-use cs_script::mount::Mounted;
+use cs_node::the_core::Core;
 use cs_node::{Board, Naming, Node, Pilot, Purse, Rest, Unclosed};
+use cs_script::mount::Mounted;
 use cs_script::{Race, new_in_memory, print_acknowledged, print_no_store, print_refusal};
 use std::alloc::{AllocError, Global};
 use std::io;

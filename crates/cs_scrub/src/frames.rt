@@ -9,12 +9,12 @@ ghost use Rattle.cs_survey.specs.cs_refine.Crashes.{IsPrefix};
 ghost use Rattle.cs_survey.specs.cs_core.Meanings.{commands_said};
 ghost use Rattle.cs_scrub.specs.Scrubs.{IsInside, TellsFrame};
 
-use cs_survey::the_core::Core;
 use cs_deps::Refusal;
 use cs_disk::PageDisk;
 use cs_extent::Extents;
 use cs_frame::{FrameKind, Locator};
 use cs_index::LiveChunk;
+use cs_survey::the_core::Core;
 
 /// Whether a place is on an extent.
 fn is_inside(extents: &Extents, place: Locator) -> bool

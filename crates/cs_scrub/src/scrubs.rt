@@ -14,12 +14,12 @@ ghost use Rattle.cs_scrub.specs.Scrubs.{AreCaused, AreNamed, IsScrubbed, OfChunk
 use crate::damages::{Damage, Scrubbed};
 use crate::frames::{read_chunk, read_run};
 use crate::progress::Progress;
-use cs_survey::the_core::Core;
 use cs_deps::Refusal;
 use cs_disk::PageDisk;
 use cs_frame::Locator;
 use cs_index::{LiveChunk, StoredRun};
 use cs_survey::live_chunks;
+use cs_survey::the_core::Core;
 use std::alloc::{AllocError, Global};
 
 /// Where the frames of these runs begin.

@@ -1,8 +1,8 @@
 //! A script's run.
-use cs_script::the_core::Core;
 use cs_deps::Refusal;
 use cs_disk::CrashDisk;
 use cs_frame::Geometry;
+use cs_script::the_core::Core;
 use cs_script::{new_in_memory, print_no_store, run_script};
 use std::alloc::Global;
 
