@@ -13,3 +13,4 @@ pub mod Stats
 pub mod Repairs
 pub mod Tellings
 pub mod Copies
+pub mod Advices

@@ -1,5 +1,6 @@
 //! What a refusal means, and what to do about it.
-ghost use Rattle.std.specs.Prelude.{◌≡◌, ◌<◌, length};
+ghost use Rattle.std.specs.Prelude.{◌≡◌, ◌<◌, false, length};
+ghost use Rattle.cs_tools.specs.Advices.{says_make, words_of};
 ghost use Rattle.cs_tools.specs.declared.advices.Todo.TheVariants.{Make};
 ghost use Rattle.cs_tools.specs.declared.knowns.Content.TheVariants.{Empty};
 
@@ -120,6 +121,7 @@ pub fn system_text(fault: SystemFault) -> &'static str
 /// byte.
 pub fn advice(refusal: Refusal, known: &Known) -> Todo
     ensures make { result ≡ Make → known.now.content ≡ Empty }
+    ensures words { says_make (words_of result) ≡ false }
 {
     match refusal {
         Refusal::DeviceFault => Todo::Text(advice_of_system(known.system)),
@@ -139,6 +141,7 @@ pub fn advice(refusal: Refusal, known: &Known) -> Todo
 /// What to do about a page that isn't as it must be, by what the file holds.
 fn advice_of_content(refusal: Refusal, content: Content) -> Todo
     ensures make { result ≡ Make → content ≡ Empty }
+    ensures words { says_make (words_of result) ≡ false }
 {
     match content {
         Content::Empty => Todo::Make,
@@ -154,7 +157,8 @@ fn advice_of_content(refusal: Refusal, content: Content) -> Todo
 
 /// What to do about a page of a store of this format.
 fn advice_of_store(refusal: Refusal, format: u8) -> &'static str
-    ensures { 0 < length result.now }
+    ensures some { 0 < length result.now }
+    ensures words { says_make result.now ≡ false }
 {
     let other = if format == 3 { NOT_WHOLE } else { OLDER };
     advice_of_damage(refusal, other)
@@ -162,8 +166,10 @@ fn advice_of_store(refusal: Refusal, format: u8) -> &'static str
 
 /// What to do about a damaged page, or this where the refusal is of none.
 fn advice_of_damage(refusal: Refusal, other: &'static str) -> &'static str
-    requires { 0 < length other.now }
-    ensures { 0 < length result.now }
+    requires some { 0 < length other.now }
+    requires words { says_make other.now ≡ false }
+    ensures some { 0 < length result.now }
+    ensures words { says_make result.now ≡ false }
 {
     match refusal {
         Refusal::Misplaced => MISPLACED,
@@ -175,7 +181,8 @@ fn advice_of_damage(refusal: Refusal, other: &'static str) -> &'static str
 
 /// What to do where the system refused a call so.
 pub fn advice_of_system(fault: Option<SystemFault>) -> &'static str
-    ensures { 0 < length result.now }
+    ensures some { 0 < length result.now }
+    ensures words { says_make result.now ≡ false }
 {
     match fault {
         None => {
@@ -205,7 +212,8 @@ pub fn advice_of_system(fault: Option<SystemFault>) -> &'static str
 
 /// What to do about a refusal that isn't of a page or of the device.
 fn advice_of_call(refusal: Refusal) -> &'static str
-    ensures { 0 < length result.now }
+    ensures some { 0 < length result.now }
+    ensures words { says_make result.now ≡ false }
 {
     match refusal {
         Refusal::OddLength => {
