@@ -6,8 +6,8 @@ use cs_frame::Geometry;
 use std::alloc::Global;
 use std::fs::File;
 use std::rt::Files;
-use std::thread;
 use std::time::{Clock, Duration};
+use std::{fs, thread};
 
 /// A file of a store, what it is opened for, and for how many seconds at most it is waited for.
 #[derive(Clone, Copy)]
@@ -49,6 +49,14 @@ impl OverFile for FileDisk {
 impl OverFile for ReadOnly<FileDisk> {
     fn fault(&self) -> Option<SystemFault> {
         self.below().last_fault()
+    }
+}
+
+/// Whether what is under a name is neither a regular file nor a folder: a device or a pipe, which no store lies in, and whose opening may wait for ever.
+pub fn is_special<R: Files<File = File>>(rt: &R, path: &str) -> bool {
+    match fs::metadata(rt, path) {
+        Ok(about) => !about.is_file() && !about.is_dir(),
+        Err(_) => false,
     }
 }
 

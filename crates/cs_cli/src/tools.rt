@@ -4,7 +4,7 @@ ghost use Rattle.std.specs.Prelude.{◌≤◌};
 use crate::benches::bench_in_file;
 use crate::copies::copy_file;
 use crate::creates::create_in_file;
-use crate::files::Place;
+use crate::files::{Place, is_special};
 use crate::manners::Manner;
 use crate::queries::{ask_file, query_of};
 use crate::repairs::{Loss, repair_file};
@@ -78,6 +78,14 @@ fn tell_no_file<R: Eprint>(rt: &R, none: NoFile) -> u8
     cs_status::COMMAND_LINE
 }
 
+/// Reports that a device or a pipe is named, and gives the exit status.
+fn tell_special<R: Eprint>(rt: &R, path: &str) -> u8
+    ensures { result ≤ 7 }
+{
+    let _ = eprintln!(rt; "error: {path} is a device or a pipe: a store lies in a regular file");
+    cs_status::NOT_THERE
+}
+
 /// Copies the store in one file into another.
 fn copy_named<R: AllocGlobal + Clock + Files<File = File> + Print + Eprint>(
     rt: &R,
@@ -87,6 +95,7 @@ fn copy_named<R: AllocGlobal + Clock + Files<File = File> + Print + Eprint>(
     ensures { result ≤ 7 }
 {
     match (options.get_str("source"), options.get_str("target")) {
+        (Some(path), Some(_)) if is_special(rt, path) => tell_special(rt, path),
         (Some(path), Some(target)) => {
             let place = place_to_read(path, options);
             copy_file(rt, place, target, options, manner)
@@ -136,6 +145,7 @@ where
     match name {
         "create" => create_in_file(rt, path, options, manner),
         "bench" => bench_in_file(rt, path, options, manner),
+        _ if is_special(rt, path) => tell_special(rt, path),
         "get" | "put" | "del" => match id_of(options) {
             Some(id) => run_on_shard(rt, order, id),
             None => tell_no_id(rt),
