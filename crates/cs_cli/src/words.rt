@@ -1,4 +1,5 @@
 //! The words of the command line and of the environment.
+ghost use Rattle.std.specs.Prelude.{◌≤◌};
 
 use std::rt::Env;
 use std::{env, io, str};
@@ -22,34 +23,39 @@ const WORDS: usize = 65_536;
 
 const LENGTH: usize = 4_096;
 
-/// The number of the first word that isn't UTF-8, the word after the program's being number 1.
-fn first_unreadable<R: Env>(rt: &R) -> Option<usize> {
+/// Reports that the words can't be read, and gives the exit status.
+pub fn tell_unreadable<R: Env + Eprint>(rt: &R, error: io::Error) -> u8
+    ensures { result ≤ 7 }
+{
+    if !is_word_told(rt) {
+        let _ = eprintln!(rt; "error: {error}");
+    }
+    cs_status::COMMAND_LINE
+}
+
+/// Reports the first word that isn't UTF-8, and returns whether there is one.
+fn is_word_told<R: Env + Eprint>(rt: &R) -> bool {
     for number in 0..WORDS {
         let mut buffer = [0; LENGTH];
         match rt.arg(number, &mut buffer) {
             Ok(length) => {
-                if str::from_utf8(&buffer[..length]).is_err() {
-                    return Some(number);
+                let word = &buffer[..length];
+                if str::from_utf8(word).is_err() {
+                    tell_word(rt, number, word);
+                    return true;
                 }
             }
-            Err(env::FillError::NotPresent) => return None,
+            Err(env::FillError::NotPresent) => return false,
             Err(env::FillError::TooLong) => {}
         }
     }
-    None
+    false
 }
 
-/// Reports that the words can't be read, and gives the exit status.
-pub fn tell_unreadable<R: Env + Eprint>(rt: &R, error: io::Error) -> u8 {
-    match first_unreadable(rt) {
-        Some(number) => {
-            let _ = eprintln!(rt;
-                "error: argument {number} is not UTF-8; for a file make a link with a name that is, and name that: ln -s FILE s.store"
-            );
-        }
-        None => {
-            let _ = eprintln!(rt; "error: {error}");
-        }
-    }
-    cs_status::COMMAND_LINE
+/// Reports a word that isn't UTF-8 by its bytes. The word after the program's is number 1.
+fn tell_word<R: Eprint>(rt: &R, number: usize, word: &[u8]) {
+    let word = word.escape_ascii();
+    let _ = eprintln!(rt;
+        "error: argument {number} is not UTF-8: {word}; for a file make a link with a name that is, and name that: ln -s FILE s.store"
+    );
 }
