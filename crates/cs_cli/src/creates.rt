@@ -18,14 +18,6 @@ use std::io::Write;
 use std::rt::Files;
 use std::{fs, io};
 
-/// A new file: its path, the geometry of the store in it, and its permissions.
-#[derive(Clone, Copy)]
-pub struct Plot<'a> {
-    pub path: &'a str,
-    pub geometry: Geometry,
-    pub mode: u32,
-}
-
 /// Makes a new store in a file, and gives the exit status.
 pub fn create_in_file<R: AllocGlobal + Files<File = File> + Print + Eprint>(
     rt: &R,
@@ -43,13 +35,8 @@ pub fn create_in_file<R: AllocGlobal + Files<File = File> + Print + Eprint>(
     let Some(mode) = mode_given(rt, options) else {
         return cs_status::COMMAND_LINE;
     };
-    let plot = Plot {
-        path,
-        geometry,
-        mode,
-    };
-    match make(rt, plot, manner) {
-        Ok(()) => tell_created(rt, plot, manner),
+    match make(rt, path, geometry, mode, manner) {
+        Ok(()) => tell_created(rt, path, geometry, manner),
         Err(unopened) => explain_unopened(rt, &unopened, manner.style),
     }
 }
@@ -153,38 +140,45 @@ fn tell_too_small<R: Eprint>(rt: &R, wish: Wish, small: TooSmall, manner: Manner
 /// Makes a new file with an empty store. Where that fails there is no file.
 fn make<R: AllocGlobal + Files<File = File> + Eprint>(
     rt: &R,
-    plot: Plot,
+    path: &str,
+    geometry: Geometry,
+    mode: u32,
     manner: Manner,
 ) -> Result<(), Unopened> {
-    let pages = plot.geometry.device_pages();
-    tell_making(rt, plot.path, pages, manner);
-    let made = make_store_in(rt, plot);
-    tell_ended(rt, plot.path, pages, manner, &made);
+    let pages = geometry.device_pages();
+    tell_making(rt, path, pages, manner);
+    let made = make_store_in(rt, path, geometry, mode);
+    tell_ended(rt, path, pages, manner, &made);
     made
 }
 
 /// The same, without a word on it.
-fn make_store_in<R: AllocGlobal + Files<File = File>>(rt: &R, plot: Plot) -> Result<(), Unopened> {
-    let disk = match new_disk(rt, plot.path, plot.geometry, plot.mode) {
+fn make_store_in<R: AllocGlobal + Files<File = File>>(
+    rt: &R,
+    path: &str,
+    geometry: Geometry,
+    mode: u32,
+) -> Result<(), Unopened> {
+    let disk = match new_disk(rt, path, geometry, mode) {
         Ok(disk) => disk,
         Err(fault) => return Err(Unopened::of_file(rt.alloc(), fault)),
     };
-    match make_store(rt.alloc(), disk, plot.geometry, limits()) {
+    match make_store(rt.alloc(), disk, geometry, limits()) {
         Ok(_) => Ok(()),
         Err((refusal, disk)) => {
             let mut disk = disk;
             let unopened = Unopened::of_disk(rt.alloc(), refusal, &mut disk);
-            let _ = fs::remove_file(rt, plot.path);
+            let _ = fs::remove_file(rt, path);
             Err(unopened)
         }
     }
 }
 
 /// Prints what was made, and that its format isn't the last one, and gives the exit status.
-fn tell_created<R: Print + Eprint>(rt: &R, plot: Plot, manner: Manner) -> u8
+fn tell_created<R: Print + Eprint>(rt: &R, path: &str, geometry: Geometry, manner: Manner) -> u8
     ensures { result ≤ 7 }
 {
-    let outcome = match print_created(plot, manner.style, &mut io::writer(rt)) {
+    let outcome = match print_created(path, geometry, manner.style, &mut io::writer(rt)) {
         Ok(()) => Outcome::Done,
         Err(_) => Outcome::Failed,
     };
@@ -209,7 +203,9 @@ pub fn warn_of_format<R: Eprint>(rt: &R, style: Style) {
 }
 
 /// How many extents hold the runs of the index at most.
-fn run_extents(extents: u64) -> u64 {
+fn run_extents(extents: u64) -> u64
+    ensures { result ≤ 2 }
+{
     if extents >= 16 { 2 } else { 1 }
 }
 
@@ -226,8 +222,12 @@ pub fn plural_of(count: u8) -> &'static str {
 }
 
 /// Prints what was made.
-fn print_created<W: Write>(plot: Plot, style: Style, writer: &mut W) -> io::Result<()> {
-    let Plot { path, geometry, .. } = plot;
+fn print_created<W: Write>(
+    path: &str,
+    geometry: Geometry,
+    style: Style,
+    writer: &mut W,
+) -> io::Result<()> {
     let extents = geometry.extents();
     let pages = geometry.pages();
     let sections = geometry.sections();

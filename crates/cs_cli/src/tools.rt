@@ -21,15 +21,6 @@ use std::io::BufWriter;
 use std::rt::Files;
 use std::time::Clock;
 
-/// A command: its name, its options, the file it is about, and how it reports.
-#[derive(Clone, Copy)]
-pub struct Order<'a> {
-    pub name: &'a str,
-    pub options: &'a ArgMatches<'a>,
-    pub path: &'a str,
-    pub manner: Manner,
-}
-
 /// Does what these words ask for, and gives the exit status. The environment may name the file.
 pub fn run_tool<R: AllocGlobal + Clock + Files<File = File> + Input + Print + Eprint>(
     rt: &R,
@@ -50,15 +41,7 @@ where
         return copy_named(rt, options, manner);
     }
     match file_of(options, environment) {
-        Ok(path) => run_order(
-            rt,
-            Order {
-                name,
-                options,
-                path,
-                manner,
-            },
-        ),
+        Ok(path) => run_on_file(rt, name, options, path, manner),
         Err(none) => tell_no_file(rt, none),
     }
 }
@@ -127,34 +110,30 @@ fn place_to_write<'a>(path: &'a str, options: &ArgMatches) -> Place<'a> {
     }
 }
 
-/// Does a command about a file.
-fn run_order<R: AllocGlobal + Clock + Files<File = File> + Input + Print + Eprint>(
+/// Does the command of this name about a file.
+fn run_on_file<R: AllocGlobal + Clock + Files<File = File> + Input + Print + Eprint>(
     rt: &R,
-    order: Order,
+    name: &str,
+    options: &ArgMatches,
+    path: &str,
+    manner: Manner,
 ) -> u8
 where
     R::Reader: Drop,
     ensures { result ≤ 7 }
 {
-    let Order {
-        name,
-        options,
-        path,
-        manner,
-    } = order;
     match name {
         "create" => create_in_file(rt, path, options, manner),
         "bench" => bench_in_file(rt, path, options, manner),
         _ if is_special(rt, path) => tell_special(rt, path),
-        "get" | "put" | "del" => match id_of(options) {
-            Some(id) => run_on_shard(rt, order, id),
-            None => tell_no_id(rt),
-        },
-        _ if options.get_flag("salvage") => run_salvage(rt, order),
-        _ if options.get_flag("repair") || options.get_flag("accept-loss") => {
-            run_repair(rt, order)
+        "get" | "put" | "del" => run_on_shard(rt, name, options, path, manner),
+        "list" | "export" if options.get_flag("salvage") => {
+            run_salvage(rt, name, options, path, manner)
         }
-        _ => run_query(rt, order),
+        "scrub" if options.get_flag("repair") || options.get_flag("accept-loss") => {
+            run_repair(rt, options, path, manner)
+        }
+        _ => run_query(rt, name, options, path, manner),
     }
 }
 
@@ -168,50 +147,56 @@ fn tell_no_id<R: Eprint>(rt: &R) -> u8
     cs_status::COMMAND_LINE
 }
 
-/// Does a command over one shard.
+/// Does the command of this name with one shard.
 fn run_on_shard<R: AllocGlobal + Clock + Files<File = File> + Input + Print + Eprint>(
     rt: &R,
-    order: Order,
-    id: ShardId,
+    name: &str,
+    options: &ArgMatches,
+    path: &str,
+    manner: Manner,
 ) -> u8
 where
     R::Reader: Drop,
     ensures { result ≤ 7 }
 {
-    let Order {
-        name,
-        options,
-        path,
-        manner,
-    } = order;
-    let place = place_to_write(path, options);
+    let Some(id) = id_of(options) else {
+        return tell_no_id(rt);
+    };
     match name {
-        "put" => put_into_file(rt, place, id, manner),
-        "del" => delete_from_file(rt, place, id, manner),
-        _ => {
-            let place = place_to_read(path, options);
-            if options.get_flag("salvage") {
-                get_rest(rt, place, id, manner)
-            } else {
-                get_from_file(rt, place, options.get_flag("as-of"), id, manner)
-            }
-        }
+        "put" => put_into_file(rt, place_to_write(path, options), id, manner),
+        "del" => delete_from_file(rt, place_to_write(path, options), id, manner),
+        _ => get_shard(rt, options, path, id, manner),
+    }
+}
+
+/// Writes out a shard, or what can be read of one.
+fn get_shard<R: AllocGlobal + Clock + Files<File = File> + Print + Eprint>(
+    rt: &R,
+    options: &ArgMatches,
+    path: &str,
+    id: ShardId,
+    manner: Manner,
+) -> u8
+    ensures { result ≤ 7 }
+{
+    let place = place_to_read(path, options);
+    if options.get_flag("salvage") {
+        get_rest(rt, place, id, manner)
+    } else {
+        get_from_file(rt, place, options.get_flag("as-of"), id, manner)
     }
 }
 
 /// Lists or exports what can be read of a store that is damaged.
 fn run_salvage<R: AllocGlobal + Clock + Files<File = File> + Print + Eprint>(
     rt: &R,
-    order: Order,
+    name: &str,
+    options: &ArgMatches,
+    path: &str,
+    manner: Manner,
 ) -> u8
     ensures { result ≤ 7 }
 {
-    let Order {
-        name,
-        options,
-        path,
-        manner,
-    } = order;
     let place = place_to_read(path, options);
     if name == "list" {
         return match listing_of(options) {
@@ -229,16 +214,12 @@ fn run_salvage<R: AllocGlobal + Clock + Files<File = File> + Print + Eprint>(
 /// Repairs a store, and scrubs it.
 fn run_repair<R: AllocGlobal + Clock + Files<File = File> + Print + Eprint>(
     rt: &R,
-    order: Order,
+    options: &ArgMatches,
+    path: &str,
+    manner: Manner,
 ) -> u8
     ensures { result ≤ 7 }
 {
-    let Order {
-        options,
-        path,
-        manner,
-        ..
-    } = order;
     if !options.get_flag("repair") {
         let _ = eprintln!(rt; "error: --accept-loss is for --repair");
         return cs_status::COMMAND_LINE;
@@ -257,19 +238,16 @@ fn run_repair<R: AllocGlobal + Clock + Files<File = File> + Print + Eprint>(
     repair_file(rt, place_to_write(path, options), loss, manner)
 }
 
-/// Asks the store in a file, or does what is asked with the whole of it.
+/// Asks the store in a file, or does what the command of this name does with the whole of it.
 fn run_query<R: AllocGlobal + Clock + Files<File = File> + Print + Eprint>(
     rt: &R,
-    order: Order,
+    name: &str,
+    options: &ArgMatches,
+    path: &str,
+    manner: Manner,
 ) -> u8
     ensures { result ≤ 7 }
 {
-    let Order {
-        name,
-        options,
-        path,
-        manner,
-    } = order;
     let place = if name == "reclaim" {
         place_to_write(path, options)
     } else {
