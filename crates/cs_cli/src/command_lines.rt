@@ -79,8 +79,9 @@ fn print_error<R: Print + Eprint>(rt: &R, error: &clap::Error) -> u8
 
 /// Does what the words were found to ask for, and gives the exit status. A subcommand is required.
 fn run_matches<
+    'a,
     R: AllocGlobal + Clock + Files<File = File> + Input + Print + Eprint + Threads + Wait + Sync,
->(rt: &R, matches: &ArgMatches, environment: Option<&str>, terminal: bool) -> u8
+>(rt: &R, matches: &ArgMatches<'a>, environment: Option<&'a str>, terminal: bool) -> u8
 where
     R::Reader: Drop,
     ensures { result ≤ 7 }

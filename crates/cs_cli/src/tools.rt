@@ -22,11 +22,11 @@ use std::rt::Files;
 use std::time::Clock;
 
 /// Does what these words ask for, and gives the exit status. The environment may name the file.
-pub fn run_tool<R: AllocGlobal + Clock + Files<File = File> + Input + Print + Eprint>(
+pub fn run_tool<'a, R: AllocGlobal + Clock + Files<File = File> + Input + Print + Eprint>(
     rt: &R,
     name: &str,
-    options: &ArgMatches,
-    environment: Option<&str>,
+    options: &ArgMatches<'a>,
+    environment: Option<&'a str>,
     terminal: bool,
 ) -> u8
 where
