@@ -5,6 +5,7 @@
 
 #[cfg(test)]
 mod geometries;
+#[cfg(test)]
 mod nodes;
 #[cfg(test)]
 mod numbers;
