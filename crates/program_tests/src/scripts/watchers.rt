@@ -75,7 +75,9 @@ fn tells(
 #[test]
 fn why_lines_are_bad(rt: HostRuntime) -> Result<(), Fail> {
     for (line, why) in REASONS {
-        let length = line.len() + 30 * line.matches('@').count();
+        let length = line
+            .len()
+            .saturating_add(line.matches('@').count().saturating_mul(30));
         let told = format!(in rt.alloc(); "1 ({length}) bad line: {why}")?;
         tells(&rt, line, 0, ("bad line", &told), 1)?;
     }
