@@ -48,8 +48,7 @@ pub struct Document {
 ///
 /// 10 BadDocument where the text is no such document, 9 OutOfMemory where a growth was refused.
 ///
-/// It takes time in the order of the text's length, but for sorting. If the plain writes in one list of names have gaps
-/// between their numbers, each two of the runs without a gap are compared too.
+/// It takes time in the order of the text's length, but for sorting.
 pub fn from_document(alloc: Global, text: &str) -> Result<Document, CheckFault>
     ensures says { IfOk result (λ doc. (d : Data) × (read text.now ≡ Some d) × IsDocumentOf d doc.letters.items (pending_of doc.view) doc.target (rounds_of doc.plan) doc.plan.chain.items) }
     ensures well_formed { IfOk result (λ doc. IsWellFormed (pending_of doc.view) doc.target (rounds_of doc.plan) doc.plan.chain.items) }

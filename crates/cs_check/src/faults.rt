@@ -2,7 +2,7 @@
 ghost use Rattle.std.specs.Prelude.{◌≡◌};
 ghost use Rattle.cs_check.specs.declared.faults.CheckFault.TheVariants.{OutOfMemory};
 
-use cs_deps::Refusal;
+use cs_refusal::Refusal;
 use std::alloc::{AllocError, AllocFailed};
 use thiserror::Error;
 

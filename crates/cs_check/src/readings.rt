@@ -13,8 +13,8 @@ ghost use Rattle.cs_check.specs.Progress.{elements_of};
 
 use crate::documents::Document;
 use crate::faults::CheckFault;
+use crate::name_runs::named;
 use crate::noted::{Places, places_of};
-use crate::runs::named;
 use crate::values::{element, elements, items, letters, member, rounds, versions};
 use crate::verdicts::well_formed;
 use cs_deps::{Dependency, Element, GraphView, Plan};

@@ -17,10 +17,10 @@ use Rattle.cs_extent.proofs.Fitting.{pointer_grows, with_same}
 use Rattle.cs_extent.proofs.Given.{in_either}
 use Rattle.cs_extent.proofs.Staged.{get_front}
 use Rattle.cs_frame.specs.declared.locators.Locator.{Locator}
-use Rattle.cs_model.specs.Device.{mark_of}
-use Rattle.cs_model.specs.Extents.{Extents, Purpose as Reason}
-use Rattle.cs_model.specs.Lists.{with}
-use Rattle.cs_model.proofs.Places.{goes_inside}
+use Rattle.law_machine.specs.Device.{mark_of}
+use Rattle.law_machine.specs.Extents.{Extents, Purpose as Reason}
+use Rattle.law_machine.specs.Lists.{with}
+use Rattle.law_machine.proofs.Places.{goes_inside}
 
 get_back : {X : Type 0} (xs ys : List X) (i : ℕ) (x : X) → slice_get ys i ≡ Some x → slice_get (xs ++ ys) (length xs + i) ≡ Some x
 get_back [] ys i x h = let same : i ≡ 0 + i = omega arith in subst (λ k. slice_get ys k ≡ Some x) same h

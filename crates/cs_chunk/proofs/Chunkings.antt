@@ -10,13 +10,13 @@ use Rattle.cs_frame.specs.Formats.{formats_of}
 use Rattle.cs_frame.specs.Frames.{frame_bytes, page_count, spelled_frame}
 use Rattle.cs_frame.proofs.HeadLaws.{length-head}
 use Rattle.cs_frame.proofs.Pieces.{length-first_chunks}
-use Rattle.cs_model.specs.Append.{chunk_frames, page_counts}
-use Rattle.cs_model.specs.Device.{Shape}
-use Rattle.cs_model.specs.Events.{AllFullButLast, ArePayloads, Chunked, with_heads}
-use Rattle.cs_model.specs.Geometry.{chunk_bytes_in, head_bytes_in}
-use Rattle.cs_model.specs.Index.{joined}
-use Rattle.cs_model.proofs.Chunks.{chunked_one}
-use Rattle.cs_model.proofs.Payloads.{payloads_one}
+use Rattle.law_machine.specs.Append.{chunk_frames, page_counts}
+use Rattle.law_machine.specs.Device.{Shape}
+use Rattle.law_machine.specs.Events.{AllFullButLast, ArePayloads, Chunked, with_heads}
+use Rattle.law_machine.specs.Geometry.{chunk_bytes_in, head_bytes_in}
+use Rattle.law_machine.specs.Index.{joined}
+use Rattle.law_machine.proofs.Chunks.{chunked_one}
+use Rattle.law_machine.proofs.Payloads.{payloads_one}
 
 pub length-spelled : (kind : ℕ) (payload : List ℕ) → length (spelled_frame kind payload) ≡ page_count (length payload)
 length-spelled kind payload = length-first_chunks 4096 (page_count (length payload)) (frame_bytes kind payload)

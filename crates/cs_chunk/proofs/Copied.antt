@@ -2,8 +2,8 @@
 use Rattle.std.proofs.Common.{◌≡◌, ◌∙◌, ℕ, List, Option, None, Ok, Err, inl, inr, subst, sym}
 use Rattle.std.specs.Prelude.{IfErr, IfOk, MatchResult, Result}
 use Rattle.cs_chunk.specs.Reads.{AnswersFault, IsNoAnswer, IsReadRefusal}
-use Rattle.cs_deps.specs.declared.refusals.Refusal.{Refusal}
-use Rattle.cs_deps.specs.declared.refusals.Refusal.TheVariants.{OutOfMemory}
+use Rattle.cs_refusal.specs.declared.refusals.Refusal.{Refusal}
+use Rattle.cs_refusal.specs.declared.refusals.Refusal.TheVariants.{OutOfMemory}
 use Rattle.cs_frame.specs.declared.faults.FormatFault.{FormatFault}
 
 module _ {V : Type 0} (frame : List ℕ) (items : V → List ℕ) where

@@ -6,9 +6,9 @@ use Rattle.cs_extent.specs.State.{State, shape}
 use Rattle.cs_frame.specs.Frames.{payload_mark, spelled_frame}
 use Rattle.cs_frame.specs.declared.locators.Locator.{Locator}
 use Rattle.cs_frame.proofs.MarkLaws.{mark_of_frame, mark_of_pages, one_front}
-use Rattle.cs_model.specs.Device.{mark_of}
-use Rattle.cs_model.specs.Formats.{ChunkFrame}
-use Rattle.cs_model.specs.Geometry.{marks_in}
+use Rattle.law_machine.specs.Device.{mark_of}
+use Rattle.law_machine.specs.Formats.{ChunkFrame}
+use Rattle.law_machine.specs.Geometry.{marks_in}
 
 -- a place whose frame has this payload has its mark
 mark_is : (x : State) (l : Locator) (c : List ℕ) → marks_in x.format ≡ true → IsMeant (shape x) ChunkFrame l c → payload_mark c ≡ l.mark

@@ -2,9 +2,10 @@
 use Rattle.std.proofs.Common.{◌≡◌, ◌≢◌, ◌∙◌, ℕ, ◌≤◌, ◌⊎◌, Bool, true, false, List, [], ◌∷◌, codes, length, Option, Some, None, refl, sym, ap, subst, inl, inr, ⊎_elim, arith, bytes_eq, nat_le, drop, ◌+◌, slice_index}
 use Rattle.std.specs.Prelude.{◌==◌}
 use Rattle.std.proofs.lemmas.Option.{same_Some}
-use Rattle.cs_chunk.specs.Reads.{IsFrameRefusal, IsNoAnswer, IsOfFault, IsReadRefusal, refusal_for}
-use Rattle.cs_deps.specs.declared.refusals.Refusal.{Refusal}
-use Rattle.cs_deps.specs.Refusals.{number_of}
+use Rattle.cs_chunk.specs.Reads.{IsFrameRefusal, IsNoAnswer, IsOfFault, IsReadRefusal}
+use Rattle.cs_frame.specs.Refusals.{refusal_for}
+use Rattle.cs_refusal.specs.declared.refusals.Refusal.{Refusal}
+use Rattle.cs_refusal.specs.Refusals.{number_of}
 use Rattle.cs_frame.specs.declared.faults.FormatFault.{FormatFault}
 use Rattle.cs_frame.specs.declared.faults.FormatFault.TheVariants.{BadGeometry, OutOfMemory, BadMagic, BadDigest, BadLength, BadPadding, BadVersion, OutOfOrder, Misplaced}
 use Rattle.cs_frame.specs.Bytes.{all_zero, field}
@@ -12,7 +13,7 @@ use Rattle.cs_frame.specs.Faults.{fault_number, first_fault, unless}
 use Rattle.cs_frame.specs.Frames.{bytes_in, first_page, frame_count, frame_fault, header_fault, kind_test, meant_fault, page_count, payload_length, payload_test, rest_test, room_test}
 use Rattle.cs_frame.specs.Pages.{magic_test, version_test}
 use Rattle.cs_frame.proofs.MarkLaws.{meant_finds}
-use Rattle.cs_model.specs.Geometry.{mark_in}
+use Rattle.law_machine.specs.Geometry.{mark_in}
 
 -- the faults that a frame may have
 abbrev pub IsInRange : FormatFault → Type 0

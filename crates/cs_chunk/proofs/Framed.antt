@@ -7,7 +7,7 @@ use Rattle.cs_chunk.specs.Newest.{AreNewest, IsReadAs}
 use Rattle.cs_chunk.specs.Reads.{AnswersFault, AreReadAs, IsFrameFront, IsNoAnswer, IsOfFault, fault_in, pages_in}
 use Rattle.cs_chunk.proofs.Chunkings.{length-spelled}
 use Rattle.cs_chunk.proofs.Newest.{reads_image, reads_newest}
-use Rattle.cs_deps.specs.declared.refusals.Refusal.{Refusal}
+use Rattle.cs_refusal.specs.declared.refusals.Refusal.{Refusal}
 use Rattle.cs_deps.specs.State.{IsNewestOn, NoneOn, State as Graph}
 use Rattle.cs_disk.specs.Disk.{Image, page}
 use Rattle.cs_extent.specs.State.{IsWhole, State, extents_of, shape}
@@ -21,11 +21,11 @@ use Rattle.cs_frame.proofs.FormatLaws.{is_format}
 use Rattle.cs_frame.specs.Faults.{first_fault}
 use Rattle.cs_frame.proofs.FrameLaws.{fault_of_taken, header_first}
 use Rattle.cs_frame.proofs.MarkLaws.{finds_meant, mark_of_pages, meant_passes, passes_meant}
-use Rattle.cs_model.proofs.Filled.{reach_above, reach_low}
-use Rattle.cs_model.proofs.Meant.{stands_first}
-use Rattle.cs_model.specs.Device.{Shape, mark_of}
-use Rattle.cs_model.specs.Formats.{Formats, Stand, pages_from}
-use Rattle.cs_model.specs.Geometry.{mark_in}
+use Rattle.law_machine.proofs.Filled.{reach_above, reach_low}
+use Rattle.law_machine.proofs.Meant.{stands_first}
+use Rattle.law_machine.specs.Device.{Shape, mark_of}
+use Rattle.law_machine.specs.Formats.{Formats, Stand, pages_from}
+use Rattle.law_machine.specs.Geometry.{mark_in}
 
 -- what is read is what the view has
 pub reads_same : (g : Graph) (image : Image) (view : ℕ → List ℕ) (p : ℕ) (b : List ℕ) → AreNewest g image view → IsReadAs g image p b → b ≡ view p

@@ -7,13 +7,14 @@ use Rattle.std.proofs.lemmas.Option.{same_Some}
 use Rattle.cs_chunk.specs.Chunks.{AreChunksIn, IsFrameIn, end_in, kind_of}
 use Rattle.cs_chunk.specs.Lengths.{AreHeadersIn, IsHeaderRefusal, IsOfFaultOrMark, IsOfHeaderIn, body_length_at, header_fault_in, length_at, lengths_at}
 use Rattle.cs_chunk.specs.Newest.{AreNewest, IsReadAs}
-use Rattle.cs_chunk.specs.Reads.{AnswersFault, IsCaused, IsNoAnswer, IsOfFault, fault_in, pages_in, refusal_for}
+use Rattle.cs_chunk.specs.Reads.{AnswersFault, IsCaused, IsNoAnswer, IsOfFault, fault_in, pages_in}
+use Rattle.cs_frame.specs.Refusals.{refusal_for}
 use Rattle.cs_chunk.proofs.Chunkings.{length-spelled}
 use Rattle.cs_chunk.proofs.Framed.{end_low, first_is, header_at, no_fault_there, reads_same}
 use Rattle.cs_chunk.proofs.Newest.{of_stand}
 use Rattle.cs_chunk.proofs.Sharded.{at_place, chunk_at}
-use Rattle.cs_deps.specs.declared.refusals.Refusal.{Refusal}
-use Rattle.cs_deps.specs.declared.refusals.Refusal.TheVariants.{DeviceFault}
+use Rattle.cs_refusal.specs.declared.refusals.Refusal.{Refusal}
+use Rattle.cs_refusal.specs.declared.refusals.Refusal.TheVariants.{DeviceFault}
 use Rattle.cs_deps.specs.State.{State as Graph}
 use Rattle.cs_disk.specs.Disk.{Image}
 use Rattle.cs_extent.specs.State.{IsWhole, State, shape}
@@ -31,9 +32,9 @@ use Rattle.cs_frame.specs.Pages.{version_test}
 use Rattle.cs_frame.proofs.Fields.{number_at}
 use Rattle.cs_frame.proofs.MarkLaws.{meant_finds, meant_passes, passes_meant}
 use Rattle.cs_frame.proofs.GeometryLaws.{bounds}
-use Rattle.cs_model.specs.Formats.{Formats}
-use Rattle.cs_model.specs.Geometry.{head_bytes_in, mark_in}
-use Rattle.cs_model.specs.Index.{joined_bodies}
+use Rattle.law_machine.specs.Formats.{Formats}
+use Rattle.law_machine.specs.Geometry.{head_bytes_in, mark_in}
+use Rattle.law_machine.specs.Index.{joined_bodies}
 
 -- ---- the refusals of a header
 

@@ -7,9 +7,9 @@ use Rattle.cs_chunk.specs.Newest.{AreNewest}
 use Rattle.cs_deps.specs.declared.elements.Element.TheVariants.{Plain}
 use Rattle.cs_deps.specs.State.{IsNewestOn, NoneOn, State, Write, write_of}
 use Rattle.cs_disk.specs.Disk.{Image, page}
-use Rattle.cs_model.specs.Device.{Shape}
-use Rattle.cs_model.specs.Formats.{Formats, Stand}
-use Rattle.cs_model.specs.Geometry.{shape_of}
+use Rattle.law_machine.specs.Device.{Shape}
+use Rattle.law_machine.specs.Formats.{Formats, Stand}
+use Rattle.law_machine.specs.Geometry.{shape_of}
 
 -- two newest writes to a page are one
 pub one_newest : (g : State) (p : ℕ) (a b : List ℕ) → IsNewestOn g p a → IsNewestOn g p b → a ≡ b

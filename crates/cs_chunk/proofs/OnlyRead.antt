@@ -4,7 +4,7 @@ use Rattle.std.proofs.lemmas.Bool.{cases_lt}
 use Rattle.std.proofs.lemmas.List.{get_or_append_left, get_or_push, length_push}
 use Rattle.cs_chunk.specs.Newest.{IsReadAs}
 use Rattle.cs_chunk.specs.Reads.{AreReadAs, IsCaused, IsNoAnswer, IsReadRefusal}
-use Rattle.cs_deps.specs.declared.refusals.Refusal.{Refusal}
+use Rattle.cs_refusal.specs.declared.refusals.Refusal.{Refusal}
 use Rattle.cs_deps.specs.State.{State as Graph}
 use Rattle.cs_disk.specs.Disk.{Image}
 

@@ -3,8 +3,8 @@ use Rattle.std.proofs.Common.{◌≡◌, ◌∙◌, ℕ, zero, suc, ◌+◌, ◌
 use Rattle.std.specs.Prelude.{All, map, min}
 use Rattle.std.proofs.lemmas.List.{length-replicate, take_more_set, take-replicate, take_min, drop_min, map_push}
 use Rattle.cs_chunk.specs.Cuts.{pieces}
-use Rattle.cs_model.specs.Events.{with_heads}
-use Rattle.cs_model.specs.Formats.{Formats}
+use Rattle.law_machine.specs.Events.{with_heads}
+use Rattle.law_machine.specs.Formats.{Formats}
 
 -- one more piece is cut off what is left, and goes behind its head
 pub heads_more : {X : Type 0} (F : Formats) (f : List ℕ → X) (id total command size count k : ℕ) (done all : List X) (rest : List ℕ) → k < count

@@ -4,17 +4,17 @@ use Rattle.std.specs.Prelude.{◌↔◌, Result, Err}
 use Rattle.cs_chunk.specs.declared.cuts.Cut.{Cut}
 use Rattle.cs_chunk.specs.Cuts.{IsCut, pages_of, pieces}
 use Rattle.cs_chunk.proofs.Chunkings.{cut_only, cut_pages, cut_payloads}
-use Rattle.cs_deps.specs.declared.refusals.Refusal.{Refusal}
-use Rattle.cs_deps.specs.declared.refusals.Refusal.TheVariants.{Full, TooLarge, WornOut}
+use Rattle.cs_refusal.specs.declared.refusals.Refusal.{Refusal}
+use Rattle.cs_refusal.specs.declared.refusals.Refusal.TheVariants.{Full, TooLarge, WornOut}
 use Rattle.cs_deps.specs.Staging.{Staging}
 use Rattle.cs_extent.specs.State.{IsWhole, State, extents_of, shape}
 use Rattle.cs_extent.specs.Worn.{AreWornBy}
 use Rattle.cs_frame.specs.Formats.{formats_of}
-use Rattle.cs_model.specs.Append.{chunk_frames, page_counts}
-use Rattle.cs_model.specs.Device.{Shape}
-use Rattle.cs_model.specs.Events.{ArePayloads, with_heads}
-use Rattle.cs_model.specs.Extents.{FitsBy, ForPut}
-use Rattle.cs_model.specs.Geometry.{heads_in}
+use Rattle.law_machine.specs.Append.{chunk_frames, page_counts}
+use Rattle.law_machine.specs.Device.{Shape}
+use Rattle.law_machine.specs.Events.{ArePayloads, with_heads}
+use Rattle.law_machine.specs.Extents.{FitsBy, ForPut}
+use Rattle.law_machine.specs.Geometry.{heads_in}
 
 -- a piece has a byte at least
 some_of : (b : Bool) (size pages : ℕ) → 2 ≤ pages → size ≡ 4096 * pages - (41 + (if b then 26 else 0)) → 0 < size

@@ -21,12 +21,12 @@ use Rattle.cs_extent.proofs.Sections.{section_there}
 use Rattle.cs_frame.specs.declared.locators.Locator.{Locator}
 use Rattle.cs_frame.specs.Formats.{formats_of}
 use Rattle.cs_frame.specs.Frames.{spelled_frame}
-use Rattle.cs_model.specs.Append.{chunk_frames, page_counts}
-use Rattle.cs_model.specs.Device.{Shape}
-use Rattle.cs_model.specs.Events.{ArePayloads, with_heads}
-use Rattle.cs_model.specs.Extents.{FitsBy, ForPut, Purpose as Reason}
-use Rattle.cs_model.specs.Formats.{Formats}
-use Rattle.cs_model.proofs.Payloads.{length_heads}
+use Rattle.law_machine.specs.Append.{chunk_frames, page_counts}
+use Rattle.law_machine.specs.Device.{Shape}
+use Rattle.law_machine.specs.Events.{ArePayloads, with_heads}
+use Rattle.law_machine.specs.Extents.{FitsBy, ForPut, Purpose as Reason}
+use Rattle.law_machine.specs.Formats.{Formats}
+use Rattle.law_machine.proofs.Payloads.{length_heads}
 
 length-frames : (S : Shape) (cs : List (List ℕ)) → length (chunk_frames S (formats_of S) cs) ≡ length cs
 length-frames S [] = refl

@@ -19,12 +19,12 @@ use Rattle.cs_extent.proofs.Staged.{frame_latest}
 use Rattle.cs_extent.proofs.Worn.{frame_counts, in_section_here, places_there, sum_of}
 use Rattle.cs_frame.specs.declared.locators.Locator.{Locator}
 use Rattle.cs_frame.specs.Formats.{formats_of}
-use Rattle.cs_model.specs.Append.{chunk_frames, page_counts}
-use Rattle.cs_model.specs.Device.{Shape}
-use Rattle.cs_model.specs.Extents.{Extents, FitsBy, ForPut, Goes, Purpose as Reason, reach, taken_by}
-use Rattle.cs_model.specs.Formats.{ChunkFrame}
-use Rattle.cs_model.proofs.Filled.{reach_end, reach_off}
-use Rattle.cs_model.proofs.Places.{goes_inside, goes_one}
+use Rattle.law_machine.specs.Append.{chunk_frames, page_counts}
+use Rattle.law_machine.specs.Device.{Shape}
+use Rattle.law_machine.specs.Extents.{Extents, FitsBy, ForPut, Goes, Purpose as Reason, reach, taken_by}
+use Rattle.law_machine.specs.Formats.{ChunkFrame}
+use Rattle.law_machine.proofs.Filled.{reach_end, reach_off}
+use Rattle.law_machine.proofs.Places.{goes_inside, goes_one}
 
 -- the graph's room doesn't matter
 pub appended_whatever : (apart : Bool) (x : State) (g k : Graph) (r : Reason) (fs : List (List (List ℕ))) (ls : List Locator) (y : State) (h : Graph) → k ≡ record g { room = k.room } → AreAppendedBy apart x k r fs ls y h → AreAppendedBy apart x g r fs ls y h

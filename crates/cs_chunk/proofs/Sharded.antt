@@ -4,14 +4,14 @@ use Rattle.std.proofs.lemmas.List.{take_more}
 use Rattle.cs_chunk.specs.Chunks.{AreChunksIn, AreMeant, IsFrameIn, IsMeant}
 use Rattle.cs_chunk.specs.Reads.{IsNoAnswer, IsOfChunkIn, IsOfFault, fault_in}
 use Rattle.cs_chunk.proofs.Framed.{no_fault_there, one_frame}
-use Rattle.cs_deps.specs.declared.refusals.Refusal.{Refusal}
+use Rattle.cs_refusal.specs.declared.refusals.Refusal.{Refusal}
 use Rattle.cs_extent.specs.State.{IsWhole, State, shape}
 use Rattle.cs_frame.specs.declared.frames.FrameKind.TheVariants.{Chunk}
 use Rattle.cs_frame.specs.declared.locators.Locator.{Locator}
 use Rattle.cs_frame.specs.Formats.{formats_of}
-use Rattle.cs_model.specs.Device.{Shape}
-use Rattle.cs_model.specs.Formats.{ChunkFrame, Formats}
-use Rattle.cs_model.specs.Index.{joined_bodies}
+use Rattle.law_machine.specs.Device.{Shape}
+use Rattle.law_machine.specs.Formats.{ChunkFrame, Formats}
+use Rattle.law_machine.specs.Index.{joined_bodies}
 
 joined_more : (F : Formats) (cs : List (List ℕ)) (c : List ℕ) → joined_bodies F (cs ++ c ∷ []) ≡ joined_bodies F cs ++ F.body c
 joined_more F [] c = append-nil (F.body c)

@@ -11,8 +11,8 @@ use Rattle.cs_extent.specs.State.{IsWhole as IsWholeExtents, State, extents_of, 
 use Rattle.cs_extent.proofs.Fitting.{pointer_grows, with_other}
 use Rattle.cs_frame.specs.declared.locators.Locator.{Locator}
 use Rattle.cs_frame.specs.Formats.{formats_of}
-use Rattle.cs_model.specs.Extents.{Extents, Purpose as Reason, emptied}
-use Rattle.cs_model.specs.Formats.{Stand}
+use Rattle.law_machine.specs.Extents.{Extents, Purpose as Reason, emptied}
+use Rattle.law_machine.specs.Formats.{Stand}
 
 pub below_reset : (x : Extents) (e root : ℕ) (k : Locator) (old : List (List ℕ)) → k.extent ≢ e → IsBelow x k old → IsBelow (emptied x e root) k old
 below_reset x e root k old other below = (

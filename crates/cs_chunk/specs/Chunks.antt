@@ -6,9 +6,9 @@ use Rattle.cs_frame.specs.declared.frames.FrameKind.TheVariants.{Chunk, Run}
 use Rattle.cs_frame.specs.declared.locators.Locator.{Locator}
 use Rattle.cs_frame.specs.Formats.{formats_of}
 use Rattle.cs_frame.specs.Frames.{digest_front}
-use Rattle.cs_model.specs.Device.{Shape, is_meant}
-use Rattle.cs_model.specs.Extents.{reach}
-use Rattle.cs_model.specs.Formats.{ChunkFrame, FrameKind, RunFrame, Stand}
+use Rattle.law_machine.specs.Device.{Shape, is_meant}
+use Rattle.law_machine.specs.Extents.{reach}
+use Rattle.law_machine.specs.Formats.{ChunkFrame, FrameKind, RunFrame, Stand}
 
 -- a kind of frame, in the words of the store's machine
 abbrev pub kind_of : Kind → FrameKind

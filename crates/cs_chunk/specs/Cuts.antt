@@ -2,8 +2,8 @@
 use Rattle.std.specs.Prelude.{◌≡◌, ◌⊎◌, ◌+◌, ◌-◌, ◌*◌, ◌<◌, ◌≤◌, ◌++◌, ℕ, zero, suc, List, [], ◌∷◌, drop, replicate, take}
 use Rattle.cs_chunk.specs.declared.cuts.Cut.{Cut}
 use Rattle.cs_frame.specs.Frames.{page_count}
-use Rattle.cs_model.specs.Device.{Shape}
-use Rattle.cs_model.specs.Geometry.{head_bytes_in}
+use Rattle.law_machine.specs.Device.{Shape}
+use Rattle.law_machine.specs.Geometry.{head_bytes_in}
 
 -- so many pieces of this size, in order, of which the last may be shorter
 abbrev pub pieces : (size count : ℕ) → List ℕ → List (List ℕ)

@@ -3,16 +3,16 @@ use Rattle.std.specs.Prelude.{◌≡◌, ◌≢◌, ◌⊎◌, ◌-◌, ℕ, Lis
 use Rattle.std.specs.List.{AllByRecursion, sum_by}
 use Rattle.cs_chunk.specs.Chunks.{end_in}
 use Rattle.cs_chunk.specs.Reads.{IsNoAnswer, IsOfFault}
-use Rattle.cs_deps.specs.declared.refusals.Refusal.{Refusal}
-use Rattle.cs_deps.specs.declared.refusals.Refusal.TheVariants.{BadLength, BadMagic, BadVersion, Misplaced}
+use Rattle.cs_refusal.specs.declared.refusals.Refusal.{Refusal}
+use Rattle.cs_refusal.specs.declared.refusals.Refusal.TheVariants.{BadLength, BadMagic, BadVersion, Misplaced}
 use Rattle.cs_extent.specs.State.{State, shape}
 use Rattle.cs_frame.specs.declared.faults.FormatFault.{FormatFault}
 use Rattle.cs_frame.specs.declared.frames.FrameKind.{FrameKind}
 use Rattle.cs_frame.specs.declared.frames.FrameKind.TheVariants.{Chunk}
 use Rattle.cs_frame.specs.declared.locators.Locator.{Locator}
 use Rattle.cs_frame.specs.Frames.{kind_byte, meant_header_fault, payload_length}
-use Rattle.cs_model.specs.Device.{Shape}
-use Rattle.cs_model.specs.Geometry.{head_bytes_in}
+use Rattle.law_machine.specs.Device.{Shape}
+use Rattle.law_machine.specs.Geometry.{head_bytes_in}
 
 -- the first test that fails of the header at a place in these extents, the last of which is that its frame is the one that l means
 abbrev pub header_fault_in : State → (view : ℕ → List ℕ) → FrameKind → Locator → Option FormatFault

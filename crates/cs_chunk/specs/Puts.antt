@@ -7,9 +7,9 @@ use Rattle.cs_extent.specs.Frames.{AreResetsStaged}
 use Rattle.cs_extent.specs.State.{State, extents_of, shape}
 use Rattle.cs_extent.specs.Worn.{AreWornBy}
 use Rattle.cs_frame.specs.declared.locators.Locator.{Locator}
-use Rattle.cs_model.specs.Append.{page_counts}
-use Rattle.cs_model.specs.Device.{Shape, is_meant}
-use Rattle.cs_model.specs.Extents.{Extents, FitsBy, ForPut}
+use Rattle.law_machine.specs.Append.{page_counts}
+use Rattle.law_machine.specs.Device.{Shape, is_meant}
+use Rattle.law_machine.specs.Extents.{Extents, FitsBy, ForPut}
 
 -- these frames may be appended, one after another, where chunks and runs lie apart or not, and nothing refuses one of them
 pub record MayPut (apart : Bool) (x : State) (g : Graph) (frames : List (List (List ℕ))) : Type 0 where

@@ -2,32 +2,20 @@
 use Rattle.std.specs.Prelude.{◌≡◌, ◌⊎◌, ◌+◌, ◌-◌, ◌<◌, ◌≤◌, ℕ, List, [], Option, Some, None, Result, MatchResult, IsErrOf, length, slice_get, slice_index_or, take}
 use Rattle.cs_chunk.specs.Chunks.{AreChunksIn, end_in}
 use Rattle.cs_chunk.specs.Newest.{IsReadAs}
-use Rattle.cs_deps.specs.declared.refusals.Refusal.{Refusal}
-use Rattle.cs_deps.specs.declared.refusals.Refusal.TheVariants as refusal
-use Rattle.cs_deps.specs.Refusals.{number_of}
+use Rattle.cs_refusal.specs.declared.refusals.Refusal.{Refusal}
+use Rattle.cs_refusal.specs.declared.refusals.Refusal.TheVariants as refusal
+use Rattle.cs_refusal.specs.Refusals.{number_of}
 use Rattle.cs_deps.specs.State.{State as Graph}
 use Rattle.cs_disk.specs.Disk.{Image, Rises}
 use Rattle.cs_extent.specs.State.{State, shape}
 use Rattle.cs_frame.specs.declared.faults.FormatFault.{FormatFault}
-use Rattle.cs_frame.specs.declared.faults.FormatFault.TheVariants as fault
 use Rattle.cs_frame.specs.declared.frames.FrameKind.{FrameKind}
 use Rattle.cs_frame.specs.declared.frames.FrameKind.TheVariants.{Chunk}
 use Rattle.cs_frame.specs.declared.locators.Locator.{Locator}
 use Rattle.cs_frame.specs.Formats.{formats_of}
 use Rattle.cs_frame.specs.Frames.{frame_count, kind_byte, meant_fault}
-use Rattle.cs_model.specs.Formats.{pages_from}
-
--- the refusal with the number of a fault
-abbrev pub refusal_for : FormatFault → Refusal
-refusal_for fault.BadGeometry = refusal.BadGeometry
-refusal_for fault.OutOfMemory = refusal.OutOfMemory
-refusal_for fault.BadMagic = refusal.BadMagic
-refusal_for fault.BadDigest = refusal.BadDigest
-refusal_for fault.BadLength = refusal.BadLength
-refusal_for fault.BadPadding = refusal.BadPadding
-refusal_for fault.BadVersion = refusal.BadVersion
-refusal_for fault.OutOfOrder = refusal.OutOfOrder
-refusal_for fault.Misplaced = refusal.Misplaced
+use Rattle.cs_frame.specs.Refusals.{refusal_for}
+use Rattle.law_machine.specs.Formats.{pages_from}
 
 -- the device or memory refused
 abbrev pub IsNoAnswer : Refusal → Type 0

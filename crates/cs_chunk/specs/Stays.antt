@@ -1,7 +1,7 @@
 -- What keeps a frame that was put.
 use Rattle.std.specs.Prelude.{◌≡◌, ◌+◌, ◌≤◌, ℕ, List, length}
 use Rattle.cs_frame.specs.declared.locators.Locator.{Locator}
-use Rattle.cs_model.specs.Extents.{Extents}
+use Rattle.law_machine.specs.Extents.{Extents}
 
 -- A frame of these pages at l is of the generation that its extent has, and below the pointer. What is appended to a store
 -- is so; a frame that lay across its pointer as the store was opened is not.

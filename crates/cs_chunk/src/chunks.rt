@@ -6,8 +6,8 @@ ghost use Rattle.cs_extent.specs.Worn.{AreWornBy};
 ghost use Rattle.cs_frame.specs.Formats.{formats_of};
 ghost use Rattle.cs_frame.specs.Frames.{spelled_frame};
 ghost use Rattle.cs_frame.specs.Identifiers.{id_number};
-ghost use Rattle.cs_model.specs.Events.{with_heads};
-ghost use Rattle.cs_model.specs.Extents.{FitsBy, ForPut};
+ghost use Rattle.law_machine.specs.Events.{with_heads};
+ghost use Rattle.law_machine.specs.Extents.{FitsBy, ForPut};
 
 use crate::cuts::Cut;
 use crate::reads::format_of;

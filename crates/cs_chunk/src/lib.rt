@@ -2,17 +2,15 @@
 //! places of these frames.
 #![tactic(auto)]
 
+mod chunk_laws;
+mod chunk_puts;
 mod chunks;
 mod cuts;
-mod laws;
-mod puts;
 mod reads;
-mod refusals;
-mod shards;
+mod shard_sizes;
 
+pub use chunk_laws::{pages_have_one_newest, places_tell_digests, what_was_put_stays};
+pub use chunk_puts::{put_chunks, put_chunks_by, put_fits, put_fits_by};
 pub use chunks::shard_bytes;
-pub use laws::{pages_have_one_newest, places_tell_digests, what_was_put_stays};
-pub use puts::{put_chunks, put_chunks_by, put_fits, put_fits_by};
 pub use reads::{frame_at, read_frame, read_length};
-pub use refusals::{refusal_of_disk, refusal_of_fault};
-pub use shards::{read_chunks, read_lengths};
+pub use shard_sizes::{read_chunks, read_lengths};

@@ -4,7 +4,7 @@ ghost use Rattle.cs_chunk.specs.Chunks.{IsFrameIn, IsMeant, end_in, kind_of};
 ghost use Rattle.cs_chunk.specs.Lengths.{IsHeaderRefusal, IsOfFaultOrMark, header_fault_in, length_at};
 ghost use Rattle.cs_chunk.specs.Newest.{AreNewest, IsReadAs};
 ghost use Rattle.cs_chunk.specs.Reads.{AnswersFault, AreReadAs, IsCaused, IsFrameFront, IsFrameRefusal, IsNoAnswer, IsOfFault, IsReadRefusal, fault_in, pages_in};
-ghost use Rattle.cs_deps.specs.Refusals.{number_of};
+ghost use Rattle.cs_refusal.specs.Refusals.{number_of};
 ghost use Rattle.cs_deps.specs.State.{NoneOn};
 ghost use Rattle.cs_disk.specs.Disk.{seen};
 ghost use Rattle.cs_disk.specs.Reads.{OnlyReads};
@@ -12,13 +12,14 @@ ghost use Rattle.cs_extent.specs.State.{IsWhole, shape};
 ghost use Rattle.cs_frame.specs.Formats.{formats_of};
 ghost use Rattle.cs_frame.specs.Frames.{SpellsFrame, kind_byte, meant_fault, page_count};
 
-use crate::refusals::{refusal_of_disk, refusal_of_fault};
-use cs_deps::{Graph, Refusal};
-use cs_disk::PageDisk;
+use cs_deps::Graph;
+use cs_disk::{PageDisk, refusal_of_disk};
 use cs_extent::Extents;
 use cs_frame::{
-    FrameKind, Locator, ReadFrame, decode_frame_header, decode_meant_header, read_frame_in,
+    Format, FrameKind, Locator, ReadFrame, decode_frame_header, decode_meant_header, read_frame_in,
+    refusal_of_fault,
 };
+use cs_refusal::Refusal;
 use std::alloc::Global;
 
 /// Reads a page: the newest waiting plain write to it, and where none waits what the device has.
@@ -91,7 +92,7 @@ fn page_number(extents: &Extents, locator: Locator) -> u64
 }
 
 /// The format of the store.
-pub(crate) fn format_of(extents: &Extents) -> u8
+pub(crate) fn format_of(extents: &Extents) -> Format
     ensures { result ≡ (shape extents.now).format }
 {
     extents.geometry().format()
@@ -110,7 +111,7 @@ fn end_of(extents: &Extents, locator: Locator) -> usize
 
 /// The frame of a mark in these pages.
 fn framed(
-    format: u8,
+    format: Format,
     kind: FrameKind,
     mark: u64,
     pages: Vec<[u8; 4096]>,

@@ -6,12 +6,12 @@ use crate::manners::Manner;
 use crate::openings::Shown;
 use crate::progress::Told;
 use clap::ArgMatches;
-use cs_deps::Refusal;
 use cs_disk::FileFault;
 use cs_frame::Geometry;
 use cs_mount::make_store;
+use cs_options::script::limits;
 use cs_options::{Measure, geometry_of, measure_of};
-use cs_script::limits;
+use cs_refusal::Refusal;
 use cs_tools::{Known, Load, Outcome, bench, explain};
 use std::fs::File;
 use std::rt::Files;
@@ -31,19 +31,19 @@ pub fn bench_in_file<R: AllocGlobal + Clock + Files<File = File> + Print + Eprin
         let _ = eprintln!(rt;
             "error: calls are 1 to 100,000, batch 1 to 10,000, and bytes at most 8,388,280"
         );
-        return cs_status::COMMAND_LINE;
+        return cs_words::COMMAND_LINE;
     };
     let Ok(geometry) = geometry_of(options) else {
         let _ = eprintln!(rt;
             "error: a store has 4 to 2,048 extents of 2 to 256 pages, or in format 3 5 to 7,680 of 2 to 65,535"
         );
-        return cs_status::COMMAND_LINE;
+        return cs_words::COMMAND_LINE;
     };
     match bench_new(rt, path, geometry, measure, manner) {
         Ok((outcome, known)) => explain(rt, outcome, &known, manner.style),
         Err(FileFault::NotEmpty) => {
             let _ = eprintln!(rt; "error: {path} is there already; name a file that isn't");
-            cs_status::COMMAND_LINE
+            cs_words::COMMAND_LINE
         }
         Err(fault) => explain(rt, Outcome::of_file(fault), &Known::nothing(), manner.style),
     }

@@ -6,9 +6,9 @@ use crate::tools::run_tool;
 use crate::versions::{SOURCES, VERSION};
 use crate::words::{file_in_environment, tell_unreadable, words_given};
 use clap::ArgMatches;
+use cs_options::script::{print_no_store, run_check};
 use cs_options::{command, race_of};
 use cs_race::{new_core as new_race_core, run_race};
-use cs_script::{print_no_store, run_check};
 use std::fs::File;
 use std::io;
 use std::rt::{Env, Files};
@@ -57,7 +57,7 @@ where
     );
     let (Ok(command), Ok(version)) = (command(rt.alloc()), version) else {
         let _ = eprintln!(rt; "out of memory");
-        return cs_status::COMMAND_LINE;
+        return cs_words::COMMAND_LINE;
     };
     match command.version(&version).try_get_matches_from(words) {
         Ok(matches) => run_matches(rt, &matches, environment, terminal),
@@ -71,9 +71,9 @@ fn print_error<R: Print + Eprint>(rt: &R, error: &clap::Error) -> u8
 {
     match error.print(rt) {
         // What standard error took changes no status.
-        _ if error.use_stderr() => cs_status::COMMAND_LINE,
-        Ok(()) => cs_status::DONE,
-        Err(_) => cs_status::STREAM,
+        _ if error.use_stderr() => cs_words::COMMAND_LINE,
+        Ok(()) => cs_words::DONE,
+        Err(_) => cs_words::STREAM,
     }
 }
 
@@ -87,7 +87,7 @@ where
     ensures { result ≤ 7 }
 {
     let Some((name, options)) = matches.subcommand() else {
-        return cs_status::COMMAND_LINE;
+        return cs_words::COMMAND_LINE;
     };
     match name {
         "run" => run_standard_input(rt, options, terminal),
@@ -115,7 +115,7 @@ fn race_threads<R: AllocGlobal + Print + Eprint + Threads + Wait + Sync>(
 {
     let Some(race) = race_of(options) else {
         let _ = eprintln!(rt; "error: threads are 1 to 64, puts 0 to 1,000, and drop at most puts");
-        return cs_status::COMMAND_LINE;
+        return cs_words::COMMAND_LINE;
     };
     let mut writer = io::writer(rt);
     match new_race_core(rt.alloc()) {

@@ -8,10 +8,10 @@ use crate::openings::{Shown, Unopened, open_typed};
 use crate::progress::Told;
 use crate::warnings::{explain_unopened, warn_of, warn_text};
 use clap::ArgMatches;
-use cs_deps::Refusal;
 use cs_disk::{FileFault, SystemFault};
 use cs_frame::Geometry;
 use cs_mount::Mounted;
+use cs_refusal::Refusal;
 use cs_tools::store::{LIMITS, Store};
 use cs_tools::{Known, Outcome, Style, copy, explain};
 use std::fs::File;
@@ -45,11 +45,11 @@ pub fn copy_file<R: AllocGlobal + Clock + Files<File = File> + Print + Eprint>(
         Err(status) => return status,
     };
     let Some(mode) = mode_given(rt, options) else {
-        return cs_status::COMMAND_LINE;
+        return cs_words::COMMAND_LINE;
     };
     if are_same(rt, place.path, target) {
         let _ = eprintln!(rt; "error: FROM and TO are the same file");
-        return cs_status::COMMAND_LINE;
+        return cs_words::COMMAND_LINE;
     }
     if is_taken(rt, target) {
         let refused = Outcome::Refused(Refusal::NotEmpty);

@@ -7,11 +7,11 @@ use crate::openings::Unopened;
 use crate::progress::{tell_ended, tell_making};
 use crate::warnings::explain_unopened;
 use clap::ArgMatches;
-use cs_deps::Refusal;
 use cs_frame::Geometry;
 use cs_mount::make_store;
+use cs_options::script::limits;
 use cs_options::{Sizing, TooSmall, Wish, exact_of, geometry_for, mode_of, sizing_of, wish_of};
-use cs_script::limits;
+use cs_refusal::Refusal;
 use cs_tools::{Known, Outcome, Style, explain, warn};
 use std::fs::File;
 use std::io::Write;
@@ -29,11 +29,11 @@ pub fn create_in_file<R: AllocGlobal + Files<File = File> + Print + Eprint>(
 {
     let geometry = match geometry_asked(rt, options, manner) {
         Ok(Some(geometry)) => geometry,
-        Ok(None) => return cs_status::COMMAND_LINE,
+        Ok(None) => return cs_words::COMMAND_LINE,
         Err(status) => return status,
     };
     let Some(mode) = mode_given(rt, options) else {
-        return cs_status::COMMAND_LINE;
+        return cs_words::COMMAND_LINE;
     };
     match make(rt, path, geometry, mode, manner) {
         Ok(()) => tell_created(rt, path, geometry, manner),
@@ -88,7 +88,7 @@ pub fn geometry_said<R: Eprint>(
             let _ = eprintln!(rt;
                 "error: --size, --shard-size and --shards choose a geometry, and --extents, --pages and --sections are one: give either"
             );
-            Err(cs_status::COMMAND_LINE)
+            Err(cs_words::COMMAND_LINE)
         }
     }
 }
@@ -101,7 +101,7 @@ fn fitting<R: Eprint>(rt: &R, options: &ArgMatches, manner: Manner) -> Result<Op
         let _ = eprintln!(rt;
             "error: a size is a number of bytes, or of K, M, G or T, each 1,024 of the one before: 64M"
         );
-        return Err(cs_status::COMMAND_LINE);
+        return Err(cs_words::COMMAND_LINE);
     };
     match geometry_for(wish) {
         Ok(geometry) => Ok(Some(geometry)),
@@ -134,7 +134,7 @@ fn tell_too_small<R: Eprint>(rt: &R, wish: Wish, small: TooSmall, manner: Manner
             "{{\"refused\":{number},\"name\":\"{name}\",\"text\":\"no store is for shards of {shard_size} bytes and {shards} identifiers\",\"advice\":\"Cut the shards into smaller ones, or use several stores.\",\"least\":null}}"
         ),
     };
-    cs_status::REFUSED
+    cs_words::REFUSED
 }
 
 /// Makes a new file with an empty store. Where that fails there is no file.

@@ -1,8 +1,8 @@
 //! Files as disks: the only place that names their type.
 
-use cs_deps::Refusal;
 use cs_disk::{Access, FileDisk, FileFault, PageDisk, ReadOnly, SystemFault};
 use cs_frame::Geometry;
+use cs_refusal::Refusal;
 use std::alloc::Global;
 use std::fs::File;
 use std::rt::Files;

@@ -3,7 +3,7 @@
 use crate::files::{Place, disk_to_write};
 use cs_disk::{FileFault, SystemFault};
 use cs_mount::open_store;
-use cs_script::limits;
+use cs_options::script::limits;
 use cs_tools::{Content, known_of};
 use std::fs::File;
 use std::rt::Files;
@@ -45,7 +45,7 @@ pub fn left_in<R: AllocGlobal + Clock + Files<File = File>>(rt: &R, place: Place
             let geometry = core.extents().geometry();
             let (commands, shards) = core.opened();
             Left::Store(Store {
-                format: geometry.format(),
+                format: geometry.format().number(),
                 extents: geometry.extents(),
                 pages: geometry.pages(),
                 commands,

@@ -32,6 +32,6 @@ fn main(rt: HostRuntime) -> ExitCode {
     // Before anything else is opened, and up to the program's end.
     match descriptors::stand_in(&rt) {
         Ok(_standing) => { ExitCode::from(command_lines::run(&rt, rt.stderr().is_terminal())) }
-        Err(_) => ExitCode::from(cs_status::STREAM),
+        Err(_) => ExitCode::from(cs_words::STREAM),
     }
 }

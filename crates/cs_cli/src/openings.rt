@@ -2,11 +2,11 @@
 
 use crate::files::OverFile;
 use crate::heads::scan;
-use cs_core::Core;
-use cs_deps::Refusal;
 use cs_disk::{FileFault, PageDisk, SystemFault};
+use cs_mount::the_core::Core;
 use cs_mount::{AsOf, Finding, Mounted, look, open_older_store, open_store};
-use cs_script::limits;
+use cs_options::script::limits;
+use cs_refusal::Refusal;
 use cs_tools::store::Store;
 use cs_tools::{Known, Outcome, Scanned, known_of, may_be_lost};
 use std::alloc::Global;

@@ -7,12 +7,14 @@ use crate::openings::{Opened, Shown, Unopened, open_core};
 use crate::progress::Told;
 use crate::warnings::{explain_unopened, warn_of, warn_of_older};
 use clap::ArgMatches;
-use cs_core::Core;
 use cs_disk::PageDisk;
 use cs_frame::ShardId;
+use cs_mount::the_core::Core;
 use cs_mount::{AsOf, Finding, Mounted};
 use cs_options::{Listing, from_of, listing_of};
-use cs_tools::{Known, Outcome, Progress, Style, explain, export, list, reclaim, scrub, stat};
+use cs_tools::{
+    FoundPages, Known, Outcome, Progress, Style, explain, export, list, reclaim, scrub, stat,
+};
 use std::alloc::Global;
 use std::fs::File;
 use std::io;
@@ -110,7 +112,13 @@ fn ask<D: PageDisk, P: Progress, W: Write>(
     match query {
         Query::List(listing) => list_of(alloc, core, listing, writer),
         Query::Stat(style) => stat(alloc, core, style, writer),
-        Query::Scrub(style) => scrub(alloc, core, findings, false, progress, style, writer),
+        Query::Scrub(style) => {
+            let pages = FoundPages {
+                findings,
+                mended: false,
+            };
+            scrub(alloc, core, &pages, progress, style, writer)
+        }
         Query::Reclaim(style) => reclaim(alloc, core, style, writer),
         Query::Export(from) => export(alloc, core, from, progress, writer),
     }

@@ -7,11 +7,11 @@ use crate::manners::Manner;
 use crate::openings::{Opened, Shown, Unopened, open_core};
 use crate::progress::Told;
 use crate::warnings::{explain_unopened, warn_of};
-use cs_core::Core;
-use cs_deps::Refusal;
+use cs_mount::the_core::Core;
 use cs_mount::{Finding, Mounted, mend};
-use cs_script::limits;
-use cs_tools::{Known, Outcome, explain, may_be_lost, scrub, stop_repair};
+use cs_options::script::limits;
+use cs_refusal::Refusal;
+use cs_tools::{FoundPages, Known, Outcome, explain, may_be_lost, scrub, stop_repair};
 use std::fs::File;
 use std::io;
 use std::io::BufWriter;
@@ -134,13 +134,16 @@ fn scrub_mended<R: AllocGlobal + Clock + Print + Eprint>(
 {
     let (core, findings) = mended;
     let mut core = core;
+    let pages = FoundPages {
+        findings: &findings,
+        mended: true,
+    };
     let told = Told::new(rt, manner);
     let outcome = match BufWriter::new(rt.alloc(), io::writer(rt)) {
         Ok(mut writer) => scrub(
             rt.alloc(),
             &mut core,
-            &findings,
-            true,
+            &pages,
             &told,
             manner.style,
             &mut writer,

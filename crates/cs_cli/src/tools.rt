@@ -58,7 +58,7 @@ fn tell_no_file<R: Eprint>(rt: &R, none: NoFile) -> u8
             "error: no file is named: give it after the command, by --file, or in the environment as NUGGETLOCH_FILE"
         ),
     };
-    cs_status::COMMAND_LINE
+    cs_words::COMMAND_LINE
 }
 
 /// Reports that a device or a pipe is named, and gives the exit status.
@@ -66,7 +66,7 @@ fn tell_special<R: Eprint>(rt: &R, path: &str) -> u8
     ensures { result ≤ 7 }
 {
     let _ = eprintln!(rt; "error: {path} is a device or a pipe: a store lies in a regular file");
-    cs_status::NOT_THERE
+    cs_words::NOT_THERE
 }
 
 /// Copies the store in one file into another.
@@ -83,7 +83,7 @@ fn copy_named<R: AllocGlobal + Clock + Files<File = File> + Print + Eprint>(
             let place = place_to_read(path, options);
             copy_file(rt, place, target, options, manner)
         }
-        _ => cs_status::COMMAND_LINE,
+        _ => cs_words::COMMAND_LINE,
     }
 }
 
@@ -144,7 +144,7 @@ fn tell_no_id<R: Eprint>(rt: &R) -> u8
     let _ = eprintln!(rt;
         "error: an identifier is a UUID, as 00000000-0000-0000-0000-00000000000a"
     );
-    cs_status::COMMAND_LINE
+    cs_words::COMMAND_LINE
 }
 
 /// Does the command of this name with one shard.
@@ -206,7 +206,7 @@ fn run_salvage<R: AllocGlobal + Clock + Files<File = File> + Print + Eprint>(
     }
     if options.contains_id("from") {
         let _ = eprintln!(rt; "error: --salvage prints all shards: leave out --from");
-        return cs_status::COMMAND_LINE;
+        return cs_words::COMMAND_LINE;
     }
     export_frames(rt, place, manner)
 }
@@ -222,13 +222,13 @@ fn run_repair<R: AllocGlobal + Clock + Files<File = File> + Print + Eprint>(
 {
     if !options.get_flag("repair") {
         let _ = eprintln!(rt; "error: --accept-loss is for --repair");
-        return cs_status::COMMAND_LINE;
+        return cs_words::COMMAND_LINE;
     }
     if options.get_flag("as-of") || options.get_flag("no-lock") {
         let _ = eprintln!(rt;
             "error: --repair writes to the file: leave out --as-of and --no-lock"
         );
-        return cs_status::COMMAND_LINE;
+        return cs_words::COMMAND_LINE;
     }
     let loss = if options.get_flag("accept-loss") {
         Loss::Accepted

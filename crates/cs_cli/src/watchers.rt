@@ -1,7 +1,7 @@
 //! What is printed on standard error of the lines of a script that are refused or can't be read.
 ghost use Rattle.std.specs.Prelude.{◌≡◌};
 
-use cs_script::{BadLine, LineFault, Onward, Watcher, first_word};
+use cs_options::script::{BadLine, LineFault, Onward, Watcher, first_word};
 use std::str;
 
 /// Prints each such line's number and what is wrong with it, and goes on, or ends the script.

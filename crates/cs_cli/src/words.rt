@@ -30,7 +30,7 @@ pub fn tell_unreadable<R: Env + Eprint>(rt: &R, error: io::Error) -> u8
     if !is_word_told(rt) {
         let _ = eprintln!(rt; "error: {error}");
     }
-    cs_status::COMMAND_LINE
+    cs_words::COMMAND_LINE
 }
 
 /// Reports the first word that isn't UTF-8, and returns whether there is one.

@@ -4,10 +4,10 @@ use Rattle.cs_disk.specs.declared.disk.PageDisk.{Ghosts as PageDisk}
 use Rattle.cs_disk.specs.Disk.{Image, Leaves, LeavesOnly, MayLeave, State as DiskState}
 use Rattle.cs_extent.specs.State.{IsWhole, shape}
 use Rattle.cs_frame.specs.Formats.{formats_of}
-use Rattle.cs_model.specs.Device.{Shape}
-use Rattle.cs_model.specs.State as model
-use Rattle.cs_model.specs.Step.{Step}
-use Rattle.cs_refine.specs.Devices.{IsDiskOf}
+use Rattle.law_machine.specs.Device.{Shape}
+use Rattle.law_machine.specs.State as model
+use Rattle.law_machine.specs.Step.{Step}
+use Rattle.law_refinement.specs.Devices.{IsDiskOf}
 use Rattle.cs_core.specs.declared.events.Event.{Event}
 use Rattle.cs_core.specs.declared.events.OutOfMemory.{OutOfMemory}
 use Rattle.cs_core.specs.declared.events.Reply.{Reply}
@@ -23,7 +23,7 @@ use Rattle.cs_core.proofs.Applies.{goes}
 use Rattle.cs_core.proofs.Crashes.{crash_within, left_of, still_before}
 use Rattle.cs_core.proofs.Leaving.{LeftBy, left_now}
 use Rattle.cs_core.proofs.Saying.{puts_kept}
-use Rattle.cs_image.specs.Reads.{page_total}
+use Rattle.law_refinement.specs.ImageReads.{page_total}
 
 -- what is kept of an event: its copy, and the reply that was told
 pub kept_is : (now reserved history : List (Event × Reply)) (event copy : Event) (told noted : Reply) → now ≡ reserved ++ (copy, noted) ∷ [] → reserved ≡ history → copy ≡ event → told ≡ noted → now ≡ history ++ (event, told) ∷ []

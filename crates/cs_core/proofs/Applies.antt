@@ -3,12 +3,12 @@ use Rattle.std.proofs.Common.{◌≡◌, ℕ, List, [], ◌∷◌, ◌++◌, ref
 use Rattle.cs_disk.specs.Disk.{Image, State as DiskState, page}
 use Rattle.cs_extent.specs.State.{shape}
 use Rattle.cs_frame.specs.Formats.{formats_of}
-use Rattle.cs_model.specs.Device.{Shape}
-use Rattle.cs_model.specs.Formats.{Formats}
-use Rattle.cs_model.specs.Open.{opened_state}
-use Rattle.cs_model.specs.State.{Event, Reply, State}
-use Rattle.cs_model.specs.Step.{History, Step}
-use Rattle.cs_refine.specs.Devices.{IsDiskOf}
+use Rattle.law_machine.specs.Device.{Shape}
+use Rattle.law_machine.specs.Formats.{Formats}
+use Rattle.law_machine.specs.Open.{opened_state}
+use Rattle.law_machine.specs.State.{Event, Reply, State}
+use Rattle.law_machine.specs.Step.{History, Step}
+use Rattle.law_refinement.specs.Devices.{IsDiskOf}
 use Rattle.cs_core.specs.declared.events.Event.{Event as Asked}
 use Rattle.cs_core.specs.declared.events.Reply.{Reply as Told}
 use Rattle.cs_core.specs.Meanings.{Says, event_of}

@@ -2,8 +2,8 @@
 use Rattle.std.proofs.Common.{◌≡◌, ◌≢◌, ◌⊎◌, inl, inr, ℕ, List, Some, subst}
 use Rattle.std.specs.Prelude.{slice_get}
 use Rattle.cs_deps.specs.declared.elements.Element.{Element as Name}
-use Rattle.cs_deps.specs.declared.refusals.Refusal.{Refusal as Code}
-use Rattle.cs_deps.specs.declared.refusals.Refusal.TheVariants as code
+use Rattle.cs_refusal.specs.declared.refusals.Refusal.{Refusal as Code}
+use Rattle.cs_refusal.specs.declared.refusals.Refusal.TheVariants as code
 use Rattle.cs_deps.specs.State.{write_of}
 use Rattle.cs_disk.specs.Disk.{State as DiskState, written}
 use Rattle.cs_core.specs.declared.events.Event.TheVariants.{Settle}

@@ -1,8 +1,8 @@
 -- What a store that is read is refused for, and its cause.
 use Rattle.std.proofs.Common.{◌≡◌, ◌⊎◌, ℕ, Result, Ok, Err, IfErr, ⊎_elim}
 use Rattle.cs_chunk.specs.Reads.{IsCaused}
-use Rattle.cs_deps.specs.declared.refusals.Refusal.{Refusal}
-use Rattle.cs_deps.specs.declared.refusals.Refusal.TheVariants.{NotAStore, OutOfMemory}
+use Rattle.cs_refusal.specs.declared.refusals.Refusal.{Refusal}
+use Rattle.cs_refusal.specs.declared.refusals.Refusal.TheVariants.{NotAStore, OutOfMemory}
 
 -- what is made of what was read asks nothing of the device
 pub caused_loaded : {T U : Type 0} (a b : ℕ) (Why : Type 0) (read : Result U Refusal) (r : Result T Refusal) → IsCaused a b read → IfErr r (λ f. (f ≡ OutOfMemory) ⊎ ((f ≡ NotAStore) × Why)) → IsCaused a b r

@@ -5,11 +5,11 @@ use Rattle.cs_disk.specs.declared.disk.PageDisk.{Ghosts as PageDisk}
 use Rattle.cs_disk.specs.Disk.{Image, LeavesOnly, State as DiskState, page}
 use Rattle.cs_extent.specs.State.{shape}
 use Rattle.cs_frame.specs.Formats.{formats_of}
-use Rattle.cs_model.specs.Device.{Shape}
-use Rattle.cs_model.specs.State.{Command, State}
-use Rattle.cs_refine.proofs.CrashesLeft.{prefix_later, prefix_wider}
-use Rattle.cs_refine.specs.Crashes.{IsPrefix}
-use Rattle.cs_refine.specs.Devices.{IsDiskOf}
+use Rattle.law_machine.specs.Device.{Shape}
+use Rattle.law_machine.specs.State.{Command, State}
+use Rattle.law_refinement.proofs.CrashesLeft.{prefix_later, prefix_wider}
+use Rattle.law_refinement.specs.Crashes.{IsPrefix}
+use Rattle.law_refinement.specs.Devices.{IsDiskOf}
 use Rattle.cs_core.specs.declared.events.Event.{Event}
 use Rattle.cs_core.specs.declared.events.Reply.{Reply}
 use Rattle.cs_core.specs.Meanings.{command_said, commands_said}

@@ -6,19 +6,19 @@ use Rattle.cs_disk.specs.Disk.{Elapses, Image, Leaves, LeavesOnly, MayLeave, Sta
 use Rattle.cs_extent.specs.State.{IsWhole, State as ExtentsState, shape}
 use Rattle.cs_frame.specs.declared.identifiers.ShardId.{ShardId}
 use Rattle.cs_frame.specs.Formats.{formats_of}
-use Rattle.cs_model.proofs.Kept.{history_on}
-use Rattle.cs_model.specs.Device.{Page, Shape}
-use Rattle.cs_model.specs.Element.{Map}
-use Rattle.cs_model.specs.Events.{IsFrontier}
-use Rattle.cs_model.specs.Formats.{Formats}
-use Rattle.cs_model.specs.Open.{opened_state}
-use Rattle.cs_model.specs.Recovery.{Recovers}
-use Rattle.cs_model.specs.Sound.{Sound}
-use Rattle.cs_model.specs.State as model
-use Rattle.cs_model.specs.State.{Command, State, command_of, commands_of}
-use Rattle.cs_refine.proofs.CrashesLeft.{leaves_from, prefix_wider}
-use Rattle.cs_refine.specs.Crashes.{IsPrefix}
-use Rattle.cs_refine.specs.Devices.{IsDiskOf}
+use Rattle.law_machine.proofs.Kept.{history_on}
+use Rattle.law_machine.specs.Device.{Page, Shape}
+use Rattle.law_machine.specs.Element.{Map}
+use Rattle.law_machine.specs.Events.{IsFrontier}
+use Rattle.law_machine.specs.Formats.{Formats}
+use Rattle.law_machine.specs.Open.{opened_state}
+use Rattle.law_machine.specs.Recovery.{Recovers}
+use Rattle.law_machine.specs.Sound.{Sound}
+use Rattle.law_machine.specs.State as model
+use Rattle.law_machine.specs.State.{Command, State, command_of, commands_of}
+use Rattle.law_refinement.proofs.CrashesLeft.{leaves_from, prefix_wider}
+use Rattle.law_refinement.specs.Crashes.{IsPrefix}
+use Rattle.law_refinement.specs.Devices.{IsDiskOf}
 use Rattle.cs_core.specs.declared.events.Event.{Event}
 use Rattle.cs_core.specs.declared.events.Event.TheVariants.{Delete, End, Issue, Put}
 use Rattle.cs_core.specs.declared.events.Reply.{Reply}
@@ -27,7 +27,7 @@ use Rattle.cs_core.specs.Meanings.{Says, command_said, commands_said, event_of}
 use Rattle.cs_core.specs.States.{IsStateOf}
 use Rattle.cs_core.specs.Stored.{Stored}
 use Rattle.cs_core.specs.Views.{AreSaid, IsReached}
-use Rattle.cs_image.specs.Reads.{page_total}
+use Rattle.law_refinement.specs.ImageReads.{page_total}
 
 module _ (S : Shape) (F : Formats) where
   -- a reply says whether a put or a delete was accepted

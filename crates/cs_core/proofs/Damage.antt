@@ -1,14 +1,15 @@
 -- Which ground of the machine a refusal of a read is.
 use Rattle.std.proofs.Common.{◌≡◌, ◌⊎◌, inl, inr, ◌≤◌, refl, sym, subst, arith}
-use Rattle.cs_chunk.specs.Reads.{IsNoAnswer, IsReadRefusal, refusal_for as code_of}
-use Rattle.cs_deps.specs.declared.refusals.Refusal.{Refusal as Code}
-use Rattle.cs_deps.specs.declared.refusals.Refusal.TheVariants as code
-use Rattle.cs_deps.specs.Refusals.{number_of}
+use Rattle.cs_chunk.specs.Reads.{IsNoAnswer, IsReadRefusal}
+use Rattle.cs_frame.specs.Refusals.{refusal_for as code_of}
+use Rattle.cs_refusal.specs.declared.refusals.Refusal.{Refusal as Code}
+use Rattle.cs_refusal.specs.declared.refusals.Refusal.TheVariants as code
+use Rattle.cs_refusal.specs.Refusals.{number_of}
 use Rattle.cs_frame.specs.declared.faults.FormatFault.{FormatFault}
 use Rattle.cs_frame.specs.declared.faults.FormatFault.TheVariants as fault
 use Rattle.cs_frame.specs.Formats.{refusal_of}
-use Rattle.cs_model.specs.Refusal.{BadDigest, BadLength, BadMagic, BadPadding, BadVersion, Misplaced, Refusal as Ground}
-use Rattle.cs_refine.specs.Refusals.{refusal_for}
+use Rattle.law_machine.specs.Refusal.{BadDigest, BadLength, BadMagic, BadPadding, BadVersion, Misplaced, Refusal as Ground}
+use Rattle.law_refinement.specs.Refusals.{refusal_for}
 
 -- the refusal is that of damage: only faults of this ground have it, and neither the device nor want of a place or number
 pub record IsDamage (r : Code) : Type 0 where

@@ -4,16 +4,16 @@ use Rattle.std.specs.Prelude.{◌↔◌}
 use Rattle.cs_extent.specs.State.{IsWhole, shape}
 use Rattle.cs_frame.specs.Formats.{formats_of}
 use Rattle.cs_index.specs.State.{IsSet, State as IndexState, index_of}
-use Rattle.cs_model.specs.Events.{Does}
-use Rattle.cs_model.specs.Grounds.{Refuses, WouldPass}
-use Rattle.cs_model.specs.Index.{live_at}
-use Rattle.cs_model.specs.Refusal.{Halted, Refusal, WornOut}
-use Rattle.cs_model.specs.State.{Absent, Accepted, Delete, Refused, State, map_now}
-use Rattle.cs_model.specs.Step.{Step}
-use Rattle.cs_refine.proofs.Calls.{delete}
-use Rattle.cs_refine.proofs.Indexes.{absent}
-use Rattle.cs_refine.proofs.RefusedPuts.{delete_worn}
-use Rattle.cs_refine.specs.Parts.{ArePartsOf}
+use Rattle.law_machine.specs.Events.{Does}
+use Rattle.law_machine.specs.Grounds.{Refuses, WouldPass}
+use Rattle.law_machine.specs.Index.{live_at}
+use Rattle.law_machine.specs.Refusal.{Halted, Refusal, WornOut}
+use Rattle.law_machine.specs.State.{Absent, Accepted, Delete, Refused, State, map_now}
+use Rattle.law_machine.specs.Step.{Step}
+use Rattle.law_refinement.proofs.Calls.{delete}
+use Rattle.law_refinement.proofs.Indexes.{absent}
+use Rattle.law_refinement.proofs.RefusedPuts.{delete_worn}
+use Rattle.law_refinement.specs.Parts.{ArePartsOf}
 use Rattle.cs_core.specs.States.{IsStateOf}
 use Rattle.cs_core.specs.Stored.{Stored}
 use Rattle.cs_core.proofs.Going.{Beside, beside_is, frontier_same, goes_on, going, no_more, pass, roots_same}

@@ -4,7 +4,7 @@ use Rattle.std.proofs.Math.Nat.{mul-le-mul_left}
 use Rattle.std.specs.Prelude.{Option, slice_index}
 use Rattle.cs_chunk.proofs.Framed.{no_fault_there, one_frame}
 use Rattle.cs_chunk.specs.Reads.{IsOfFault, fault_in}
-use Rattle.cs_deps.specs.declared.refusals.Refusal.{Refusal}
+use Rattle.cs_refusal.specs.declared.refusals.Refusal.{Refusal}
 use Rattle.cs_extent.specs.State.{IsWhole, State as ExtentsState, section_rows, shape}
 use Rattle.cs_frame.proofs.FirstFormatLaws.{spelled_has_none as first_has_none, zero_of_first, zero_of_section}
 use Rattle.cs_frame.proofs.GeometryLaws.{bounds}
@@ -20,17 +20,17 @@ use Rattle.cs_frame.specs.Geometries.{IsGeometry, device_pages, section_size}
 use Rattle.cs_frame.specs.Roots.{root_fault}
 use Rattle.cs_frame.specs.FormatRuns.{run_fault}
 use Rattle.cs_frame.specs.Superblocks.{SpellsSuperblock, record_in, superblock_fault}
-use Rattle.cs_image.proofs.OneByOne.{place_inside}
-use Rattle.cs_image.proofs.Readable.{all_readable, part, records_low, root_spelled, section_spelled, store_read, visible_store_read, zero_same}
-use Rattle.cs_image.proofs.Superblocks.{read_whole, section_one}
-use Rattle.cs_image.specs.Reads.{ArePages, AreSectionsRead, IsReadable, IsVisibleStoreRead, SpellsAt, extents_at}
+use Rattle.law_refinement.proofs.OneByOne.{place_inside}
+use Rattle.law_refinement.proofs.Readable.{all_readable, part, records_low, root_spelled, section_spelled, store_read, visible_store_read, zero_same}
+use Rattle.law_refinement.proofs.Superblocks.{read_whole, section_one}
+use Rattle.law_refinement.specs.ImageReads.{ArePages, AreSectionsRead, IsReadable, IsVisibleStoreRead, SpellsAt, extents_at}
 use Rattle.cs_index.proofs.Sorted.{all_at}
 use Rattle.cs_index.specs.State.{newest_first}
-use Rattle.cs_model.specs.Device.{Shape}
-use Rattle.cs_model.specs.Element.{Map}
-use Rattle.cs_model.specs.Geometry.{most_weight_in, shape_of, weigh_in}
-use Rattle.cs_model.specs.Index.{entries_of, named_weight}
-use Rattle.cs_model.specs.Recovery.{Recovers}
+use Rattle.law_machine.specs.Device.{Shape}
+use Rattle.law_machine.specs.Element.{Map}
+use Rattle.law_machine.specs.Geometry.{most_weight_in, shape_of, weigh_in}
+use Rattle.law_machine.specs.Index.{entries_of, named_weight}
+use Rattle.law_machine.specs.Recovery.{Recovers}
 use Rattle.cs_core.specs.Openings.{IsIndexDamaged, IsOtherDevice, IsOtherSection, IsOtherSpelled, IsRootDamaged, IsRootLost, IsRunDamaged, IsSectionDamaged, IsSuperblockDamaged, IsTooSmall, IsWhyNotOpened, IsWhyNotRead}
 use Rattle.cs_core.proofs.SectionReads.{further_page}
 

@@ -4,17 +4,17 @@ use Rattle.cs_chunk.specs.Chunks.{IsFrameIn, end_in}
 use Rattle.cs_disk.specs.Disk.{Image, page}
 use Rattle.cs_extent.specs.State.{IsWhole, State as ExtentsState, extents_of, shape}
 use Rattle.cs_frame.specs.Formats.{as_locator, formats_of}
-use Rattle.cs_model.proofs.Frozen.{reach_now, within_now}
-use Rattle.cs_model.specs.Device.{Page, PageKind}
-use Rattle.cs_model.specs.Element.{Locator as Place}
-use Rattle.cs_model.specs.Events.{ReadsNow, newest_page}
-use Rattle.cs_model.specs.Extents.{Extents, reach}
-use Rattle.cs_model.specs.Formats.{ChunkFrame, Stand}
-use Rattle.cs_model.specs.Sound.{Sound}
-use Rattle.cs_model.specs.State.{State}
-use Rattle.cs_refine.proofs.Shapes.{store_shape}
-use Rattle.cs_refine.specs.Devices.{pages_now, read_by}
-use Rattle.cs_refine.specs.Stores.{FoundAsMuch}
+use Rattle.law_machine.proofs.Frozen.{reach_now, within_now}
+use Rattle.law_machine.specs.Device.{Page, PageKind}
+use Rattle.law_machine.specs.Element.{Locator as Place}
+use Rattle.law_machine.specs.Events.{ReadsNow, newest_page}
+use Rattle.law_machine.specs.Extents.{Extents, reach}
+use Rattle.law_machine.specs.Formats.{ChunkFrame, Stand}
+use Rattle.law_machine.specs.Sound.{Sound}
+use Rattle.law_machine.specs.State.{State}
+use Rattle.law_refinement.proofs.Shapes.{store_shape}
+use Rattle.law_refinement.specs.Devices.{pages_now, read_by}
+use Rattle.law_refinement.specs.Stores.{FoundAsMuch}
 
 module _ (x : ExtentsState) (s : State) (same : s.world.extents ≡ extents_of x) where
   -- as many pages were found of its extents

@@ -5,8 +5,8 @@ use Rattle.std.specs.declared.alloc.Global.{Global}
 use Rattle.cs_chunk.specs.Chunks.{AreChunksIn, AreMeant}
 use Rattle.cs_chunk.specs.Newest.{AreNewest}
 use Rattle.cs_chunk.specs.Reads.{IsOfChunkIn, IsReadRefusal}
-use Rattle.cs_deps.specs.declared.refusals.Refusal.{Refusal as Code}
-use Rattle.cs_deps.specs.declared.refusals.Refusal.TheVariants as code
+use Rattle.cs_refusal.specs.declared.refusals.Refusal.{Refusal as Code}
+use Rattle.cs_refusal.specs.declared.refusals.Refusal.TheVariants as code
 use Rattle.cs_deps.specs.State.{IsWhole as IsWholeGraph}
 use Rattle.cs_disk.specs.Disk.{State as DiskState, seen}
 use Rattle.cs_disk.proofs.Images.{length-applied}
@@ -14,15 +14,15 @@ use Rattle.cs_extent.specs.State.{IsWhole, shape}
 use Rattle.cs_frame.specs.declared.locators.Locator.{Locator}
 use Rattle.cs_frame.specs.Formats.{as_locator, formats_of, place_of}
 use Rattle.cs_index.specs.State.{index_of}
-use Rattle.cs_model.specs.Element.{Bytes, Damaged}
-use Rattle.cs_model.specs.Index.{joined_bodies, live_at}
-use Rattle.cs_model.specs.Refusal.{DeviceFault, Refusal as Ground}
-use Rattle.cs_model.specs.State.{Get, State, map_now}
-use Rattle.cs_refine.proofs.Disks.{reads}
-use Rattle.cs_refine.proofs.Indexes.{absent}
-use Rattle.cs_refine.proofs.FoundShards.{get_damaged, get_found}
-use Rattle.cs_refine.proofs.PagesRead.{pages_read}
-use Rattle.cs_refine.specs.Devices.{IsDiskOf, pages_now}
+use Rattle.law_machine.specs.Element.{Bytes, Damaged}
+use Rattle.law_machine.specs.Index.{joined_bodies, live_at}
+use Rattle.law_machine.specs.Refusal.{DeviceFault, Refusal as Ground}
+use Rattle.law_machine.specs.State.{Get, State, map_now}
+use Rattle.law_refinement.proofs.Disks.{reads}
+use Rattle.law_refinement.proofs.Indexes.{absent}
+use Rattle.law_refinement.proofs.FoundShards.{get_damaged, get_found}
+use Rattle.law_refinement.proofs.PagesRead.{pages_read}
+use Rattle.law_refinement.specs.Devices.{IsDiskOf, pages_now}
 use Rattle.cs_core.specs.Lookups.{AreMeantBytes}
 use Rattle.cs_core.specs.Reads.{DeclinesOn, GetAnswers}
 use Rattle.cs_core.specs.States.{IsStateOf}
@@ -30,7 +30,7 @@ use Rattle.cs_core.specs.Stored.{Stored}
 use Rattle.cs_core.proofs.Damage.{IsDamage, read_refusal}
 use Rattle.cs_core.proofs.FramesRead.{found_as_much}
 use Rattle.cs_core.proofs.Going.{no_more, pass_found}
-use Rattle.cs_image.specs.Reads.{page_total}
+use Rattle.law_refinement.specs.ImageReads.{page_total}
 
 -- what each page of a store reads as
 pub newest_there : (v : Stored) → IsWhole v.extents → IsWholeGraph v.graph → (disk : DiskState) → page_total (shape v.extents) ≤ length disk.durable

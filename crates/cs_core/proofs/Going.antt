@@ -7,20 +7,20 @@ use Rattle.cs_deps.specs.State.{State as GraphState}
 use Rattle.cs_extent.specs.State.{IsWhole, State as ExtentsState, shape}
 use Rattle.cs_frame.specs.Formats.{formats_of}
 use Rattle.cs_index.specs.State.{State as IndexState}
-use Rattle.cs_model.specs.Cut.{Cut}
-use Rattle.cs_model.specs.Device.{Shape}
-use Rattle.cs_model.specs.Element.{Root, roots_of}
-use Rattle.cs_model.specs.Events.{IsFrontier}
-use Rattle.cs_model.specs.Formats.{Formats}
-use Rattle.cs_model.specs.Lists.{◌∈◌}
-use Rattle.cs_model.specs.Refusal.{Refusal}
-use Rattle.cs_model.specs.Sound.{Bounded, Sound}
-use Rattle.cs_model.specs.State.{Event, Reply, State}
-use Rattle.cs_model.specs.Step.{Step}
-use Rattle.cs_model.proofs.Keeps.{steps}
-use Rattle.cs_refine.specs.Bridge.{name}
-use Rattle.cs_refine.specs.Parts.{ArePartsOf}
-use Rattle.cs_refine.proofs.Shapes.{store_format, store_shape}
+use Rattle.law_machine.specs.Cut.{Cut}
+use Rattle.law_machine.specs.Device.{Shape}
+use Rattle.law_machine.specs.Element.{Root, roots_of}
+use Rattle.law_machine.specs.Events.{IsFrontier}
+use Rattle.law_machine.specs.Formats.{Formats}
+use Rattle.law_machine.specs.Lists.{◌∈◌}
+use Rattle.law_machine.specs.Refusal.{Refusal}
+use Rattle.law_machine.specs.Sound.{Bounded, Sound}
+use Rattle.law_machine.specs.State.{Event, Reply, State}
+use Rattle.law_machine.specs.Step.{Step}
+use Rattle.law_machine.proofs.Keeps.{steps}
+use Rattle.law_refinement.specs.Bridge.{name}
+use Rattle.law_refinement.specs.Parts.{ArePartsOf}
+use Rattle.law_refinement.proofs.Shapes.{store_format, store_shape}
 use Rattle.cs_core.specs.declared.roots.Root.{Root as Noted}
 use Rattle.cs_core.specs.States.{AreRootsOf, IsStateOf}
 use Rattle.cs_core.specs.Stored.{Stored, members_of, but_for_room}

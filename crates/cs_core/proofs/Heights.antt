@@ -6,8 +6,8 @@ use Rattle.cs_deps.proofs.AllHeights.{all_have_heights}
 use Rattle.cs_deps.proofs.Extended.{first_gone, round_lowers}
 use Rattle.cs_deps.specs.Chain.{IsHeight}
 use Rattle.cs_deps.specs.declared.elements.Element.{Element as Name}
-use Rattle.cs_deps.specs.declared.refusals.Refusal.{Refusal as Code}
-use Rattle.cs_deps.specs.declared.refusals.Refusal.TheVariants.{DeviceFault, InFlight, NoRound}
+use Rattle.cs_refusal.specs.declared.refusals.Refusal.{Refusal as Code}
+use Rattle.cs_refusal.specs.declared.refusals.Refusal.TheVariants.{DeviceFault, InFlight, NoRound}
 use Rattle.cs_deps.specs.Pending.{Pending, Waits}
 use Rattle.cs_deps.specs.Staging.{IsKept, Staging, settled}
 use Rattle.cs_core.specs.declared.events.Event.{Event}

@@ -12,31 +12,31 @@ use Rattle.cs_frame.specs.Formats.{formats_of, place_of}
 use Rattle.cs_frame.specs.Frames.{spelled_frame}
 use Rattle.cs_index.specs.Merges.{deletions_go, stage_takes}
 use Rattle.cs_index.specs.Staged.{IsMergeStaged, IsPartAppendedBy, IsRunAppended, run_frame}
-use Rattle.cs_model.specs.Index.{IsMergedRun}
-use Rattle.cs_model.specs.Element.{Entry, Run}
+use Rattle.law_machine.specs.Index.{IsMergedRun}
+use Rattle.law_machine.specs.Element.{Entry, Run}
 use Rattle.cs_frame.specs.Formats.{as_locator}
-use Rattle.cs_deps.specs.declared.refusals.Refusal.{Refusal}
+use Rattle.cs_refusal.specs.declared.refusals.Refusal.{Refusal}
 use Rattle.cs_index.specs.State.{IsSet, State as IndexState, index_of}
-use Rattle.cs_model.specs.Append.{chunk_frames}
-use Rattle.cs_model.specs.Device.{Inside, Shape}
-use Rattle.cs_model.specs.Element.{Locator as Place}
-use Rattle.cs_model.specs.Extents.{Extents, ForRun, Purpose as Reason, marked}
+use Rattle.law_machine.specs.Append.{chunk_frames}
+use Rattle.law_machine.specs.Device.{Inside, Shape}
+use Rattle.law_machine.specs.Element.{Locator as Place}
+use Rattle.law_machine.specs.Extents.{Extents, ForRun, Purpose as Reason, marked}
 use Rattle.std.proofs.lemmas.Bool.{cases_eq, cond-false, cond-true, eq-eqb, ne_eqb}
 use Rattle.cs_deps.specs.Staging.{IsKept as AreKept, Staging}
-use Rattle.cs_model.specs.Index.{live, live_at, lookup}
-use Rattle.cs_model.specs.Lists.{◌∈◌}
-use Rattle.cs_reclaim.specs.Retired.{IsRetired}
-use Rattle.cs_model.specs.Extents.{ForMove}
-use Rattle.cs_reclaim.specs.Sweeps.{IsSwept, IsSweptApart}
-use Rattle.cs_reclaim.proofs.Sweeping.{append_swept}
-use Rattle.cs_reclaim.proofs.SweptStays.{append_stays_apart}
+use Rattle.law_machine.specs.Index.{live, live_at, lookup}
+use Rattle.law_machine.specs.Lists.{◌∈◌}
+use Rattle.law_refinement.specs.cs_reclaim.Retired.{IsRetired}
+use Rattle.law_machine.specs.Extents.{ForMove}
+use Rattle.law_refinement.specs.cs_reclaim.Sweeps.{IsSwept, IsSweptApart}
+use Rattle.law_refinement.proofs.cs_reclaim.Sweeping.{append_swept}
+use Rattle.law_refinement.proofs.cs_reclaim.SweptStays.{append_stays_apart}
 use Rattle.cs_core.specs.Stored.{AreInside, AreSwept, AreWithin, IsKept, IsKeptApart, KeepsDevice, Stored, members_of}
 use Rattle.cs_core.proofs.KeptApart.{kept_apart_marked}
 use Rattle.cs_core.specs.declared.roots.Root.{Root}
 use Rattle.cs_core.specs.Frontiers.{AreNoted}
 use Rattle.cs_core.proofs.Moves.{AddsRoot, IsStagedBy, extent_there, frame_fits, last_root, moves_extents, moves_merged, moves_then}
 use Rattle.cs_core.proofs.Noted.{noted_accepted, noted_pushed}
-use Rattle.cs_image.specs.Reads.{page_total}
+use Rattle.law_refinement.specs.ImageReads.{page_total}
 
 -- PLACES
 -- the places of some chunks are there

@@ -4,11 +4,11 @@ use Rattle.std.specs.Prelude.{◌==◌}
 use Rattle.std.proofs.lemmas.Bool.{cases_eq, cond-false, cond-true, eq-eqb, ne_eqb}
 use Rattle.cs_extent.specs.State.{State as ExtentsState, extents_of, shape}
 use Rattle.cs_index.specs.State.{State as IndexState, index_of}
-use Rattle.cs_model.specs.Device.{Inside, Shape}
-use Rattle.cs_model.specs.Element.{Copy}
-use Rattle.cs_model.specs.Extents.{Extents, marked}
-use Rattle.cs_model.specs.Index.{live_at}
-use Rattle.cs_reclaim.proofs.Copying.{up_to_same}
+use Rattle.law_machine.specs.Device.{Inside, Shape}
+use Rattle.law_machine.specs.Element.{Copy}
+use Rattle.law_machine.specs.Extents.{Extents, marked}
+use Rattle.law_machine.specs.Index.{live_at}
+use Rattle.law_refinement.proofs.cs_reclaim.Copying.{up_to_same}
 use Rattle.cs_core.specs.Stored.{IsKeptApart}
 
 -- no extent is marked that wasn't, what lives is the same, and there are not too many runs

@@ -2,24 +2,24 @@
 use Rattle.std.proofs.Common.{◌≡◌, ◌∙◌, inl, inr, ⊎_elim, ℕ, ◌≤◌, true, List, [], ◌∷◌, Some, None, Ok, Err, ap, arith, length, refl, sym, subst}
 use Rattle.std.specs.Prelude.{◌↔◌, ◌==◌, OnErr, OnOk, Option, Result}
 use Rattle.std.proofs.lemmas.Bool.{cases_eq, cond-false, ne_eqb}
-use Rattle.cs_deps.specs.declared.refusals.Refusal.{Refusal as Code}
-use Rattle.cs_deps.specs.declared.refusals.Refusal.TheVariants as code
+use Rattle.cs_refusal.specs.declared.refusals.Refusal.{Refusal as Code}
+use Rattle.cs_refusal.specs.declared.refusals.Refusal.TheVariants as code
 use Rattle.cs_deps.specs.State.{State as GraphState}
 use Rattle.cs_extent.specs.Frames.{AreResetsStaged}
 use Rattle.cs_extent.specs.State.{State as ExtentsState, extents_of, shape}
 use Rattle.cs_frame.specs.declared.identifiers.ShardId.{ShardId}
 use Rattle.cs_frame.specs.Formats.{place_of}
 use Rattle.cs_index.specs.State.{State as IndexState, id_number, index_of}
-use Rattle.cs_model.proofs.ApartResets.{swept_below}
-use Rattle.cs_model.specs.Apart.{MayNotBegin, is_any_swept, swept_aside}
-use Rattle.cs_model.specs.Device.{Inside, Shape}
-use Rattle.cs_model.specs.Element.{Copy}
-use Rattle.cs_model.specs.Extents.{Extents, ForMove}
-use Rattle.cs_model.specs.Lists.{◌∈◌}
-use Rattle.cs_reclaim.proofs.Copying.{up_to_none}
-use Rattle.cs_reclaim.specs.Copied.{AllUpTo, AreInOrder, IsCopyMade}
-use Rattle.cs_reclaim.specs.Moves.{chunk_frame}
-use Rattle.cs_reclaim.specs.Sweeps.{IsSweptApart}
+use Rattle.law_machine.proofs.ApartResets.{swept_below}
+use Rattle.law_machine.specs.Apart.{MayNotBegin, is_any_swept, swept_aside}
+use Rattle.law_machine.specs.Device.{Inside, Shape}
+use Rattle.law_machine.specs.Element.{Copy}
+use Rattle.law_machine.specs.Extents.{Extents, ForMove}
+use Rattle.law_machine.specs.Lists.{◌∈◌}
+use Rattle.law_refinement.proofs.cs_reclaim.Copying.{up_to_none}
+use Rattle.law_refinement.specs.cs_reclaim.Copied.{AllUpTo, AreInOrder, IsCopyMade}
+use Rattle.law_refinement.specs.cs_reclaim.Moves.{chunk_frame}
+use Rattle.law_refinement.specs.cs_reclaim.Sweeps.{IsSweptApart}
 use Rattle.cs_core.specs.Stored.{AreSwept, IsKept, IsKeptApart, StagesBehind, Stored}
 use Rattle.cs_core.proofs.Kept.{kept_on, noted_on, only_apart, places_there, swept_appended}
 use Rattle.cs_core.proofs.Moves.{behind_none, last_root, moves_appended, moves_extents, moves_refused, root_appended}

@@ -1,18 +1,18 @@
 -- What a move of a chunk keeps.
 use Rattle.std.proofs.Common.{◌≡◌, ◌∙◌, ◌⊎◌, false, inl, inr, ⊎_elim, ℕ, zero, suc, List, [], ◌∷◌, Some, None, Ok, Err, ap, arith, length, refl, sym, subst}
 use Rattle.std.specs.Prelude.{OnErr, OnOk, Option, Result}
-use Rattle.cs_deps.specs.declared.refusals.Refusal.{Refusal as Code}
+use Rattle.cs_refusal.specs.declared.refusals.Refusal.{Refusal as Code}
 use Rattle.cs_deps.specs.State.{State as GraphState}
 use Rattle.cs_extent.specs.Frames.{AreResetsStaged}
 use Rattle.cs_extent.specs.State.{State as ExtentsState, extents_of, shape}
 use Rattle.cs_frame.specs.declared.identifiers.ShardId.{ShardId}
 use Rattle.cs_frame.specs.Formats.{place_of}
 use Rattle.cs_index.specs.State.{State as IndexState, id_number, index_of}
-use Rattle.cs_model.specs.Device.{Shape}
-use Rattle.cs_model.specs.Extents.{ForMove}
-use Rattle.cs_model.specs.Index.{live_at}
-use Rattle.cs_model.specs.Lists.{replaced, ◌∈◌}
-use Rattle.cs_reclaim.specs.Moves.{IsMoved, chunk_frame}
+use Rattle.law_machine.specs.Device.{Shape}
+use Rattle.law_machine.specs.Extents.{ForMove}
+use Rattle.law_machine.specs.Index.{live_at}
+use Rattle.law_machine.specs.Lists.{replaced, ◌∈◌}
+use Rattle.law_refinement.specs.cs_reclaim.Moves.{IsMoved, chunk_frame}
 use Rattle.cs_core.specs.Stored.{AreSwept, IsKept, StagesBehind, Stored}
 use Rattle.cs_core.proofs.Kept.{inside_live, inside_set, kept_on, not_both, noted_on, places_there, same_live, swept_appended}
 use Rattle.cs_core.proofs.Moves.{behind_none, last_root, moves_appended, moves_refused, root_appended}

@@ -8,15 +8,15 @@ use Rattle.cs_frame.specs.Formats.{place_of}
 use Rattle.cs_frame.specs.Locators.{KeepFormat}
 use Rattle.cs_index.proofs.Marks.{placed_keeps}
 use Rattle.cs_index.specs.State.{IsSet, State as IndexState, index_of}
-use Rattle.cs_model.specs.Device.{Inside, Shape}
-use Rattle.cs_model.specs.Element.{Copy, Locator as Place}
-use Rattle.cs_model.specs.Extents.{Extents, ForPut, Purpose as Reason}
-use Rattle.cs_model.specs.Geometry.{marks_in}
-use Rattle.cs_model.specs.Lists.{nth}
-use Rattle.cs_reclaim.proofs.Copying.{up_to_put}
-use Rattle.cs_reclaim.proofs.Marking.{elsewhere_apart}
-use Rattle.cs_reclaim.proofs.SweptStays.{append_stays_apart}
-use Rattle.cs_reclaim.specs.Sweeps.{IsSweptApart}
+use Rattle.law_machine.specs.Device.{Inside, Shape}
+use Rattle.law_machine.specs.Element.{Copy, Locator as Place}
+use Rattle.law_machine.specs.Extents.{Extents, ForPut, Purpose as Reason}
+use Rattle.law_machine.specs.Geometry.{marks_in}
+use Rattle.law_machine.specs.Lists.{nth}
+use Rattle.law_refinement.proofs.cs_reclaim.Copying.{up_to_put}
+use Rattle.law_refinement.proofs.cs_reclaim.Marking.{elsewhere_apart}
+use Rattle.law_refinement.proofs.cs_reclaim.SweptStays.{append_stays_apart}
+use Rattle.law_refinement.specs.cs_reclaim.Sweeps.{IsSweptApart}
 use Rattle.cs_core.specs.Stored.{AreSwept, IsKeptApart}
 use Rattle.cs_core.proofs.Kept.{not_both}
 

@@ -13,20 +13,20 @@ use Rattle.cs_index.specs.Copies.{IsSettled, settle_in, settle_table}
 use Rattle.cs_index.specs.Merges.{deletions_go, part}
 use Rattle.cs_index.specs.Staged.{IsPartAppendedBy}
 use Rattle.cs_index.specs.State.{State as IndexState, index_of}
-use Rattle.cs_model.proofs.ApartResets.{swept_below, swept_stay}
-use Rattle.cs_model.proofs.Counting.{lookup_here}
-use Rattle.cs_model.specs.Apart.{is_any_swept, is_blank_by, is_place}
-use Rattle.cs_model.specs.Device.{Inside, Shape}
-use Rattle.cs_model.specs.Element.{Copy, Entry, Locator as Place, Run}
-use Rattle.cs_model.specs.Extents.{Extents, ForMerge, ForRun, Purpose as Reason}
-use Rattle.cs_model.specs.Index.{entries_of, if_live, live, live_at, lookup}
-use Rattle.cs_model.specs.Lists.{nth, replaced, ◌∈◌}
-use Rattle.cs_model.specs.Merges.{IsRunOf}
-use Rattle.cs_reclaim.proofs.Copying.{up_to_same}
-use Rattle.cs_reclaim.proofs.SweptStays.{stage_stays}
-use Rattle.cs_reclaim.specs.Copied.{AllUpTo, AreInOrder}
-use Rattle.cs_reclaim.specs.Rooted.{IsRetiredApart, IsSweepStaged, extents_at_rest, lying_apart}
-use Rattle.cs_refine.proofs.Shapes.{store_shape}
+use Rattle.law_machine.proofs.ApartResets.{swept_below, swept_stay}
+use Rattle.law_machine.proofs.Counting.{lookup_here}
+use Rattle.law_machine.specs.Apart.{is_any_swept, is_blank_by, is_place}
+use Rattle.law_machine.specs.Device.{Inside, Shape}
+use Rattle.law_machine.specs.Element.{Copy, Entry, Locator as Place, Run}
+use Rattle.law_machine.specs.Extents.{Extents, ForMerge, ForRun, Purpose as Reason}
+use Rattle.law_machine.specs.Index.{entries_of, if_live, live, live_at, lookup}
+use Rattle.law_machine.specs.Lists.{nth, replaced, ◌∈◌}
+use Rattle.law_machine.specs.Merges.{IsRunOf}
+use Rattle.law_refinement.proofs.cs_reclaim.Copying.{up_to_same}
+use Rattle.law_refinement.proofs.cs_reclaim.SweptStays.{stage_stays}
+use Rattle.law_refinement.specs.cs_reclaim.Copied.{AllUpTo, AreInOrder}
+use Rattle.law_refinement.specs.cs_reclaim.Rooted.{IsRetiredApart, IsSweepStaged, extents_at_rest, lying_apart}
+use Rattle.law_refinement.proofs.Shapes.{store_shape}
 use Rattle.cs_core.specs.Puts.{MeansTheSame}
 use Rattle.cs_core.specs.Stored.{AreInside, AreSwept, IsKeptApart, KeepsDevice}
 use Rattle.cs_core.proofs.PutsMeant.{live_means, settled_means, then_means}

@@ -3,7 +3,7 @@ use Rattle.std.proofs.Common.{◌≡◌, ◌∙◌, length, refl}
 use Rattle.cs_disk.specs.declared.disk.PageDisk.{Ghosts as PageDisk}
 use Rattle.cs_disk.specs.Disk.{Image, Leaves, LeavesOnly, MayLeave, page}
 use Rattle.cs_extent.specs.State.{IsWhole, shape}
-use Rattle.cs_refine.specs.Crashes.{IsPrefix}
+use Rattle.law_refinement.specs.Crashes.{IsPrefix}
 use Rattle.cs_core.specs.Meanings.{commands_said}
 use Rattle.cs_core.specs.Views.{IsCore, View}
 use Rattle.cs_core.proofs.Crashes.{left_of, only_before}

@@ -60,4 +60,5 @@ pub mod Unstaged
 pub mod Versions
 pub mod Causes
 pub mod TwoTexts
-pub use Rattle.cs_image.proofs as cs_image
+pub use Rattle.law_refinement.proofs as law_refinement
+pub use Rattle.cs_index.proofs as cs_index

@@ -7,15 +7,15 @@ use Rattle.std.proofs.lemmas.List.{length-map}
 use Rattle.cs_extent.specs.State.{State as ExtentsState}
 use Rattle.cs_frame.specs.declared.locators.Locator.{Locator}
 use Rattle.cs_frame.specs.Formats.{as_locator, place_of}
-use Rattle.cs_image.specs.Counts.{HasCount}
-use Rattle.cs_image.specs.Reads.{IsLocated}
+use Rattle.law_refinement.specs.Counts.{HasCount}
+use Rattle.law_refinement.specs.ImageReads.{IsLocated}
 use Rattle.cs_index.proofs.Merged.{merged_end, merged_step}
 use Rattle.cs_index.specs.Sorted.{IsMergedTo, live_entry}
 use Rattle.cs_index.specs.State.{IsAfter, IsNext}
-use Rattle.cs_model.proofs.Counting.{ascending_names, lookup_here, lookup_there, names_le}
-use Rattle.cs_model.specs.Element.{Entry, Locator as Place}
-use Rattle.cs_model.specs.Index.{Ascending, IsMergedRun, if_live, live, live_at, lookup, names}
-use Rattle.cs_model.specs.Lists.{◌∈◌}
+use Rattle.law_machine.proofs.Counting.{ascending_names, lookup_here, lookup_there, names_le}
+use Rattle.law_machine.specs.Element.{Entry, Locator as Place}
+use Rattle.law_machine.specs.Index.{Ascending, IsMergedRun, if_live, live, live_at, lookup, names}
+use Rattle.law_machine.specs.Lists.{◌∈◌}
 use Rattle.cs_core.specs.Openings.{AreLiveLocated}
 
 -- ---- no more are counted than are named

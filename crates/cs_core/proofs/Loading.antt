@@ -7,9 +7,10 @@ use Rattle.std.proofs.lemmas.Bool.{cases_lt, cond-false}
 use Rattle.std.proofs.lemmas.List.{length-map, map-append}
 use Rattle.cs_chunk.specs.Chunks.{IsFrameIn}
 use Rattle.cs_chunk.specs.Newest.{AreNewest}
-use Rattle.cs_chunk.specs.Reads.{IsCaused, IsNoAnswer, IsOfFault, fault_in, refusal_for}
-use Rattle.cs_deps.specs.declared.refusals.Refusal.{Refusal}
-use Rattle.cs_deps.specs.declared.refusals.Refusal.TheVariants.{DeviceFault, OutOfMemory as NoMemory}
+use Rattle.cs_chunk.specs.Reads.{IsCaused, IsNoAnswer, IsOfFault, fault_in}
+use Rattle.cs_frame.specs.Refusals.{refusal_for}
+use Rattle.cs_refusal.specs.declared.refusals.Refusal.{Refusal}
+use Rattle.cs_refusal.specs.declared.refusals.Refusal.TheVariants.{DeviceFault, OutOfMemory as NoMemory}
 use Rattle.cs_deps.specs.State.{NoneOn, State as GraphState}
 use Rattle.cs_disk.specs.Disk.{Image, page}
 use Rattle.cs_extent.specs.Frames.{root_family}
@@ -24,21 +25,21 @@ use Rattle.cs_frame.specs.FormatRuns.{SpellsRun, run_fault}
 use Rattle.cs_frame.specs.Locators.{FitsLocator, KeepFormat}
 use Rattle.cs_frame.specs.Runs.{FitsEntry, IsRun, entries_of as spelled_entries, entry_of}
 use Rattle.cs_frame.specs.Places.{Listed}
-use Rattle.cs_image.proofs.Families.{length-by_family, root_in}
-use Rattle.cs_image.proofs.Listed.{all_default}
-use Rattle.cs_image.proofs.OneByOne.{place_inside}
-use Rattle.cs_image.specs.Counts.{HasCount}
-use Rattle.cs_image.specs.Openings.{by_family, graph_at, index_at}
-use Rattle.cs_image.specs.Reads.{AreRunsRead, HasRunAt, IsLocated, IsRunRead, extents_at}
+use Rattle.law_refinement.proofs.Families.{length-by_family, root_in}
+use Rattle.law_refinement.proofs.Listed.{all_default}
+use Rattle.law_refinement.proofs.OneByOne.{place_inside}
+use Rattle.law_refinement.specs.Counts.{HasCount}
+use Rattle.law_refinement.specs.Images.{by_family, graph_at, index_at}
+use Rattle.law_refinement.specs.ImageReads.{AreRunsRead, HasRunAt, IsLocated, IsRunRead, extents_at}
 use Rattle.cs_index.proofs.Whole.{length-newest}
 use Rattle.cs_index.proofs.Sorted.{all_append, take_at_get}
-use Rattle.cs_index.specs.declared.runs.StoredRun.{StoredRun}
+use Rattle.cs_index.specs.declared.stored_runs.StoredRun.{StoredRun}
 use Rattle.cs_index.specs.State.{State as IndexState, index_of, newest_first}
-use Rattle.cs_model.specs.Device.{Inside, Shape}
-use Rattle.cs_model.specs.Element.{Copy}
-use Rattle.cs_model.specs.Formats.{RunFrame}
-use Rattle.cs_model.specs.Geometry.{marks_in, most_weight_in}
-use Rattle.cs_model.specs.Index.{entries_of, live_at}
+use Rattle.law_machine.specs.Device.{Inside, Shape}
+use Rattle.law_machine.specs.Element.{Copy}
+use Rattle.law_machine.specs.Formats.{RunFrame}
+use Rattle.law_machine.specs.Geometry.{marks_in, most_weight_in}
+use Rattle.law_machine.specs.Index.{entries_of, live_at}
 use Rattle.cs_core.specs.declared.roots.Root.{Root as Noted}
 use Rattle.cs_core.specs.Openings.{AreExtentsOpened, AreLocatedBy, IsLoaded, IsWhyNoRuns, IsWhyNotRead, opened_stored}
 use Rattle.cs_core.specs.Stored.{AreInside, IsKept, Stored}

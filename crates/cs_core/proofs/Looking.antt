@@ -3,7 +3,7 @@ use Rattle.std.proofs.Common.{◌≡◌, ◌≢◌, ◌⊎◌, inl, inr, ℕ, Bo
 use Rattle.std.specs.Prelude.{◌↔◌, IsTrue, MatchBool, Option, Result, Vec}
 use Rattle.std.specs.declared.alloc.Global.{Global}
 use Rattle.cs_chunk.specs.Newest.{AreNewest, IsReadAs}
-use Rattle.cs_deps.specs.declared.refusals.Refusal.{Refusal as Code}
+use Rattle.cs_refusal.specs.declared.refusals.Refusal.{Refusal as Code}
 use Rattle.cs_deps.specs.State.{State as GraphState}
 use Rattle.cs_disk.specs.Reads.{OnlyReads}
 use Rattle.cs_disk.specs.declared.disk.PageDisk.{Ghosts as PageDisk}
@@ -11,13 +11,13 @@ use Rattle.cs_disk.specs.Disk.{Image, Leaves, LeavesOnly, MayLeave, State as Dis
 use Rattle.cs_extent.specs.State.{IsWhole, shape}
 use Rattle.cs_frame.specs.Formats.{formats_of}
 use Rattle.cs_index.specs.State.{index_of}
-use Rattle.cs_model.specs.Element.{Damaged}
-use Rattle.cs_model.specs.Index.{live_at}
-use Rattle.cs_model.specs.Refusal.{DeviceFault, Refusal as Ground}
-use Rattle.cs_model.specs.State.{State, map_now}
-use Rattle.cs_refine.proofs.Indexes.{absent}
-use Rattle.cs_refine.specs.Devices.{IsDiskOf}
-use Rattle.cs_refine.specs.Refusals.{refusal_for}
+use Rattle.law_machine.specs.Element.{Damaged}
+use Rattle.law_machine.specs.Index.{live_at}
+use Rattle.law_machine.specs.Refusal.{DeviceFault, Refusal as Ground}
+use Rattle.law_machine.specs.State.{State, map_now}
+use Rattle.law_refinement.proofs.Indexes.{absent}
+use Rattle.law_refinement.specs.Devices.{IsDiskOf}
+use Rattle.law_refinement.specs.Refusals.{refusal_for}
 use Rattle.cs_core.specs.Lookups.{IsReading, IsSize, TellsSize}
 use Rattle.cs_core.specs.Reads.{GetAnswers}
 use Rattle.cs_core.specs.States.{IsStateOf}

@@ -5,12 +5,12 @@ use Rattle.cs_chunk.specs.Chunks.{AreMeant}
 use Rattle.cs_extent.specs.State.{State as ExtentsState, shape}
 use Rattle.cs_frame.specs.Formats.{as_locator, formats_of}
 use Rattle.cs_index.specs.State.{index_of}
-use Rattle.cs_model.specs.Device.{Page}
-use Rattle.cs_model.specs.Element.{Bytes, Damaged, Locator as Place, Opening}
-use Rattle.cs_model.specs.Events.{newest_page}
-use Rattle.cs_model.specs.Geometry.{marks_in}
-use Rattle.cs_model.specs.Index.{ReadsAs, joined_bodies, live_at}
-use Rattle.cs_model.specs.State.{State, map_now}
+use Rattle.law_machine.specs.Device.{Page}
+use Rattle.law_machine.specs.Element.{Bytes, Damaged, Locator as Place, Opening}
+use Rattle.law_machine.specs.Events.{newest_page}
+use Rattle.law_machine.specs.Geometry.{marks_in}
+use Rattle.law_machine.specs.Index.{ReadsAs, joined_bodies, live_at}
+use Rattle.law_machine.specs.State.{State, map_now}
 use Rattle.cs_core.specs.Lookups.{AreMeantBytes, SameOrTwoAgree}
 use Rattle.cs_core.specs.States.{IsStateOf}
 use Rattle.cs_core.specs.Stored.{Stored}

@@ -4,17 +4,17 @@ use Rattle.std.specs.Prelude.{◌↔◌, Contains, Err, IsSome, Ok, Option, opti
 use Rattle.std.proofs.lemmas.Bool.Decides.{nat_tests}
 use Rattle.cs_deps.specs.declared.elements.Element.{Element as Name}
 use Rattle.cs_deps.specs.declared.elements.Element.TheVariants.{Plain, Version}
-use Rattle.cs_deps.specs.declared.refusals.Refusal.TheVariants.{InFlight}
+use Rattle.cs_refusal.specs.declared.refusals.Refusal.TheVariants.{InFlight}
 use Rattle.cs_deps.specs.Staging.{settled}
 use Rattle.cs_deps.specs.State.{IsWhole as IsWholeGraph, KeepsBytes, State as GraphState, after, after_round}
 use Rattle.cs_core.specs.Stored.{members_of}
-use Rattle.cs_model.specs.Device.{Shape}
-use Rattle.cs_model.specs.Element.{A_root, A_superblock, A_write, Element}
-use Rattle.cs_model.specs.Lists.{◌∈◌}
-use Rattle.cs_model.specs.Machine.{World}
-use Rattle.cs_model.specs.Round.{IsMember}
-use Rattle.cs_model.proofs.Waiting.{Listed, root_in, superblock_in, write_in}
-use Rattle.cs_refine.specs.Bridge.{AreNames, IsWaiting, name}
+use Rattle.law_machine.specs.Device.{Shape}
+use Rattle.law_machine.specs.Element.{A_root, A_superblock, A_write, Element}
+use Rattle.law_machine.specs.Lists.{◌∈◌}
+use Rattle.law_machine.specs.Machine.{World}
+use Rattle.law_machine.specs.Round.{IsMember}
+use Rattle.law_machine.proofs.Waiting.{Listed, root_in, superblock_in, write_in}
+use Rattle.law_refinement.specs.Bridge.{AreNames, IsWaiting, name}
 
 -- a member is staged and waits
 pub member_listed : (S : Shape) (w : World) (m : Element) → IsMember S w m → Listed w.elements m

@@ -1,14 +1,14 @@
 -- Which ground refuses a MoveOne, by either rule.
 use Rattle.std.proofs.Common.{◌≡◌, inl, inr, ℕ, true, false, refl}
-use Rattle.cs_model.proofs.Rules.{apart_rule, before_rule, rule_apart, rule_before}
-use Rattle.cs_model.specs.Apart.{DamagedLeft, NoRoomToCopy, NothingLeft}
-use Rattle.cs_model.specs.Device.{Shape}
-use Rattle.cs_model.specs.Formats.{Formats}
-use Rattle.cs_model.specs.Grounds.{DamagedFirst, NoRoomToMove, Refuses, WouldPass}
-use Rattle.cs_model.specs.Index.{NothingLive}
-use Rattle.cs_model.specs.Refusal.{Full, Halted, NotSweepable, Refusal, WornOut}
-use Rattle.cs_model.specs.State.{MoveOne, State, index_now}
-use Rattle.cs_model.specs.Step.{Reading}
+use Rattle.law_machine.proofs.Rules.{apart_rule, before_rule, rule_apart, rule_before}
+use Rattle.law_machine.specs.Apart.{DamagedLeft, NoRoomToCopy, NothingLeft}
+use Rattle.law_machine.specs.Device.{Shape}
+use Rattle.law_machine.specs.Formats.{Formats}
+use Rattle.law_machine.specs.Grounds.{DamagedFirst, NoRoomToMove, Refuses, WouldPass}
+use Rattle.law_machine.specs.Index.{NothingLive}
+use Rattle.law_machine.specs.Refusal.{Full, Halted, NotSweepable, Refusal, WornOut}
+use Rattle.law_machine.specs.State.{MoveOne, State, index_now}
+use Rattle.law_machine.specs.Step.{Reading}
 use Rattle.cs_core.proofs.Going.{no_more, pass, pass_found}
 
 module _ (S : Shape) (F : Formats) (s : State) (e : ℕ) (runs : s.halted ≡ true → ⊥) (marked : s.world.extents.swept e ≡ false → ⊥) where

@@ -3,9 +3,10 @@ use Rattle.std.proofs.Common.{◌≡◌, ◌⊎◌, inl, inr, ⊎_elim, ℕ, ◌
 use Rattle.std.specs.Prelude.{◌↔◌, IfErr, OnErr, Option, Result}
 use Rattle.cs_chunk.specs.Chunks.{IsFrameIn}
 use Rattle.cs_chunk.specs.Newest.{AreNewest}
-use Rattle.cs_chunk.specs.Reads.{IsNoAnswer, IsOfFault, IsReadRefusal, fault_in, refusal_for as code_of}
-use Rattle.cs_deps.specs.declared.refusals.Refusal.{Refusal as Code}
-use Rattle.cs_deps.specs.declared.refusals.Refusal.TheVariants as code
+use Rattle.cs_chunk.specs.Reads.{IsNoAnswer, IsOfFault, IsReadRefusal, fault_in}
+use Rattle.cs_frame.specs.Refusals.{refusal_for as code_of}
+use Rattle.cs_refusal.specs.declared.refusals.Refusal.{Refusal as Code}
+use Rattle.cs_refusal.specs.declared.refusals.Refusal.TheVariants as code
 use Rattle.cs_deps.specs.State.{IsWhole as IsWholeGraph, State as GraphState}
 use Rattle.cs_disk.specs.Disk.{State as DiskState, seen}
 use Rattle.cs_extent.specs.State.{IsWhole, State as ExtentsState, extents_of, shape}
@@ -16,28 +17,28 @@ use Rattle.cs_frame.specs.declared.frames.FrameKind.TheVariants.{Chunk}
 use Rattle.cs_frame.specs.Formats.{as_locator, formats_of}
 use Rattle.cs_index.specs.Staged.{IsWhy}
 use Rattle.cs_index.specs.State.{State as IndexState, id_number, index_of}
-use Rattle.cs_model.proofs.Limits.{not_past}
-use Rattle.cs_model.proofs.Outcomes.{first_one, live_found, not_nothing}
-use Rattle.cs_model.specs.Element.{Locator as Place}
-use Rattle.cs_model.specs.Events.{Does, ReadsNow}
-use Rattle.cs_model.specs.Extents.{ForMove, NoPlace}
-use Rattle.cs_model.specs.Formats.{ChunkFrame}
-use Rattle.cs_model.specs.Grounds.{DamagedFirst, NoRoomToMove, PastLimit, Refuses, WouldPass}
-use Rattle.cs_model.specs.Index.{FirstLive, NothingLive, live_at}
-use Rattle.cs_model.specs.Lists.{replaced, ◌∈◌}
-use Rattle.cs_model.specs.Refusal.{DeviceFault, Full, NotSweepable, Refusal as Ground, WornOut}
-use Rattle.cs_model.specs.State.{MoveOne, Moved, NoneLive, Refused, Reply, State, index_now}
-use Rattle.cs_model.specs.Step.{Step}
-use Rattle.cs_refine.proofs.Calls.{move}
-use Rattle.cs_refine.proofs.DoesBefore.{moved as did_move, none_moved, none_so}
-use Rattle.cs_refine.proofs.Indexes.{first_live, looked_up, nothing_live}
-use Rattle.cs_refine.proofs.RefusedMoves.{move_full, move_worn}
-use Rattle.cs_refine.proofs.FoundShards.{live_damaged, live_payload, live_whole}
-use Rattle.cs_refine.proofs.Shapes.{store_format, store_shape}
-use Rattle.cs_refine.specs.Devices.{IsDiskOf, pages_now}
-use Rattle.cs_refine.specs.Parts.{ArePartsOf}
+use Rattle.law_machine.proofs.Limits.{not_past}
+use Rattle.law_machine.proofs.Outcomes.{first_one, live_found, not_nothing}
+use Rattle.law_machine.specs.Element.{Locator as Place}
+use Rattle.law_machine.specs.Events.{Does, ReadsNow}
+use Rattle.law_machine.specs.Extents.{ForMove, NoPlace}
+use Rattle.law_machine.specs.Formats.{ChunkFrame}
+use Rattle.law_machine.specs.Grounds.{DamagedFirst, NoRoomToMove, PastLimit, Refuses, WouldPass}
+use Rattle.law_machine.specs.Index.{FirstLive, NothingLive, live_at}
+use Rattle.law_machine.specs.Lists.{replaced, ◌∈◌}
+use Rattle.law_machine.specs.Refusal.{DeviceFault, Full, NotSweepable, Refusal as Ground, WornOut}
+use Rattle.law_machine.specs.State.{MoveOne, Moved, NoneLive, Refused, Reply, State, index_now}
+use Rattle.law_machine.specs.Step.{Step}
+use Rattle.law_refinement.proofs.Calls.{move}
+use Rattle.law_refinement.proofs.DoesBefore.{moved as did_move, none_moved, none_so}
+use Rattle.law_refinement.proofs.Indexes.{first_live, looked_up, nothing_live}
+use Rattle.law_refinement.proofs.RefusedMoves.{move_full, move_worn}
+use Rattle.law_refinement.proofs.FoundShards.{live_damaged, live_payload, live_whole}
+use Rattle.law_refinement.proofs.Shapes.{store_format, store_shape}
+use Rattle.law_refinement.specs.Devices.{IsDiskOf, pages_now}
+use Rattle.law_refinement.specs.Parts.{ArePartsOf}
 use Rattle.cs_index.proofs.Living.{nth_in}
-use Rattle.cs_reclaim.specs.Moves.{AnswersMove, AnswersPlace, IsMoved, chunk_frame}
+use Rattle.law_refinement.specs.cs_reclaim.Moves.{AnswersMove, AnswersPlace, IsMoved, chunk_frame}
 use Rattle.cs_frame.specs.declared.identifiers.ShardId.{ShardId}
 use Rattle.cs_core.specs.Reads.{DeclinesOn, MoveAnswers, StepsOn}
 use Rattle.cs_core.specs.States.{IsStateOf}
@@ -49,7 +50,7 @@ use Rattle.cs_core.proofs.Going.{Beside, beside_is, frontier_same, goes_on, goin
 use Rattle.cs_core.proofs.MoveGrounds.{damaged_before, full_before, none_before, reads_before, worn_before}
 use Rattle.cs_core.proofs.RootsStay.{SameRoots, append_stays}
 use Rattle.cs_core.proofs.SweepSteps.{is_marked, move_unmarked}
-use Rattle.cs_image.specs.Reads.{page_total}
+use Rattle.law_refinement.specs.ImageReads.{page_total}
 
 -- an extent that isn't being swept
 pub move_unswept : (v : Stored) (whole : IsWhole v.extents) (runs : v.halted ≡ false) (disk : DiskState) (e : ℕ) → (extents_of v.extents).swept e ≡ false → MoveAnswers v disk e (Err code.NotSweepable) v

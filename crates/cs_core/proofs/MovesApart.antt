@@ -4,8 +4,8 @@ use Rattle.std.specs.Prelude.{◌↔◌, IfErr, OnErr, Option, Result}
 use Rattle.cs_chunk.specs.Chunks.{IsFrameIn}
 use Rattle.cs_chunk.specs.Newest.{AreNewest}
 use Rattle.cs_chunk.specs.Reads.{IsNoAnswer, IsOfFault, IsReadRefusal, fault_in}
-use Rattle.cs_deps.specs.declared.refusals.Refusal.{Refusal as Code}
-use Rattle.cs_deps.specs.declared.refusals.Refusal.TheVariants as code
+use Rattle.cs_refusal.specs.declared.refusals.Refusal.{Refusal as Code}
+use Rattle.cs_refusal.specs.declared.refusals.Refusal.TheVariants as code
 use Rattle.cs_deps.specs.State.{IsWhole as IsWholeGraph, State as GraphState}
 use Rattle.cs_disk.specs.Disk.{State as DiskState, seen}
 use Rattle.cs_extent.specs.State.{IsWhole, State as ExtentsState, extents_of, shape}
@@ -16,31 +16,31 @@ use Rattle.cs_frame.specs.Formats.{as_locator, formats_of}
 use Rattle.cs_index.proofs.Living.{nth_in}
 use Rattle.cs_index.specs.Staged.{IsWhy}
 use Rattle.cs_index.specs.State.{id_number, index_of}
-use Rattle.cs_model.proofs.AnsweredSweeps.{some_left}
-use Rattle.cs_model.proofs.ApartAnswered.{left_found}
-use Rattle.cs_model.proofs.Limits.{not_past}
-use Rattle.cs_model.specs.Apart.{AllCopied, DamagedLeft, FirstLeft, FirstUncopied, NoRoomToCopy, NothingLeft}
-use Rattle.cs_model.specs.Device.{Shape}
-use Rattle.cs_model.specs.Element.{Copy, Locator as Place}
-use Rattle.cs_model.specs.Events.{Does, ReadsNow}
-use Rattle.cs_model.specs.Extents.{ForMove}
-use Rattle.cs_model.specs.Formats.{ChunkFrame, Formats}
-use Rattle.cs_model.specs.Grounds.{PastLimit, Refuses, WouldPass}
-use Rattle.cs_model.specs.Index.{live_at}
-use Rattle.cs_model.specs.Lists.{◌∈◌}
-use Rattle.cs_model.specs.Refusal.{DeviceFault, Full, Refusal as Ground, WornOut}
-use Rattle.cs_model.specs.State.{MoveOne, Moved, NoneLive, Refused, Reply, State, index_now}
-use Rattle.cs_model.specs.Step.{Step}
-use Rattle.cs_reclaim.specs.Copied.{IsCopyMade}
-use Rattle.cs_reclaim.specs.Moves.{AnswersMove, AnswersPlaceBy, NowhereBy, chunk_frame}
-use Rattle.cs_refine.proofs.CallsApart.{none_left}
-use Rattle.cs_refine.proofs.CopiesMade.{copy}
-use Rattle.cs_refine.proofs.DoesApart.{moved as did_copy, none_moved}
-use Rattle.cs_refine.proofs.RefusedSweeps.{copy_damaged, copy_full, copy_worn, first_left, nothing_left}
-use Rattle.cs_refine.proofs.FoundShards.{live_damaged, live_payload, live_whole}
-use Rattle.cs_refine.proofs.Shapes.{store_format, store_shape}
-use Rattle.cs_refine.specs.Copying.{AreAllPartsOf}
-use Rattle.cs_refine.specs.Devices.{IsDiskOf, pages_now}
+use Rattle.law_machine.proofs.AnsweredSweeps.{some_left}
+use Rattle.law_machine.proofs.ApartAnswered.{left_found}
+use Rattle.law_machine.proofs.Limits.{not_past}
+use Rattle.law_machine.specs.Apart.{AllCopied, DamagedLeft, FirstLeft, FirstUncopied, NoRoomToCopy, NothingLeft}
+use Rattle.law_machine.specs.Device.{Shape}
+use Rattle.law_machine.specs.Element.{Copy, Locator as Place}
+use Rattle.law_machine.specs.Events.{Does, ReadsNow}
+use Rattle.law_machine.specs.Extents.{ForMove}
+use Rattle.law_machine.specs.Formats.{ChunkFrame, Formats}
+use Rattle.law_machine.specs.Grounds.{PastLimit, Refuses, WouldPass}
+use Rattle.law_machine.specs.Index.{live_at}
+use Rattle.law_machine.specs.Lists.{◌∈◌}
+use Rattle.law_machine.specs.Refusal.{DeviceFault, Full, Refusal as Ground, WornOut}
+use Rattle.law_machine.specs.State.{MoveOne, Moved, NoneLive, Refused, Reply, State, index_now}
+use Rattle.law_machine.specs.Step.{Step}
+use Rattle.law_refinement.specs.cs_reclaim.Copied.{IsCopyMade}
+use Rattle.law_refinement.specs.cs_reclaim.Moves.{AnswersMove, AnswersPlaceBy, NowhereBy, chunk_frame}
+use Rattle.law_refinement.proofs.CallsApart.{none_left}
+use Rattle.law_refinement.proofs.CopiesMade.{copy}
+use Rattle.law_refinement.proofs.DoesApart.{moved as did_copy, none_moved}
+use Rattle.law_refinement.proofs.RefusedSweeps.{copy_damaged, copy_full, copy_worn, first_left, nothing_left}
+use Rattle.law_refinement.proofs.FoundShards.{live_damaged, live_payload, live_whole}
+use Rattle.law_refinement.proofs.Shapes.{store_format, store_shape}
+use Rattle.law_refinement.specs.Copying.{AreAllPartsOf}
+use Rattle.law_refinement.specs.Devices.{IsDiskOf, pages_now}
 use Rattle.cs_core.specs.Reads.{DeclinesOn, MoveAnswers, StepsOn}
 use Rattle.cs_core.specs.States.{IsStateOf}
 use Rattle.cs_core.specs.Stored.{Stored, but_for_room}
@@ -52,7 +52,7 @@ use Rattle.cs_core.proofs.MoveGrounds.{damaged_apart, full_apart, none_apart, re
 use Rattle.cs_core.proofs.MoveSteps.{not_answer, not_place}
 use Rattle.cs_core.proofs.RootsStay.{SameRoots, append_stays_by}
 use Rattle.cs_core.proofs.SweepSteps.{all_parts, is_marked}
-use Rattle.cs_image.specs.Reads.{page_total}
+use Rattle.law_refinement.specs.ImageReads.{page_total}
 
 -- a store that differs in room alone
 roomed_copies : (v : Stored) (y : ExtentsState) (h : GraphState) (after : List Copy) → y ≡ v.extents → h ≡ record v.graph { room = h.room } → after ≡ v.copies

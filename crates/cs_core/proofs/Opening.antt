@@ -3,8 +3,8 @@ use Rattle.std.proofs.Common.{◌≡◌, ◌≢◌, ◌⊎◌, inl, inr, ⊎_eli
 use Rattle.std.specs.List.{AllByRecursion}
 use Rattle.std.specs.Prelude.{slice_index}
 use Rattle.cs_chunk.specs.Reads.{IsNoAnswer, IsOfFault}
-use Rattle.cs_deps.specs.declared.refusals.Refusal.{Refusal}
-use Rattle.cs_deps.specs.declared.refusals.Refusal.TheVariants.{NotAStore, OutOfMemory, RootLost}
+use Rattle.cs_refusal.specs.declared.refusals.Refusal.{Refusal}
+use Rattle.cs_refusal.specs.declared.refusals.Refusal.TheVariants.{NotAStore, OutOfMemory, RootLost}
 use Rattle.cs_deps.specs.State.{State as GraphState}
 use Rattle.cs_disk.proofs.Moments.{flushes_or_not, stays, started}
 use Rattle.cs_disk.specs.Disk.{Elapses, Image, LeavesOnly, MayLeave, State as DiskState, flushed, page, seen}
@@ -13,12 +13,12 @@ use Rattle.cs_frame.specs.declared.locators.Locator.{Locator}
 use Rattle.cs_frame.specs.FirstFormat.{SpellsPageZero, page_zero_fault}
 use Rattle.cs_frame.specs.Geometries.{device_pages}
 use Rattle.cs_frame.specs.Roots.{SpellsRoot, root_fault}
-use Rattle.cs_image.specs.Counts.{HasCount}
-use Rattle.cs_image.specs.Openings.{graph_at}
-use Rattle.cs_image.specs.Reads.{AreSectionsRead, IsRunRead, extents_at}
-use Rattle.cs_index.specs.declared.runs.StoredRun.{StoredRun}
+use Rattle.law_refinement.specs.Counts.{HasCount}
+use Rattle.law_refinement.specs.Images.{graph_at}
+use Rattle.law_refinement.specs.ImageReads.{AreSectionsRead, IsRunRead, extents_at}
+use Rattle.cs_index.specs.declared.stored_runs.StoredRun.{StoredRun}
 use Rattle.cs_index.specs.State.{newest_first}
-use Rattle.cs_model.specs.Index.{entries_of, live_at, named_weight}
+use Rattle.law_machine.specs.Index.{entries_of, live_at, named_weight}
 use Rattle.cs_core.specs.declared.loads.OpenedStore.{OpenedStore}
 use Rattle.cs_core.specs.Openings.{AreExtentsRead, AreLocatedBy, AreRecordedBy, IsLoaded, IsOtherFirst, IsStoreMade, IsStoreReadBy, IsWhyNoRuns, IsWhyNoSections, IsWhyNotOpened}
 use Rattle.cs_core.specs.Stored.{Stored}

@@ -2,32 +2,32 @@
 use Rattle.std.proofs.Common.{◌≡◌, ◌≢◌, ◌⊎◌, inl, inr, ◌∙◌, ℕ, List, [], None, length, le_of_eq, refl, sym, ap, subst, arith}
 use Rattle.cs_disk.specs.declared.disk.PageDisk.{Ghosts as PageDisk}
 use Rattle.std.proofs.lemmas.Bool.{cases_Bool}
-use Rattle.cs_refine.proofs.Started.{read_started, seen_pages}
-use Rattle.cs_refine.proofs.StartedApart.{read_started as read_apart}
-use Rattle.cs_refine.specs.Devices.{IsDiskOf}
-use Rattle.cs_refine.specs.Openings.{IsStartOf}
+use Rattle.law_refinement.proofs.Started.{read_started, seen_pages}
+use Rattle.law_refinement.proofs.StartedApart.{read_started as read_apart}
+use Rattle.law_refinement.specs.Devices.{IsDiskOf}
+use Rattle.law_refinement.specs.Openings.{IsStartOf}
 use Rattle.cs_chunk.specs.Reads.{IsNoAnswer}
-use Rattle.cs_deps.specs.declared.refusals.Refusal.{Refusal}
+use Rattle.cs_refusal.specs.declared.refusals.Refusal.{Refusal}
 use Rattle.cs_disk.specs.Disk.{Image, IsWhole as IsWholeDisk, State as DiskState, flushed, page, seen}
 use Rattle.cs_extent.specs.State.{State as ExtentsState, shape}
 use Rattle.cs_frame.specs.Formats.{formats_of}
 use Rattle.cs_frame.specs.Geometries.{IsGeometry, device_pages, section_size}
-use Rattle.cs_image.proofs.Families.{root_in}
-use Rattle.cs_image.proofs.OneByOne.{live_count}
-use Rattle.cs_image.proofs.Superblocks.{read_format, read_shape}
-use Rattle.cs_image.specs.Counts.{AreThose, HasCount}
-use Rattle.cs_image.specs.Openings.{graph_at, index_at}
-use Rattle.cs_image.specs.Reads.{ArePages, AreSectionsRead, extents_at, page_total}
-use Rattle.cs_index.specs.declared.runs.StoredRun.{StoredRun}
+use Rattle.law_refinement.proofs.Families.{root_in}
+use Rattle.law_refinement.proofs.OneByOne.{live_count}
+use Rattle.law_refinement.proofs.Superblocks.{read_format, read_shape}
+use Rattle.law_refinement.specs.Counts.{AreThose, HasCount}
+use Rattle.law_refinement.specs.Images.{graph_at, index_at}
+use Rattle.law_refinement.specs.ImageReads.{ArePages, AreSectionsRead, extents_at, page_total}
+use Rattle.cs_index.specs.declared.stored_runs.StoredRun.{StoredRun}
 use Rattle.cs_index.specs.State.{newest_first}
-use Rattle.cs_model.proofs.Unique.{one_recovery}
-use Rattle.cs_model.specs.Device.{Shape}
-use Rattle.cs_model.specs.Element.{Map, Run}
-use Rattle.cs_model.specs.Geometry.{most_weight_in, shape_of}
-use Rattle.cs_model.specs.Index.{entries_of, live_at}
-use Rattle.cs_model.specs.Open.{opened_state, root_read}
-use Rattle.cs_model.specs.Recovery.{Recovers}
-use Rattle.cs_model.specs.State.{State}
+use Rattle.law_machine.proofs.Unique.{one_recovery}
+use Rattle.law_machine.specs.Device.{Shape}
+use Rattle.law_machine.specs.Element.{Map, Run}
+use Rattle.law_machine.specs.Geometry.{most_weight_in, shape_of}
+use Rattle.law_machine.specs.Index.{entries_of, live_at}
+use Rattle.law_machine.specs.Open.{opened_state, root_read}
+use Rattle.law_machine.specs.Recovery.{Recovers}
+use Rattle.law_machine.specs.State.{State}
 use Rattle.cs_core.specs.declared.events.Event.{Event}
 use Rattle.cs_core.specs.declared.events.Reply.{Reply}
 use Rattle.cs_core.specs.Openings.{AreExtentsOpened, IsOpened, IsStoreMade, IsStoreReadBy, IsWhyNotOpened, opened_stored}

@@ -4,9 +4,9 @@ use Rattle.std.specs.Prelude.{max}
 use Rattle.std.specs.Int.{div_ceil}
 use Rattle.std.proofs.lemmas.Bool.{cases_lt}
 use Rattle.std.proofs.lemmas.Grind.{div_ceil_times}
-use Rattle.cs_model.proofs.Counting.{few_chunks}
-use Rattle.cs_model.specs.Events.{AllFullButLast, Chunked}
-use Rattle.cs_model.specs.Index.{joined}
+use Rattle.law_machine.proofs.Counting.{few_chunks}
+use Rattle.law_machine.specs.Events.{AllFullButLast, Chunked}
+use Rattle.law_machine.specs.Index.{joined}
 
 -- pieces have no more bytes than as many full ones
 joined_most : (most : ℕ) (c : List ℕ) (cs : List (List ℕ)) → AllFullButLast most (c ∷ cs) → length (joined (c ∷ cs)) ≤ suc (length cs) * most

@@ -1,8 +1,8 @@
 -- A put is a step of the machine.
 use Rattle.std.proofs.Common.{◌≡◌, ◌⊎◌, inl, inr, ⊎_elim, ℕ, suc, ◌+◌, ◌*◌, ◌^◌, ◌<◌, ◌≤◌, Bool, true, false, List, [], ◌∷◌, Some, Ok, Err, length, map, refl, sym, ap, ◌∙◌, subst, arith}
 use Rattle.std.specs.Prelude.{◌↔◌}
-use Rattle.cs_deps.specs.declared.refusals.Refusal.{Refusal as Code}
-use Rattle.cs_deps.specs.declared.refusals.Refusal.TheVariants as code
+use Rattle.cs_refusal.specs.declared.refusals.Refusal.{Refusal as Code}
+use Rattle.cs_refusal.specs.declared.refusals.Refusal.TheVariants as code
 use Rattle.cs_deps.specs.State.{State as GraphState}
 use Rattle.cs_extent.specs.Appended.{AreAppendedBy}
 use Rattle.cs_extent.specs.State.{IsWhole, State as ExtentsState, extents_of, shape}
@@ -10,24 +10,24 @@ use Rattle.cs_extent.specs.Worn.{AreWornBy}
 use Rattle.cs_frame.specs.declared.locators.Locator.{Locator as Spot}
 use Rattle.cs_frame.specs.Formats.{formats_of, place_of}
 use Rattle.cs_index.specs.State.{IsSet, State as IndexState, index_of}
-use Rattle.cs_model.specs.Append.{chunk_frames, page_counts}
-use Rattle.cs_model.specs.Device.{Shape}
-use Rattle.cs_model.specs.Element.{Locator}
-use Rattle.cs_model.proofs.Payloads.{payloads_length}
-use Rattle.cs_model.specs.Events.{ArePayloads, Chunked, Does}
-use Rattle.cs_model.specs.Extents.{FitsBy, ForPut, Purpose}
-use Rattle.cs_model.specs.Formats.{Formats}
-use Rattle.cs_model.specs.Geometry.{weigh_in}
-use Rattle.cs_model.specs.Grounds.{NoRoomToPut, Refuses, TooHeavy, WouldPass}
-use Rattle.cs_model.specs.Index.{weight_with}
-use Rattle.cs_model.specs.Refusal.{Full, Halted, IndexFull, Refusal, TooLarge, WornOut}
-use Rattle.cs_model.specs.State.{Accepted, Put, Refused, State, index_now, next_command}
-use Rattle.cs_model.specs.Step.{Step}
-use Rattle.cs_refine.proofs.Calls.{put}
-use Rattle.cs_refine.proofs.CallsApart.{put as put_apart}
-use Rattle.cs_refine.proofs.Indexes.{as_heavy_with}
-use Rattle.cs_refine.proofs.RefusedPuts.{put_full_by, put_worn_by}
-use Rattle.cs_refine.specs.Parts.{ArePartsOf}
+use Rattle.law_machine.specs.Append.{chunk_frames, page_counts}
+use Rattle.law_machine.specs.Device.{Shape}
+use Rattle.law_machine.specs.Element.{Locator}
+use Rattle.law_machine.proofs.Payloads.{payloads_length}
+use Rattle.law_machine.specs.Events.{ArePayloads, Chunked, Does}
+use Rattle.law_machine.specs.Extents.{FitsBy, ForPut, Purpose}
+use Rattle.law_machine.specs.Formats.{Formats}
+use Rattle.law_machine.specs.Geometry.{weigh_in}
+use Rattle.law_machine.specs.Grounds.{NoRoomToPut, Refuses, TooHeavy, WouldPass}
+use Rattle.law_machine.specs.Index.{weight_with}
+use Rattle.law_machine.specs.Refusal.{Full, Halted, IndexFull, Refusal, TooLarge, WornOut}
+use Rattle.law_machine.specs.State.{Accepted, Put, Refused, State, index_now, next_command}
+use Rattle.law_machine.specs.Step.{Step}
+use Rattle.law_refinement.proofs.Calls.{put}
+use Rattle.law_refinement.proofs.CallsApart.{put as put_apart}
+use Rattle.law_refinement.proofs.Indexes.{as_heavy_with}
+use Rattle.law_refinement.proofs.RefusedPuts.{put_full_by, put_worn_by}
+use Rattle.law_refinement.specs.Parts.{ArePartsOf}
 use Rattle.cs_core.specs.States.{IsStateOf}
 use Rattle.cs_core.specs.Stored.{IsTooHeavy, IsWhyWorn, Stored, but_for_room}
 use Rattle.cs_core.specs.Steps.{Declines}

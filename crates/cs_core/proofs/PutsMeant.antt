@@ -9,17 +9,17 @@ use Rattle.cs_frame.specs.declared.locators.Locator.{Locator}
 use Rattle.cs_frame.specs.Formats.{as_locator, formats_of, place_of}
 use Rattle.cs_index.specs.Copies.{IsSettled, settle_in, settle_table}
 use Rattle.cs_index.specs.State.{IsSet, State as IndexState, index_of}
-use Rattle.cs_model.proofs.Meant.{one_place, own_mark}
-use Rattle.cs_model.specs.Apart.{is_place}
-use Rattle.cs_model.specs.Append.{chunk_frames}
-use Rattle.cs_model.specs.Device.{Shape, is_meant, mark_of}
-use Rattle.cs_model.specs.Element.{Copy, Entry, Locator as Place}
-use Rattle.cs_model.specs.Extents.{Purpose as Reason}
-use Rattle.cs_model.specs.Formats.{ChunkFrame}
-use Rattle.cs_model.specs.Index.{entries_of, live, live_at, lookup}
-use Rattle.cs_model.specs.Lists.{nth, replaced, ◌∈◌}
-use Rattle.cs_model.specs.Meant.{same_mark}
-use Rattle.cs_reclaim.specs.Moves.{IsMoved}
+use Rattle.law_machine.proofs.Meant.{one_place, own_mark}
+use Rattle.law_machine.specs.Apart.{is_place}
+use Rattle.law_machine.specs.Append.{chunk_frames}
+use Rattle.law_machine.specs.Device.{Shape, is_meant, mark_of}
+use Rattle.law_machine.specs.Element.{Copy, Entry, Locator as Place}
+use Rattle.law_machine.specs.Extents.{Purpose as Reason}
+use Rattle.law_machine.specs.Formats.{ChunkFrame}
+use Rattle.law_machine.specs.Index.{entries_of, live, live_at, lookup}
+use Rattle.law_machine.specs.Lists.{nth, replaced, ◌∈◌}
+use Rattle.law_machine.specs.Meant.{same_mark}
+use Rattle.law_refinement.specs.cs_reclaim.Moves.{IsMoved}
 use Rattle.cs_core.specs.Puts.{MeansTheSame, MeansTheSameBut, marks_at}
 
 -- ---- what places mean goes by their marks

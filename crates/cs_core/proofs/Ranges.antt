@@ -2,10 +2,11 @@
 use Rattle.std.proofs.Common.{◌≡◌, ◌⊎◌, inl, inr, ℕ, zero, suc, ◌+◌, ◌^◌, ◌≤◌, Bool, true, false, List, [], ◌∷◌, ◌++◌, codes, length, drop, Option, Some, None, arith, refl, sym, subst, bytes_eq, nat_le, if◌then◌else◌}
 use Rattle.std.specs.Prelude.{◌==◌, ◌&&◌, nat_lt, slice_index}
 use Rattle.std.proofs.lemmas.Option.{same_Some}
-use Rattle.cs_chunk.specs.Reads.{IsOfFault, IsReadRefusal, refusal_for}
-use Rattle.cs_deps.specs.declared.refusals.Refusal.{Refusal}
-use Rattle.cs_deps.specs.declared.refusals.Refusal.TheVariants.{OutOfMemory as NoMemory}
-use Rattle.cs_deps.specs.Refusals.{number_of}
+use Rattle.cs_chunk.specs.Reads.{IsOfFault, IsReadRefusal}
+use Rattle.cs_frame.specs.Refusals.{refusal_for}
+use Rattle.cs_refusal.specs.declared.refusals.Refusal.{Refusal}
+use Rattle.cs_refusal.specs.declared.refusals.Refusal.TheVariants.{OutOfMemory as NoMemory}
+use Rattle.cs_refusal.specs.Refusals.{number_of}
 use Rattle.cs_frame.specs.declared.faults.FormatFault.{FormatFault}
 use Rattle.cs_frame.specs.declared.faults.FormatFault.TheVariants.{BadDigest, BadGeometry, BadLength, BadMagic, BadPadding, BadVersion, Misplaced, OutOfMemory, OutOfOrder}
 use Rattle.cs_frame.specs.Bytes.{all_zero, field, number}
@@ -18,7 +19,7 @@ use Rattle.cs_frame.specs.Pages.{digest_test}
 use Rattle.cs_frame.specs.Roots.{greatest_runs, root_digit, root_end, root_fault, root_tests}
 use Rattle.cs_frame.specs.Runs.{entries_tests, entry_end, id_in, is_before, order_test, pieces_in, plain_fault, plain_tests}
 use Rattle.cs_frame.specs.Superblocks.{superblock_end, superblock_fault, superblock_tests}
-use Rattle.cs_model.specs.Geometry.{marks_in}
+use Rattle.law_machine.specs.Geometry.{marks_in}
 use Rattle.cs_core.specs.Openings.{IsOpeningRefusal}
 
 abbrev InRange : FormatFault → Type 0

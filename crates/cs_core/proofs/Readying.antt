@@ -5,23 +5,23 @@ use Rattle.std.specs.Prelude.{OnOk, slice_index}
 use Rattle.std.proofs.lemmas.List.{take_all}
 use Rattle.std.proofs.lemmas.Bool.{cases_Bool, cases_eq, cond-false, cond-true}
 use Rattle.std.proofs.lemmas.Bool.Decides.{nat_tests}
-use Rattle.cs_deps.specs.declared.refusals.Refusal.{Refusal}
-use Rattle.cs_deps.specs.declared.refusals.Refusal.TheVariants.{NotAStore, OutOfMemory}
+use Rattle.cs_refusal.specs.declared.refusals.Refusal.{Refusal}
+use Rattle.cs_refusal.specs.declared.refusals.Refusal.TheVariants.{NotAStore, OutOfMemory}
 use Rattle.cs_extent.specs.State.{IsWhole, State as ExtentsState, extents_of, found_at, shape}
-use Rattle.cs_image.proofs.Found.{visible_of}
-use Rattle.cs_image.proofs.Listed.{all_default}
-use Rattle.cs_image.proofs.Superblocks.{found_all}
-use Rattle.cs_image.specs.Openings.{index_at}
-use Rattle.cs_image.specs.Reads.{AreExtentsNoted, AreLocated, AreVisibleLocated, IsLocated, extents_at}
+use Rattle.law_refinement.proofs.Found.{visible_of}
+use Rattle.law_refinement.proofs.Listed.{all_default}
+use Rattle.law_refinement.proofs.Superblocks.{found_all}
+use Rattle.law_refinement.specs.Images.{index_at}
+use Rattle.law_refinement.specs.ImageReads.{AreExtentsNoted, AreLocated, AreVisibleLocated, IsLocated, extents_at}
 use Rattle.cs_index.proofs.Newest.{all_newest, newest_more}
-use Rattle.cs_index.specs.declared.runs.StoredRun.{StoredRun}
+use Rattle.cs_index.specs.declared.stored_runs.StoredRun.{StoredRun}
 use Rattle.cs_index.specs.State.{State as IndexState, index_of, newest_first, run_of}
-use Rattle.cs_model.proofs.ApartResets.{swept_stay}
-use Rattle.cs_model.specs.Apart.{any_run_on, is_blank_by}
-use Rattle.cs_model.specs.Element.{Copy, Run}
-use Rattle.cs_model.specs.Extents.{Extents}
-use Rattle.cs_reclaim.proofs.Freeing.{resets_within}
-use Rattle.cs_reclaim.specs.Rooted.{freed_under, lying_apart}
+use Rattle.law_machine.proofs.ApartResets.{swept_stay}
+use Rattle.law_machine.specs.Apart.{any_run_on, is_blank_by}
+use Rattle.law_machine.specs.Element.{Copy, Run}
+use Rattle.law_machine.specs.Extents.{Extents}
+use Rattle.law_refinement.proofs.cs_reclaim.Freeing.{resets_within}
+use Rattle.law_refinement.specs.cs_reclaim.Rooted.{freed_under, lying_apart}
 use Rattle.cs_core.specs.Openings.{AreExtentsOpened, AreLiveLocated, AreLocatedBy}
 
 -- ---- which rule

@@ -1,9 +1,9 @@
 -- Which refusals an event may have, by what the calls below say of theirs.
 use Rattle.std.proofs.Common.{◌≡◌, ◌≢◌, ◌⊎◌, ◌≤◌, inl, inr, sym, subst, arith}
 use Rattle.cs_chunk.specs.Reads.{IsReadRefusal}
-use Rattle.cs_deps.specs.declared.refusals.Refusal.{Refusal as Code}
-use Rattle.cs_deps.specs.declared.refusals.Refusal.TheVariants as code
-use Rattle.cs_deps.specs.Refusals.{number_of}
+use Rattle.cs_refusal.specs.declared.refusals.Refusal.{Refusal as Code}
+use Rattle.cs_refusal.specs.declared.refusals.Refusal.TheVariants as code
+use Rattle.cs_refusal.specs.Refusals.{number_of}
 use Rattle.cs_frame.specs.declared.identifiers.ShardId.{ShardId}
 use Rattle.cs_core.specs.declared.events.Event.{Event}
 use Rattle.cs_core.specs.declared.events.Event.TheVariants.{Abandon, Begin, BeginSweep, Delete, End, Get, Issue, MoveOne, Put, Retire, Settle, Stage}

@@ -2,10 +2,10 @@
 use Rattle.std.proofs.Common.{◌≡◌, ◌∙◌, []}
 use Rattle.cs_extent.specs.State.{shape}
 use Rattle.cs_frame.specs.Formats.{formats_of}
-use Rattle.cs_model.proofs.Waiting.{all_done}
-use Rattle.cs_model.specs.State.{State}
-use Rattle.cs_refine.proofs.Indexes.{none_too}
-use Rattle.cs_refine.proofs.RoundsOut.{nothing}
+use Rattle.law_machine.proofs.Waiting.{all_done}
+use Rattle.law_machine.specs.State.{State}
+use Rattle.law_refinement.proofs.Indexes.{none_too}
+use Rattle.law_refinement.proofs.RoundsOut.{nothing}
 use Rattle.cs_core.specs.States.{IsStateOf}
 use Rattle.cs_core.specs.Stored.{Stored}
 

@@ -1,13 +1,13 @@
 -- The roots of a state at open: the one that was read.
 use Rattle.std.proofs.Common.{◌≡◌, inl, ⊎_elim, ◌∙◌, ℕ, zero, suc, ◌+◌, ◌<◌, List, [], ◌∷◌, refl, sym, ap, subst, arith}
 use Rattle.std.specs.Prelude.{Contains}
-use Rattle.cs_model.specs.Device.{Page, Shape}
-use Rattle.cs_model.specs.Element.{Map, Root, roots_of}
-use Rattle.cs_model.specs.Formats.{Formats}
-use Rattle.cs_model.specs.Lists.{◌∈◌}
-use Rattle.cs_model.specs.Open.{opened_state, root_read, superblocks_read}
-use Rattle.cs_model.specs.Recovery.{Recovers}
-use Rattle.cs_model.specs.State.{State}
+use Rattle.law_machine.specs.Device.{Page, Shape}
+use Rattle.law_machine.specs.Element.{Map, Root, roots_of}
+use Rattle.law_machine.specs.Formats.{Formats}
+use Rattle.law_machine.specs.Lists.{◌∈◌}
+use Rattle.law_machine.specs.Open.{opened_state, root_read, superblocks_read}
+use Rattle.law_machine.specs.Recovery.{Recovers}
+use Rattle.law_machine.specs.State.{State}
 use Rattle.cs_core.specs.declared.roots.Root.{Root as Noted}
 use Rattle.cs_core.specs.States.{AreRootsOf}
 

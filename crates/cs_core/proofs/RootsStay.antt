@@ -1,11 +1,11 @@
 -- Appends stage no root.
 use Rattle.std.proofs.Common.{◌≡◌, inl, inr, ℕ, suc, Bool, false, List, [], ◌∷◌, refl, ap, ◌∙◌}
-use Rattle.cs_model.specs.Append.{Append, AppendAllBy, AppendBy, MergesTo, stage_pages}
-use Rattle.cs_model.specs.Device.{Page, Shape}
-use Rattle.cs_model.specs.Element.{Entry, Locator, Run, roots_of}
-use Rattle.cs_model.specs.Extents.{Purpose}
-use Rattle.cs_model.specs.Formats.{Formats}
-use Rattle.cs_model.specs.Machine.{StagePage, World, happens}
+use Rattle.law_machine.specs.Append.{Append, AppendAllBy, AppendBy, MergesTo, stage_pages}
+use Rattle.law_machine.specs.Device.{Page, Shape}
+use Rattle.law_machine.specs.Element.{Entry, Locator, Run, roots_of}
+use Rattle.law_machine.specs.Extents.{Purpose}
+use Rattle.law_machine.specs.Formats.{Formats}
+use Rattle.law_machine.specs.Machine.{StagePage, World, happens}
 
 -- v has the roots of w, and the same is persistent
 pub record SameRoots (w v : World) : Type 0 where

@@ -2,8 +2,8 @@
 use Rattle.std.proofs.Common.{◌≡◌, ◌≢◌, ◌⊎◌, inl, inr, ⊎_elim, ℕ, suc, ◌+◌, ◌<◌, ◌≤◌, true, false, List, [], ◌∷◌, ◌++◌, Some, None, Ok, Err, length, map, take, drop, refl, sym, ap, ap₂, ◌∙◌, subst, arith}
 use Rattle.std.specs.Prelude.{Contains, Option, is_some, slice_get, slice_index}
 use Rattle.cs_deps.specs.declared.elements.Element.{Element as Name}
-use Rattle.cs_deps.specs.declared.refusals.Refusal.{Refusal as Code}
-use Rattle.cs_deps.specs.declared.refusals.Refusal.TheVariants as code
+use Rattle.cs_refusal.specs.declared.refusals.Refusal.{Refusal as Code}
+use Rattle.cs_refusal.specs.declared.refusals.Refusal.TheVariants as code
 use Rattle.cs_deps.specs.Staging.{settled}
 use Rattle.cs_deps.specs.State.{AddsNone, IsQueue, IsWhole as IsWholeGraph, State as GraphState, write_of}
 use Rattle.cs_disk.specs.Disk.{State as DiskState, flushed, written}
@@ -11,28 +11,28 @@ use Rattle.cs_extent.specs.Frames.{root_family}
 use Rattle.cs_extent.specs.State.{IsWhole, State as ExtentsState, shape}
 use Rattle.cs_frame.specs.Formats.{formats_of}
 use Rattle.cs_index.specs.State.{State as IndexState}
-use Rattle.cs_model.specs.Cut.{Cut}
-use Rattle.cs_model.specs.Device.{Shape}
-use Rattle.cs_model.specs.Disk.{page_write}
-use Rattle.cs_model.specs.Element.{Element, Root, roots_of}
-use Rattle.cs_model.specs.Events.{Does, IsFrontier, issued_one}
-use Rattle.cs_model.specs.Formats.{Formats}
-use Rattle.cs_model.specs.Grounds.{Refuses}
-use Rattle.cs_model.specs.Lists.{◌∈◌}
-use Rattle.cs_model.specs.Machine.{BeginRound, EndRound, happens}
-use Rattle.cs_model.specs.Refusal.{DeviceFault, Halted, InFlight, NoRound, Refusal}
-use Rattle.cs_model.specs.State.{Begin, Begun, End, Ended, Event, Issue, Issued, Nothing, Refused, State}
-use Rattle.cs_model.specs.Step.{Step}
-use Rattle.cs_model.proofs.Keeps.{steps}
-use Rattle.cs_refine.specs.Bridge.{AreNames, name}
-use Rattle.cs_refine.specs.Devices.{IsDiskOf}
+use Rattle.law_machine.specs.Cut.{Cut}
+use Rattle.law_machine.specs.Device.{Shape}
+use Rattle.law_machine.specs.Disk.{page_write}
+use Rattle.law_machine.specs.Element.{Element, Root, roots_of}
+use Rattle.law_machine.specs.Events.{Does, IsFrontier, issued_one}
+use Rattle.law_machine.specs.Formats.{Formats}
+use Rattle.law_machine.specs.Grounds.{Refuses}
+use Rattle.law_machine.specs.Lists.{◌∈◌}
+use Rattle.law_machine.specs.Machine.{BeginRound, EndRound, happens}
+use Rattle.law_machine.specs.Refusal.{DeviceFault, Halted, InFlight, NoRound, Refusal}
+use Rattle.law_machine.specs.State.{Begin, Begun, End, Ended, Event, Issue, Issued, Nothing, Refused, State}
+use Rattle.law_machine.specs.Step.{Step}
+use Rattle.law_machine.proofs.Keeps.{steps}
+use Rattle.law_refinement.specs.Bridge.{AreNames, name}
+use Rattle.law_refinement.specs.Devices.{IsDiskOf}
 use Rattle.std.proofs.lemmas.List.{map-append, take-append-drop}
-use Rattle.cs_refine.specs.Parts.{ArePartsOf}
-use Rattle.cs_refine.specs.Rounds.{IsRoundOf}
-use Rattle.cs_refine.proofs.Disks as disks
-use Rattle.cs_refine.proofs.Keeping.{ended as keeps_ended, members_named}
-use Rattle.cs_refine.proofs.RoundsOut.{begin, nothing}
-use Rattle.cs_refine.proofs.Shapes.{store_format, store_shape}
+use Rattle.law_refinement.specs.Parts.{ArePartsOf}
+use Rattle.law_refinement.specs.Rounds.{IsRoundOf}
+use Rattle.law_refinement.proofs.Disks as disks
+use Rattle.law_refinement.proofs.Keeping.{ended as keeps_ended, members_named}
+use Rattle.law_refinement.proofs.RoundsOut.{begin, nothing}
+use Rattle.law_refinement.proofs.Shapes.{store_format, store_shape}
 use Rattle.cs_core.specs.declared.events.Event.TheVariants as asked
 use Rattle.cs_core.specs.declared.roots.Root.{Root as Noted}
 use Rattle.cs_core.specs.Frontiers.{AreNoted, LetsGo}

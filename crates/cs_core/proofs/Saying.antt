@@ -4,7 +4,7 @@ use Rattle.std.proofs.lemmas.Bool.{cases_eq, cond-false, cond-true}
 use Rattle.std.specs.Prelude.{OnOk, Option, Result}
 use Rattle.cs_core.proofs.TwoTexts.{same_or_two}
 use Rattle.cs_chunk.specs.Chunks.{AreMeant}
-use Rattle.cs_deps.specs.declared.refusals.Refusal.{Refusal as Code}
+use Rattle.cs_refusal.specs.declared.refusals.Refusal.{Refusal as Code}
 use Rattle.cs_deps.specs.State.{State as GraphState}
 use Rattle.cs_disk.specs.declared.disk.PageDisk.{Ghosts as PageDisk}
 use Rattle.cs_extent.specs.Appended.{AreAppendedBy}
@@ -13,17 +13,17 @@ use Rattle.cs_frame.specs.declared.identifiers.ShardId.{ShardId}
 use Rattle.cs_frame.specs.declared.locators.Locator.{Locator}
 use Rattle.cs_frame.specs.Formats.{as_locator, formats_of, place_of}
 use Rattle.cs_index.specs.State.{IsSet, State as IndexState, id_number, index_of}
-use Rattle.cs_model.proofs.Payloads.{payloads_bytes}
-use Rattle.cs_model.specs.Append.{chunk_frames}
-use Rattle.cs_model.specs.Device.{Shape}
-use Rattle.cs_model.specs.Element.{Locator as Place}
-use Rattle.cs_model.specs.Events.{ArePayloads}
-use Rattle.cs_model.specs.Extents.{ForPut}
-use Rattle.cs_model.specs.Geometry.{marks_in}
-use Rattle.cs_model.specs.Index.{joined_bodies, live_at}
-use Rattle.cs_model.specs.State.{Command}
-use Rattle.cs_reclaim.specs.Moves.{IsMoved}
-use Rattle.cs_refine.proofs.Shapes.{store_format}
+use Rattle.law_machine.proofs.Payloads.{payloads_bytes}
+use Rattle.law_machine.specs.Append.{chunk_frames}
+use Rattle.law_machine.specs.Device.{Shape}
+use Rattle.law_machine.specs.Element.{Locator as Place}
+use Rattle.law_machine.specs.Events.{ArePayloads}
+use Rattle.law_machine.specs.Extents.{ForPut}
+use Rattle.law_machine.specs.Geometry.{marks_in}
+use Rattle.law_machine.specs.Index.{joined_bodies, live_at}
+use Rattle.law_machine.specs.State.{Command}
+use Rattle.law_refinement.specs.cs_reclaim.Moves.{IsMoved}
+use Rattle.law_refinement.proofs.Shapes.{store_format}
 use Rattle.cs_core.specs.declared.events.Event.{Event}
 use Rattle.cs_core.specs.declared.events.Event.TheVariants.{Delete, Put}
 use Rattle.cs_core.specs.declared.events.Reply.{Reply}

@@ -5,8 +5,8 @@ use Rattle.std.proofs.lemmas.Bool.{cases_eq}
 use Rattle.std.proofs.lemmas.List.{drop-drop, drop_at, length-map, take_at}
 use Rattle.std.proofs.lemmas.Option.{get_or_from_slice_get, same_Some, slice_get-map, slice_get_within}
 use Rattle.cs_chunk.specs.Reads.{IsNoAnswer, IsOfFault}
-use Rattle.cs_deps.specs.declared.refusals.Refusal.{Refusal}
-use Rattle.cs_deps.specs.declared.refusals.Refusal.TheVariants.{NotAStore}
+use Rattle.cs_refusal.specs.declared.refusals.Refusal.{Refusal}
+use Rattle.cs_refusal.specs.declared.refusals.Refusal.TheVariants.{NotAStore}
 use Rattle.cs_extent.proofs.Sections.{geometry_is, rows_are_all}
 use Rattle.cs_extent.specs.Sections.{AreSections, IsSectionAt, count_of, format_of, pages_of, rows_of}
 use Rattle.cs_frame.proofs.FirstFormatLaws.{page_zero_fits}
@@ -15,7 +15,7 @@ use Rattle.cs_frame.specs.FirstFormat.{SpellsPageZero, page_zero_fault}
 use Rattle.cs_frame.specs.Geometries.{IsGeometry, device_pages, lengths_below, section_length, section_size, section_start}
 use Rattle.cs_frame.specs.Pointers.{FitsExtent}
 use Rattle.cs_frame.specs.Superblocks.{FitsSuperblock, IsSuperblock, SpellsSuperblock, superblock_fault}
-use Rattle.cs_image.specs.Reads.{AreSectionsRead, SpellsAt}
+use Rattle.law_refinement.specs.ImageReads.{AreSectionsRead, SpellsAt}
 use Rattle.cs_index.proofs.Sorted.{all_map, some_at}
 use Rattle.cs_core.specs.Openings.{HasNumbers, IsOtherFirst, IsSectionThere, IsWhyNoSection, IsWhyNoSections}
 

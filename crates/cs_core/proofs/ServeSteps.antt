@@ -1,18 +1,18 @@
 -- What each event answers is a step of the machine over the disk too.
 use Rattle.std.proofs.Common.{◌≡◌, ◌≢◌, ◌⊎◌, inl, inr, ℕ, ◌<◌, ◌≤◌, true, List, Some, None, Ok, Err, refl, sym, ◌∙◌, subst}
 use Rattle.std.specs.Prelude.{IfOk, MatchResult, Result, Vec}
-use Rattle.cs_deps.specs.declared.refusals.Refusal.{Refusal as Code}
-use Rattle.cs_deps.specs.declared.refusals.Refusal.TheVariants as code
+use Rattle.cs_refusal.specs.declared.refusals.Refusal.{Refusal as Code}
+use Rattle.cs_refusal.specs.declared.refusals.Refusal.TheVariants as code
 use Rattle.cs_disk.specs.Disk.{State as DiskState}
 use Rattle.cs_extent.specs.State.{shape}
 use Rattle.cs_frame.specs.Formats.{formats_of}
-use Rattle.cs_model.specs.Device.{Shape}
-use Rattle.cs_model.specs.Formats.{Formats}
-use Rattle.cs_model.specs.Refusal.{Halted, Refusal}
-use Rattle.cs_model.specs.State.{Absent, Begin, Begun, End, Ended, Event, Found, Issue, Issued, Moved, NoneLive, NotYet, Nothing, Persistent, Reply, Refused, State}
-use Rattle.cs_model.specs.Step.{Step}
-use Rattle.cs_refine.specs.Devices.{IsDiskOf}
-use Rattle.cs_refine.proofs.Disks.{step_stays}
+use Rattle.law_machine.specs.Device.{Shape}
+use Rattle.law_machine.specs.Formats.{Formats}
+use Rattle.law_machine.specs.Refusal.{Halted, Refusal}
+use Rattle.law_machine.specs.State.{Absent, Begin, Begun, End, Ended, Event, Found, Issue, Issued, Moved, NoneLive, NotYet, Nothing, Persistent, Reply, Refused, State}
+use Rattle.law_machine.specs.Step.{Step}
+use Rattle.law_refinement.specs.Devices.{IsDiskOf}
+use Rattle.law_refinement.proofs.Disks.{step_stays}
 use Rattle.cs_core.specs.declared.events.Event.{Event as Asked}
 use Rattle.cs_core.specs.declared.events.OutOfMemory.{OutOfMemory}
 use Rattle.cs_core.specs.declared.events.Reply.{Reply as Told}

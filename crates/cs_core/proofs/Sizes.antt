@@ -5,29 +5,29 @@ use Rattle.cs_chunk.specs.Chunks.{AreChunksIn}
 use Rattle.cs_chunk.specs.Lengths.{AreHeadersIn, IsHeaderRefusal, IsOfHeaderIn, lengths_at}
 use Rattle.cs_chunk.specs.Newest.{AreNewest}
 use Rattle.cs_chunk.specs.Reads.{IsNoAnswer}
-use Rattle.cs_deps.specs.declared.refusals.Refusal.{Refusal as Code}
+use Rattle.cs_refusal.specs.declared.refusals.Refusal.{Refusal as Code}
 use Rattle.cs_deps.specs.State.{IsWhole as IsWholeGraph}
 use Rattle.cs_disk.specs.Disk.{Image, State as DiskState, seen}
 use Rattle.cs_extent.specs.State.{IsWhole, State as ExtentsState, extents_of, shape}
 use Rattle.cs_frame.specs.declared.locators.Locator.{Locator}
 use Rattle.cs_frame.specs.Formats.{as_locator, formats_of, place_of}
 use Rattle.cs_index.specs.State.{State as IndexState, index_of}
-use Rattle.cs_model.specs.Element.{Bytes, Content, Damaged, Locator as Place}
-use Rattle.cs_model.specs.Device.{Shape}
-use Rattle.cs_model.specs.Events.{newest_page}
-use Rattle.cs_model.specs.Formats.{Formats}
-use Rattle.cs_model.specs.Index.{ReadsAs, Value, joined_bodies, live, live_at, lookup}
-use Rattle.cs_model.specs.Sound.{Sound}
-use Rattle.cs_model.specs.State.{State, index_now, map_now}
-use Rattle.cs_refine.proofs.Indexes.{absent, live_same, looked_up}
-use Rattle.cs_refine.specs.Devices.{pages_now}
-use Rattle.cs_refine.specs.Parts.{IsIndexOf}
+use Rattle.law_machine.specs.Element.{Bytes, Content, Damaged, Locator as Place}
+use Rattle.law_machine.specs.Device.{Shape}
+use Rattle.law_machine.specs.Events.{newest_page}
+use Rattle.law_machine.specs.Formats.{Formats}
+use Rattle.law_machine.specs.Index.{ReadsAs, Value, joined_bodies, live, live_at, lookup}
+use Rattle.law_machine.specs.Sound.{Sound}
+use Rattle.law_machine.specs.State.{State, index_now, map_now}
+use Rattle.law_refinement.proofs.Indexes.{absent, live_same, looked_up}
+use Rattle.law_refinement.specs.Devices.{pages_now}
+use Rattle.law_refinement.specs.Parts.{IsIndexOf}
 use Rattle.cs_core.specs.Lookups.{IsSaid, IsSize, TellsSize}
 use Rattle.cs_core.specs.States.{IsStateOf}
 use Rattle.cs_core.specs.Stored.{Stored}
 use Rattle.cs_core.proofs.FramesRead.{frame_read}
 use Rattle.cs_core.proofs.Gets.{found_live, newest_there, there_and_back}
-use Rattle.cs_image.specs.Reads.{page_total}
+use Rattle.law_refinement.specs.ImageReads.{page_total}
 
 -- ---- the chunks of a shard that the map has
 

@@ -1,37 +1,37 @@
 -- Stagings of runs and roots are steps of the machine.
 use Rattle.std.proofs.Common.{◌≡◌, ◌≢◌, ◌⊎◌, inl, inr, ℕ, suc, ◌+◌, ◌<◌, true, false, List, [], ◌∷◌, ◌++◌, Some, None, Ok, Err, length, refl, sym, ap, ◌∙◌, subst, arith}
 use Rattle.std.specs.Prelude.{◌↔◌, IfOk, Option, Result}
-use Rattle.cs_deps.specs.declared.refusals.Refusal.{Refusal as Code}
-use Rattle.cs_deps.specs.declared.refusals.Refusal.TheVariants as code
+use Rattle.cs_refusal.specs.declared.refusals.Refusal.{Refusal as Code}
+use Rattle.cs_refusal.specs.declared.refusals.Refusal.TheVariants as code
 use Rattle.cs_deps.specs.State.{State as GraphState}
 use Rattle.cs_extent.specs.State.{IsWhole, State as ExtentsState, extents_of, shape}
 use Rattle.cs_frame.specs.Formats.{formats_of}
 use Rattle.cs_index.specs.Merges.{stage_takes as stage_takes_of}
 use Rattle.cs_index.specs.Staged.{IsFull, IsNewestStaged, IsStageWorn, IsWhy, WritesRun}
 use Rattle.cs_index.specs.State.{State as IndexState, index_of}
-use Rattle.cs_model.proofs.Rules.{before_rule, rule_before}
-use Rattle.cs_model.specs.Apart.{MayStage, NothingLeft, by_rule, settled}
-use Rattle.cs_model.specs.Append.{ResetWorn}
-use Rattle.cs_model.specs.Device.{Shape}
-use Rattle.cs_model.specs.Element.{Entry, Root, Run, roots_of}
-use Rattle.cs_model.specs.Events.{Does, IsFrontier, mark, retired, rooted}
-use Rattle.cs_model.specs.Extents.{Extents, ForMove, ForRun}
-use Rattle.cs_model.specs.Formats.{Formats, RunFrame}
-use Rattle.cs_model.specs.Grounds.{NoRoomApart, NoRoomForRun, NoRoomToStage, Refuses, WouldPass}
-use Rattle.cs_model.specs.Index.{NothingLive}
-use Rattle.cs_model.specs.Lists.{with}
-use Rattle.cs_model.specs.Machine.{World, root_now}
-use Rattle.cs_model.specs.Merges.{MergesNewest, stage_takes}
-use Rattle.cs_model.specs.Refusal.{Full, Halted, NotSweepable, Refusal, StillLive, WornOut}
-use Rattle.cs_model.specs.Lists.{◌∈◌}
-use Rattle.cs_model.specs.State.{Event, Reply, Refused, Retire, Retired, Stage, Staged, State, Unchanged, index_now, map_now}
-use Rattle.cs_model.specs.Step.{Step}
-use Rattle.cs_refine.proofs.Calls.{newest_staged, retire}
-use Rattle.cs_refine.proofs.DoesBefore.{retired as retired_before, staged as staged_before, unchanged_so}
-use Rattle.cs_refine.proofs.Indexes.{looked_up, none_too, nothing_live}
-use Rattle.cs_refine.proofs.RefusedStages.{no_room_to_stage, retire_full, retire_worn, stage_worn}
-use Rattle.cs_refine.specs.Parts.{ArePartsOf}
-use Rattle.cs_reclaim.specs.Retired.{IsRetireFull, IsRetireWorn, IsRetired}
+use Rattle.law_machine.proofs.Rules.{before_rule, rule_before}
+use Rattle.law_machine.specs.Apart.{MayStage, NothingLeft, by_rule, settled}
+use Rattle.law_machine.specs.Append.{ResetWorn}
+use Rattle.law_machine.specs.Device.{Shape}
+use Rattle.law_machine.specs.Element.{Entry, Root, Run, roots_of}
+use Rattle.law_machine.specs.Events.{Does, IsFrontier, mark, retired, rooted}
+use Rattle.law_machine.specs.Extents.{Extents, ForMove, ForRun}
+use Rattle.law_machine.specs.Formats.{Formats, RunFrame}
+use Rattle.law_machine.specs.Grounds.{NoRoomApart, NoRoomForRun, NoRoomToStage, Refuses, WouldPass}
+use Rattle.law_machine.specs.Index.{NothingLive}
+use Rattle.law_machine.specs.Lists.{with}
+use Rattle.law_machine.specs.Machine.{World, root_now}
+use Rattle.law_machine.specs.Merges.{MergesNewest, stage_takes}
+use Rattle.law_machine.specs.Refusal.{Full, Halted, NotSweepable, Refusal, StillLive, WornOut}
+use Rattle.law_machine.specs.Lists.{◌∈◌}
+use Rattle.law_machine.specs.State.{Event, Reply, Refused, Retire, Retired, Stage, Staged, State, Unchanged, index_now, map_now}
+use Rattle.law_machine.specs.Step.{Step}
+use Rattle.law_refinement.proofs.Calls.{newest_staged, retire}
+use Rattle.law_refinement.proofs.DoesBefore.{retired as retired_before, staged as staged_before, unchanged_so}
+use Rattle.law_refinement.proofs.Indexes.{looked_up, none_too, nothing_live}
+use Rattle.law_refinement.proofs.RefusedStages.{no_room_to_stage, retire_full, retire_worn, stage_worn}
+use Rattle.law_refinement.specs.Parts.{ArePartsOf}
+use Rattle.law_refinement.specs.cs_reclaim.Retired.{IsRetireFull, IsRetireWorn, IsRetired}
 use Rattle.cs_core.specs.declared.roots.Root.{Root as Noted}
 use Rattle.cs_core.specs.States.{AreRootsOf, IsStateOf}
 use Rattle.cs_core.specs.Steps.{Declines, Steps}

@@ -1,8 +1,8 @@
 -- Stagings of runs and roots are steps of the machine where chunks and runs lie apart.
 use Rattle.std.proofs.Common.{◌≡◌, ◌≢◌, ◌⊎◌, inl, inr, ⊎_elim, ℕ, suc, ◌+◌, Bool, true, false, List, [], ◌∷◌, ◌++◌, Ok, Err, length, refl, sym, ap, ◌∙◌, subst}
 use Rattle.std.specs.Prelude.{◌↔◌, MatchOption, Option, None, Some, Result, is_some}
-use Rattle.cs_deps.specs.declared.refusals.Refusal.{Refusal as Code}
-use Rattle.cs_deps.specs.declared.refusals.Refusal.TheVariants as code
+use Rattle.cs_refusal.specs.declared.refusals.Refusal.{Refusal as Code}
+use Rattle.cs_refusal.specs.declared.refusals.Refusal.TheVariants as code
 use Rattle.cs_deps.specs.State.{State as GraphState}
 use Rattle.cs_extent.specs.State.{IsWhole, State as ExtentsState, extents_of, shape}
 use Rattle.cs_frame.specs.Formats.{formats_of}
@@ -11,30 +11,30 @@ use Rattle.cs_index.specs.Apart.{IsStageFullApart, IsStageWornApart}
 use Rattle.cs_index.specs.Copies.{IsSettled}
 use Rattle.cs_index.specs.Staged.{IsWhy}
 use Rattle.cs_index.specs.State.{State as IndexState, index_of}
-use Rattle.cs_model.proofs.Rules.{apart_rule, rule_apart}
-use Rattle.cs_model.proofs.Settling.{settle_all_is}
-use Rattle.cs_model.specs.Apart.{AllCopied, MayStage, NothingLeft, StagesApart, named, rooted_apart, settle_all, settled, takes}
-use Rattle.cs_model.specs.Append.{ResetWorn}
-use Rattle.cs_model.specs.Device.{Shape}
-use Rattle.cs_model.specs.Element.{Copy, Entry, Root, Run}
-use Rattle.cs_model.specs.Events.{Does, mark}
-use Rattle.cs_model.specs.Extents.{Extents, ForMerge, ForRun, Purpose as Reason}
-use Rattle.cs_model.specs.Formats.{Formats, RunFrame}
-use Rattle.cs_model.specs.Grounds.{NoRoomApart, Refuses, WouldPass}
-use Rattle.cs_model.specs.Machine.{World, root_now}
-use Rattle.cs_model.specs.Merges.{MergesPart, deletions_go}
-use Rattle.cs_model.specs.Refusal.{Full, Halted, NotSweepable, Refusal, StillLive, WornOut}
-use Rattle.cs_model.specs.State.{Refused, Retire, Retired, Stage, Staged, State, Unchanged, map_now}
-use Rattle.cs_model.specs.Step.{Step}
-use Rattle.cs_reclaim.proofs.Copying.{behind_is_left, none_is_left}
-use Rattle.cs_reclaim.specs.Copied.{AllUpTo, AreInOrder}
-use Rattle.cs_reclaim.specs.Rooted.{IsRetireExact, IsRetiredApart, IsSweepStaged, IsUnmarked, MayStageRoot, is_left_over}
-use Rattle.cs_refine.proofs.DoesApart.{retired, staged}
-use Rattle.cs_refine.proofs.RefusedApart.{stage_full}
-use Rattle.cs_refine.proofs.RefusedRetires.{idle, may_stage, retire_full, retire_worn, stage_worn}
-use Rattle.cs_refine.proofs.RefusedSweeps.{nothing_left}
-use Rattle.cs_refine.proofs.StagesApart.{retire, stage}
-use Rattle.cs_refine.specs.Copying.{AreAllPartsOf}
+use Rattle.law_machine.proofs.Rules.{apart_rule, rule_apart}
+use Rattle.law_machine.proofs.Settling.{settle_all_is}
+use Rattle.law_machine.specs.Apart.{AllCopied, MayStage, NothingLeft, StagesApart, named, rooted_apart, settle_all, settled, takes}
+use Rattle.law_machine.specs.Append.{ResetWorn}
+use Rattle.law_machine.specs.Device.{Shape}
+use Rattle.law_machine.specs.Element.{Copy, Entry, Root, Run}
+use Rattle.law_machine.specs.Events.{Does, mark}
+use Rattle.law_machine.specs.Extents.{Extents, ForMerge, ForRun, Purpose as Reason}
+use Rattle.law_machine.specs.Formats.{Formats, RunFrame}
+use Rattle.law_machine.specs.Grounds.{NoRoomApart, Refuses, WouldPass}
+use Rattle.law_machine.specs.Machine.{World, root_now}
+use Rattle.law_machine.specs.Merges.{MergesPart, deletions_go}
+use Rattle.law_machine.specs.Refusal.{Full, Halted, NotSweepable, Refusal, StillLive, WornOut}
+use Rattle.law_machine.specs.State.{Refused, Retire, Retired, Stage, Staged, State, Unchanged, map_now}
+use Rattle.law_machine.specs.Step.{Step}
+use Rattle.law_refinement.proofs.cs_reclaim.Copying.{behind_is_left, none_is_left}
+use Rattle.law_refinement.specs.cs_reclaim.Copied.{AllUpTo, AreInOrder}
+use Rattle.law_refinement.specs.cs_reclaim.Rooted.{IsRetireExact, IsRetiredApart, IsSweepStaged, IsUnmarked, MayStageRoot, is_left_over}
+use Rattle.law_refinement.proofs.DoesApart.{retired, staged}
+use Rattle.law_refinement.proofs.RefusedApart.{stage_full}
+use Rattle.law_refinement.proofs.RefusedRetires.{idle, may_stage, retire_full, retire_worn, stage_worn}
+use Rattle.law_refinement.proofs.RefusedSweeps.{nothing_left}
+use Rattle.law_refinement.proofs.StagesApart.{retire, stage}
+use Rattle.law_refinement.specs.Copying.{AreAllPartsOf}
 use Rattle.cs_core.specs.declared.roots.Root.{Root as Noted}
 use Rattle.cs_core.specs.States.{IsStateOf}
 use Rattle.cs_core.specs.Steps.{Declines, Steps}

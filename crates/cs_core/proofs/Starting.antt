@@ -16,20 +16,20 @@ use Rattle.cs_frame.specs.Formats.{formats_of}
 use Rattle.cs_frame.specs.Geometries.{IsGeometry, device_pages, section_length}
 use Rattle.cs_frame.proofs.SuperblockLaws.{recorded_below_root, recorded_fits_in}
 use Rattle.cs_frame.specs.Superblocks.{FitsRecord, SpellsSuperblock, record_in}
-use Rattle.cs_image.proofs.Families.{length-by_family, root_in}
-use Rattle.cs_image.specs.Counts.{HasCount}
-use Rattle.cs_image.specs.Openings.{by_family, graph_at}
-use Rattle.cs_image.specs.Reads.{extents_at, page_total}
+use Rattle.law_refinement.proofs.Families.{length-by_family, root_in}
+use Rattle.law_refinement.specs.Counts.{HasCount}
+use Rattle.law_refinement.specs.Images.{by_family, graph_at}
+use Rattle.law_refinement.specs.ImageReads.{extents_at, page_total}
 use Rattle.cs_index.proofs.Sorted.{some_at}
-use Rattle.cs_index.specs.declared.runs.StoredRun.{StoredRun}
+use Rattle.cs_index.specs.declared.stored_runs.StoredRun.{StoredRun}
 use Rattle.cs_index.specs.State.{State as IndexState, newest_first}
-use Rattle.cs_model.specs.Element.{Copy, Map}
-use Rattle.cs_model.specs.Geometry.{most_weight_in}
-use Rattle.cs_model.specs.Open.{opened_state, root_read}
-use Rattle.cs_model.specs.Recovery.{Recovers}
-use Rattle.cs_model.specs.State.{State}
-use Rattle.cs_refine.proofs.StartedNew.{new_started}
-use Rattle.cs_refine.specs.Devices.{IsDiskOf}
+use Rattle.law_machine.specs.Element.{Copy, Map}
+use Rattle.law_machine.specs.Geometry.{most_weight_in}
+use Rattle.law_machine.specs.Open.{opened_state, root_read}
+use Rattle.law_machine.specs.Recovery.{Recovers}
+use Rattle.law_machine.specs.State.{State}
+use Rattle.law_refinement.proofs.StartedNew.{new_started}
+use Rattle.law_refinement.specs.Devices.{IsDiskOf}
 use Rattle.cs_core.specs.declared.events.Event.{Event}
 use Rattle.cs_core.specs.declared.events.Reply.{Reply}
 use Rattle.cs_core.specs.declared.roots.Root.{Root as Noted}

@@ -2,23 +2,23 @@
 use Rattle.std.proofs.Common.{◌≡◌, ◌⊎◌, inl, inr, ℕ, ◌<◌, ◌≤◌, true, false, Ok, Err, refl, sym, ap, ◌∙◌, subst, arith}
 use Rattle.std.specs.Prelude.{◌↔◌, IfErr, MatchOption, None, OnErr, OnOk, Option, Result, Some, is_some}
 use Rattle.std.proofs.lemmas.Bool.{cases_Bool, false_from_ne_true}
-use Rattle.cs_deps.specs.declared.refusals.Refusal.{Refusal as Code}
-use Rattle.cs_deps.specs.declared.refusals.Refusal.TheVariants as code
+use Rattle.cs_refusal.specs.declared.refusals.Refusal.{Refusal as Code}
+use Rattle.cs_refusal.specs.declared.refusals.Refusal.TheVariants as code
 use Rattle.cs_extent.specs.State.{IsWhole, State as ExtentsState, extents_of, shape}
 use Rattle.cs_frame.specs.Formats.{formats_of}
-use Rattle.cs_model.specs.Apart.{MayNotBegin, swept_aside, sweeping}
-use Rattle.cs_model.specs.Events.{mark}
-use Rattle.cs_model.specs.Extents.{Extents, marked}
-use Rattle.cs_model.specs.Grounds.{Refuses}
-use Rattle.cs_model.specs.Refusal.{Halted, NotSweepable, Refusal}
-use Rattle.cs_model.specs.State.{Abandon, Abandoned, BeginSweep, MoveOne, Refused, Retire, State, Sweeping}
-use Rattle.cs_model.specs.Step.{Step}
-use Rattle.cs_refine.proofs.Calls.{abandon, sweep}
-use Rattle.cs_refine.proofs.CallsApart.{begin_sweep}
-use Rattle.cs_refine.proofs.RefusedRounds.{begin_sweep_refused}
-use Rattle.cs_refine.proofs.RefusedSweeps.{begin_refused}
-use Rattle.cs_refine.specs.Copying.{AreAllPartsOf}
-use Rattle.cs_reclaim.specs.Sweeps.{IsNotSweepable}
+use Rattle.law_machine.specs.Apart.{MayNotBegin, swept_aside, sweeping}
+use Rattle.law_machine.specs.Events.{mark}
+use Rattle.law_machine.specs.Extents.{Extents, marked}
+use Rattle.law_machine.specs.Grounds.{Refuses}
+use Rattle.law_machine.specs.Refusal.{Halted, NotSweepable, Refusal}
+use Rattle.law_machine.specs.State.{Abandon, Abandoned, BeginSweep, MoveOne, Refused, Retire, State, Sweeping}
+use Rattle.law_machine.specs.Step.{Step}
+use Rattle.law_refinement.proofs.Calls.{abandon, sweep}
+use Rattle.law_refinement.proofs.CallsApart.{begin_sweep}
+use Rattle.law_refinement.proofs.RefusedRounds.{begin_sweep_refused}
+use Rattle.law_refinement.proofs.RefusedSweeps.{begin_refused}
+use Rattle.law_refinement.specs.Copying.{AreAllPartsOf}
+use Rattle.law_refinement.specs.cs_reclaim.Sweeps.{IsNotSweepable}
 use Rattle.cs_core.specs.States.{IsStateOf}
 use Rattle.cs_core.specs.Steps.{Answers, Declines, Steps}
 use Rattle.cs_core.specs.Stored.{AreSwept, Stored, but_for_room}

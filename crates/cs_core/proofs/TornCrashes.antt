@@ -2,7 +2,7 @@
 use Rattle.std.proofs.Common.{◌≡◌, ◌⊎◌, inl, inr, ⊎_elim, ℕ, zero, suc, ◌≤◌, List, [], ◌∷◌, ◌++◌, length, replicate, false, None, refl, sym, ap, ◌∙◌, subst, le_of_eq, arith}
 use Rattle.std.proofs.lemmas.List.{length-replicate}
 use Rattle.std.specs.List.{AllByRecursion}
-use Rattle.cs_deps.specs.declared.refusals.Refusal.TheVariants.{DeviceFault}
+use Rattle.cs_refusal.specs.declared.refusals.Refusal.TheVariants.{DeviceFault}
 use Rattle.cs_disk.proofs.Images.{length-applied}
 use Rattle.cs_disk.specs.declared.disk.PageDisk.{Ghosts as PageDisk}
 use Rattle.cs_disk.specs.Disk.{Image, MayLeave, State as DiskState, page}
@@ -10,21 +10,21 @@ use Rattle.cs_extent.proofs.Changes.{whole_new, zeros_at}
 use Rattle.cs_extent.specs.State.{IsWhole, State as ExtentsState, shape}
 use Rattle.cs_frame.specs.Formats.{formats_of}
 use Rattle.cs_frame.specs.Geometries.{IsGeometry, section_size}
-use Rattle.cs_image.specs.Reads.{page_total}
-use Rattle.cs_model.proofs.Kept.{history_on}
-use Rattle.cs_model.proofs.Staying.{frontier_rises}
-use Rattle.cs_model.specs.Device.{Page, Shape}
-use Rattle.cs_model.specs.Element.{Map}
-use Rattle.cs_model.specs.Events.{IsFrontier}
-use Rattle.cs_model.specs.Geometry.{shape_of}
-use Rattle.cs_model.specs.Open.{opened_state}
-use Rattle.cs_model.specs.Recovery.{Recovers}
-use Rattle.cs_model.specs.Sound.{Sound}
-use Rattle.cs_model.specs.State as model
-use Rattle.cs_model.specs.State.{Command, State, command_of}
-use Rattle.cs_refine.proofs.CrashesLeft.{prefix_wider, torn_leaves_from}
-use Rattle.cs_refine.specs.Crashes.{IsPrefix, IsTornFrom}
-use Rattle.cs_refine.specs.Devices.{IsDiskOf}
+use Rattle.law_refinement.specs.ImageReads.{page_total}
+use Rattle.law_machine.proofs.Kept.{history_on}
+use Rattle.law_machine.proofs.Staying.{frontier_rises}
+use Rattle.law_machine.specs.Device.{Page, Shape}
+use Rattle.law_machine.specs.Element.{Map}
+use Rattle.law_machine.specs.Events.{IsFrontier}
+use Rattle.law_machine.specs.Geometry.{shape_of}
+use Rattle.law_machine.specs.Open.{opened_state}
+use Rattle.law_machine.specs.Recovery.{Recovers}
+use Rattle.law_machine.specs.Sound.{Sound}
+use Rattle.law_machine.specs.State as model
+use Rattle.law_machine.specs.State.{Command, State, command_of}
+use Rattle.law_refinement.proofs.CrashesLeft.{prefix_wider, torn_leaves_from}
+use Rattle.law_refinement.specs.Crashes.{IsPrefix, IsTornFrom}
+use Rattle.law_refinement.specs.Devices.{IsDiskOf}
 use Rattle.cs_core.specs.declared.events.Event.{Event}
 use Rattle.cs_core.specs.declared.events.Event.TheVariants.{End, Issue}
 use Rattle.cs_core.specs.declared.events.Reply.{Reply}

@@ -5,8 +5,8 @@ use Rattle.cs_chunk.specs.Chunks.{TwoAgree}
 use Rattle.cs_extent.specs.State.{shape}
 use Rattle.cs_frame.specs.Formats.{as_locator, formats_of}
 use Rattle.cs_index.specs.State.{index_of}
-use Rattle.cs_model.specs.Geometry.{marks_in}
-use Rattle.cs_model.specs.Index.{joined_bodies, live_at}
+use Rattle.law_machine.specs.Geometry.{marks_in}
+use Rattle.law_machine.specs.Index.{joined_bodies, live_at}
 use Rattle.cs_core.specs.Lookups.{AreMeantBytes, SameOrTwoAgree}
 use Rattle.cs_core.specs.Stored.{Stored}
 

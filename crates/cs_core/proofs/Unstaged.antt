@@ -2,11 +2,11 @@
 use Rattle.std.proofs.Common.{◌≡◌, ◌≢◌, ◌⊎◌, ◌↔◌, inl, ⊎_elim, ℕ, Bool, true, false, [], sym}
 use Rattle.std.specs.Prelude.{◌&&◌}
 use Rattle.cs_extent.specs.State.{extents_of, shape}
-use Rattle.cs_model.specs.Apart.{MayStage as MayStageIn, by_rule}
-use Rattle.cs_model.specs.State.{State}
-use Rattle.cs_reclaim.specs.Rooted.{is_left_over}
-use Rattle.cs_refine.proofs.Indexes.{none_too}
-use Rattle.cs_refine.proofs.RefusedRetires.{may_stage}
+use Rattle.law_machine.specs.Apart.{MayStage as MayStageIn, by_rule}
+use Rattle.law_machine.specs.State.{State}
+use Rattle.law_refinement.specs.cs_reclaim.Rooted.{is_left_over}
+use Rattle.law_refinement.proofs.Indexes.{none_too}
+use Rattle.law_refinement.proofs.RefusedRetires.{may_stage}
 use Rattle.cs_core.specs.States.{IsStateOf}
 use Rattle.cs_core.specs.Stored.{Stored}
 use Rattle.cs_core.specs.Unstaged.{MayStage}

@@ -5,7 +5,7 @@ use Rattle.cs_deps.specs.declared.elements.Element.{Element as Name}
 use Rattle.cs_disk.specs.declared.disk.PageDisk.{Ghosts as PageDisk}
 use Rattle.cs_disk.specs.Disk.{GoesOn, LeavesOnly, page}
 use Rattle.cs_extent.specs.State.{shape}
-use Rattle.cs_refine.specs.Crashes.{IsPrefix}
+use Rattle.law_refinement.specs.Crashes.{IsPrefix}
 use Rattle.cs_core.specs.declared.events.Event.{Event}
 use Rattle.cs_core.specs.declared.events.Event.TheVariants.{Begin, End}
 use Rattle.cs_core.specs.declared.events.Reply.{Reply}

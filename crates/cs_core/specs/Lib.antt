@@ -21,5 +21,8 @@ pub mod Sweepable
 pub mod Unstaged
 pub mod Views
 pub mod Writebacks
-pub use Rattle.cs_image.specs as cs_image
-pub use Rattle.cs_refine.specs as cs_refine
+pub use Rattle.law_refinement.specs as law_refinement
+pub use Rattle.cs_chunk.specs as cs_chunk
+pub use Rattle.cs_extent.specs as cs_extent
+pub use Rattle.cs_index.specs as cs_index
+pub use Rattle.law_refinement.specs.cs_reclaim as cs_reclaim

@@ -4,18 +4,18 @@ use Rattle.std.specs.declared.alloc.Global.{Global}
 use Rattle.cs_chunk.specs.Chunks.{AreMeant, TwoAgree}
 use Rattle.cs_chunk.specs.Lengths.{AreHeadersIn, IsHeaderRefusal, IsOfHeaderIn, lengths_at}
 use Rattle.cs_chunk.specs.Reads.{IsNoAnswer}
-use Rattle.cs_deps.specs.declared.refusals.Refusal.{Refusal}
+use Rattle.cs_refusal.specs.declared.refusals.Refusal.{Refusal}
 use Rattle.cs_disk.specs.Disk.{State as DiskState}
 use Rattle.cs_extent.specs.State.{State as ExtentsState, shape}
 use Rattle.cs_frame.specs.declared.locators.Locator.{Locator}
 use Rattle.cs_frame.specs.Formats.{as_locator, formats_of}
 use Rattle.cs_index.specs.State.{index_of}
-use Rattle.cs_model.specs.Element.{Bytes, Content, Damaged}
-use Rattle.cs_model.specs.Index.{joined_bodies, live_at}
-use Rattle.cs_model.specs.Refusal.{Refusal as Ground}
-use Rattle.cs_model.specs.State.{State, map_now}
-use Rattle.cs_refine.specs.Devices.{IsDiskOf}
-use Rattle.cs_refine.specs.Refusals.{refusal_for}
+use Rattle.law_machine.specs.Element.{Bytes, Content, Damaged}
+use Rattle.law_machine.specs.Index.{joined_bodies, live_at}
+use Rattle.law_machine.specs.Refusal.{Refusal as Ground}
+use Rattle.law_machine.specs.State.{State, map_now}
+use Rattle.law_refinement.specs.Devices.{IsDiskOf}
+use Rattle.law_refinement.specs.Refusals.{refusal_for}
 use Rattle.cs_core.specs.States.{IsStateOf}
 use Rattle.cs_core.specs.Stored.{Stored}
 

@@ -1,15 +1,15 @@
 -- What events and replies say, in the words of the store's machine.
 use Rattle.std.specs.Prelude.{◌≡◌, ◌∷◌, ◌++◌, List, [], Some, None, map}
 use Rattle.cs_index.specs.State.{id_number}
-use Rattle.cs_model.specs.Device.{Shape}
-use Rattle.cs_model.specs.Disk.{page_write}
-use Rattle.cs_model.specs.Element.{Element}
-use Rattle.cs_model.specs.Formats.{Formats}
-use Rattle.cs_model.specs.Refusal.{Refusal as Ground}
-use Rattle.cs_model.specs.State as model
-use Rattle.cs_model.specs.State.{Command}
-use Rattle.cs_refine.specs.Bridge.{name}
-use Rattle.cs_refine.specs.Refusals.{refusal_for}
+use Rattle.law_machine.specs.Device.{Shape}
+use Rattle.law_machine.specs.Disk.{page_write}
+use Rattle.law_machine.specs.Element.{Element}
+use Rattle.law_machine.specs.Formats.{Formats}
+use Rattle.law_machine.specs.Refusal.{Refusal as Ground}
+use Rattle.law_machine.specs.State as model
+use Rattle.law_machine.specs.State.{Command}
+use Rattle.law_refinement.specs.Bridge.{name}
+use Rattle.law_refinement.specs.Refusals.{refusal_for}
 use Rattle.cs_core.specs.declared.events.Event.{Event}
 use Rattle.cs_core.specs.declared.events.Event.TheVariants.{Abandon, Begin, BeginSweep, Delete, End, Get, Issue, MoveOne, Put, Retire, Settle, Stage}
 use Rattle.cs_core.specs.declared.events.Reply.{Reply}

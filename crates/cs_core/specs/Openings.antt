@@ -3,9 +3,9 @@ use Rattle.std.specs.Prelude.{◌≡◌, ◌≢◌, ◌⊎◌, ◌+◌, ◌*◌,
 use Rattle.std.specs.List.{AllByRecursion}
 use Rattle.cs_chunk.specs.Chunks.{IsFrameIn}
 use Rattle.cs_chunk.specs.Reads.{IsNoAnswer, IsOfFault, fault_in}
-use Rattle.cs_deps.specs.declared.refusals.Refusal.{Refusal}
-use Rattle.cs_deps.specs.declared.refusals.Refusal.TheVariants.{NotAStore, RootLost}
-use Rattle.cs_deps.specs.Refusals.{number_of}
+use Rattle.cs_refusal.specs.declared.refusals.Refusal.{Refusal}
+use Rattle.cs_refusal.specs.declared.refusals.Refusal.TheVariants.{NotAStore, RootLost}
+use Rattle.cs_refusal.specs.Refusals.{number_of}
 use Rattle.cs_deps.specs.State.{State as GraphState}
 use Rattle.cs_disk.specs.Disk.{Image, page}
 use Rattle.cs_extent.specs.State.{IsWhole, State as ExtentsState, extents_of, shape}
@@ -18,17 +18,17 @@ use Rattle.cs_frame.specs.Formats.{as_locator}
 use Rattle.cs_frame.specs.Geometries.{device_pages}
 use Rattle.cs_frame.specs.Roots.{SpellsRoot, root_fault}
 use Rattle.cs_frame.specs.Superblocks.{SpellsSuperblock, superblock_fault}
-use Rattle.cs_image.specs.Counts.{HasCount}
-use Rattle.cs_image.specs.Openings.{graph_at, index_at}
-use Rattle.cs_image.specs.Reads.{AreExtentsNoted, AreLocated, AreRunsRead, AreSectionsRead, AreVisibleLocated, IsLocated, IsRunRead, IsStoreRead, IsVisibleStoreRead, extents_at}
-use Rattle.cs_index.specs.declared.runs.StoredRun.{StoredRun}
+use Rattle.law_refinement.specs.Counts.{HasCount}
+use Rattle.law_refinement.specs.Images.{graph_at, index_at}
+use Rattle.law_refinement.specs.ImageReads.{AreExtentsNoted, AreLocated, AreRunsRead, AreSectionsRead, AreVisibleLocated, IsLocated, IsRunRead, IsStoreRead, IsVisibleStoreRead, extents_at}
+use Rattle.cs_index.specs.declared.stored_runs.StoredRun.{StoredRun}
 use Rattle.cs_index.specs.State.{State as IndexState, newest_first}
-use Rattle.cs_model.specs.Element.{Entry, Locator as Place}
-use Rattle.cs_model.specs.Formats.{RunFrame}
-use Rattle.cs_model.specs.Geometry.{most_weight_in}
-use Rattle.cs_model.specs.Index.{entries_of, live_at, named_weight}
-use Rattle.cs_model.specs.Lists.{◌∈◌}
-use Rattle.cs_reclaim.specs.Rooted.{freed_under}
+use Rattle.law_machine.specs.Element.{Entry, Locator as Place}
+use Rattle.law_machine.specs.Formats.{RunFrame}
+use Rattle.law_machine.specs.Geometry.{most_weight_in}
+use Rattle.law_machine.specs.Index.{entries_of, live_at, named_weight}
+use Rattle.law_machine.specs.Lists.{◌∈◌}
+use Rattle.law_refinement.specs.cs_reclaim.Rooted.{freed_under}
 use Rattle.cs_core.specs.Stored.{Stored}
 
 -- The extents of a store as it is opened, from those that were read, an index of the runs that were read, and this version of the root:

@@ -1,9 +1,9 @@
 -- What was put since a core was opened, and what the places of its index mean.
 use Rattle.std.specs.Prelude.{◌≡◌, ◌≢◌, ◌==◌, ◌∷◌, ℕ, List, [], Option, None, Some, if◌then◌else◌, map}
 use Rattle.cs_index.specs.State.{State as IndexState, id_number, index_of}
-use Rattle.cs_model.specs.Element.{Locator as Place}
-use Rattle.cs_model.specs.Index.{live_at}
-use Rattle.cs_model.specs.State.{Command}
+use Rattle.law_machine.specs.Element.{Locator as Place}
+use Rattle.law_machine.specs.Index.{live_at}
+use Rattle.law_machine.specs.State.{Command}
 use Rattle.cs_core.specs.declared.events.Event.{Event}
 use Rattle.cs_core.specs.declared.events.Event.TheVariants.{Delete, Put}
 use Rattle.cs_core.specs.declared.events.Reply.{Reply}

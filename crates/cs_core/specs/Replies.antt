@@ -1,7 +1,7 @@
 -- Which replies an event may have.
 use Rattle.std.specs.Prelude.{◌≡◌, ◌⊎◌, ◌<◌, ◌≤◌}
-use Rattle.cs_deps.specs.declared.refusals.Refusal.{Refusal}
-use Rattle.cs_deps.specs.declared.refusals.Refusal.TheVariants.{BadDigest, BadLength, BadMagic, BadPadding, BadVersion, DeviceFault, Full, Halted, HistoryFull, InFlight, IndexFull, Misplaced, NoRound, NotSweepable, StillLive, TooLarge, WornOut}
+use Rattle.cs_refusal.specs.declared.refusals.Refusal.{Refusal}
+use Rattle.cs_refusal.specs.declared.refusals.Refusal.TheVariants.{BadDigest, BadLength, BadMagic, BadPadding, BadVersion, DeviceFault, Full, Halted, HistoryFull, InFlight, IndexFull, Misplaced, NoRound, NotSweepable, StillLive, TooLarge, WornOut}
 use Rattle.cs_core.specs.declared.events.Event.{Event}
 use Rattle.cs_core.specs.declared.events.Event.TheVariants.{Abandon, Begin, BeginSweep, Delete, End, Get, Issue, MoveOne, Put, Retire, Settle, Stage}
 use Rattle.cs_core.specs.declared.events.Reply.{Reply}

@@ -1,6 +1,6 @@
 -- What a call that serves an event does to a store and its disk.
 use Rattle.std.specs.Prelude.{◌≡◌, ◌≤◌, ◌⊎◌, ◌↔◌, Result, IfOk, OnErr}
-use Rattle.cs_deps.specs.declared.refusals.Refusal.TheVariants.{DeviceFault}
+use Rattle.cs_refusal.specs.declared.refusals.Refusal.TheVariants.{DeviceFault}
 use Rattle.cs_disk.specs.declared.disk.PageDisk.{Ghosts as PageDisk}
 use Rattle.cs_disk.specs.Disk.{GoesOn, Rises}
 use Rattle.cs_extent.specs.State.{shape}

@@ -6,9 +6,9 @@ use Rattle.cs_frame.specs.declared.superblocks.Superblock.{Superblock}
 use Rattle.cs_frame.specs.Geometries.{IsGeometry, section_length, section_size}
 use Rattle.cs_frame.specs.Roots.{SpellsRoot}
 use Rattle.cs_frame.specs.Superblocks.{SpellsSuperblock}
-use Rattle.cs_image.specs.Openings.{AreNewSections, graph_at}
-use Rattle.cs_image.specs.Reads.{extents_at}
-use Rattle.cs_model.specs.Geometry.{most_weight_in, shape_of}
+use Rattle.law_refinement.specs.Images.{AreNewSections, graph_at}
+use Rattle.law_refinement.specs.ImageReads.{extents_at}
+use Rattle.law_machine.specs.Geometry.{most_weight_in, shape_of}
 use Rattle.cs_core.specs.Stored.{Stored}
 
 -- a store of this format, of so many extents of so many pages, and of so many sections of the superblock, on which nothing was staged yet

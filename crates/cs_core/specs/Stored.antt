@@ -7,23 +7,23 @@ use Rattle.cs_deps.specs.State.{State as GraphState, Write, write_of}
 use Rattle.cs_extent.specs.Frames.{AreResetsStaged, root_family}
 use Rattle.cs_extent.specs.State.{State as ExtentsState, extents_of, shape}
 use Rattle.cs_index.specs.State.{State as IndexState, index_of}
-use Rattle.cs_model.specs.Device.{Inside, Shape}
-use Rattle.cs_model.specs.Element.{Copy, Locator as Place}
-use Rattle.cs_model.specs.Index.{live_at, weight_with}
-use Rattle.cs_model.specs.Lists.{◌∈◌}
-use Rattle.cs_deps.specs.declared.refusals.Refusal.{Refusal}
-use Rattle.cs_deps.specs.declared.refusals.Refusal.TheVariants.{Full, WornOut}
+use Rattle.law_machine.specs.Device.{Inside, Shape}
+use Rattle.law_machine.specs.Element.{Copy, Locator as Place}
+use Rattle.law_machine.specs.Index.{live_at, weight_with}
+use Rattle.law_machine.specs.Lists.{◌∈◌}
+use Rattle.cs_refusal.specs.declared.refusals.Refusal.{Refusal}
+use Rattle.cs_refusal.specs.declared.refusals.Refusal.TheVariants.{Full, WornOut}
 use Rattle.cs_frame.specs.Formats.{formats_of}
-use Rattle.cs_model.specs.Append.{chunk_frames, page_counts}
-use Rattle.cs_model.specs.Events.{ArePayloads, Chunked}
-use Rattle.cs_model.specs.Extents.{FitsBy, ForPut}
-use Rattle.cs_model.specs.Geometry.{weigh_in}
-use Rattle.cs_reclaim.specs.Copied.{AllUpTo, AreInOrder}
-use Rattle.cs_reclaim.specs.Sweeps.{IsSwept, IsSweptApart}
-use Rattle.cs_refine.specs.Rounds.{members_of as members}
+use Rattle.law_machine.specs.Append.{chunk_frames, page_counts}
+use Rattle.law_machine.specs.Events.{ArePayloads, Chunked}
+use Rattle.law_machine.specs.Extents.{FitsBy, ForPut}
+use Rattle.law_machine.specs.Geometry.{weigh_in}
+use Rattle.law_refinement.specs.cs_reclaim.Copied.{AllUpTo, AreInOrder}
+use Rattle.law_refinement.specs.cs_reclaim.Sweeps.{IsSwept, IsSweptApart}
+use Rattle.law_refinement.specs.Rounds.{members_of as members}
 use Rattle.cs_core.specs.declared.roots.Root.{Root}
 use Rattle.cs_core.specs.Frontiers.{AreNoted}
-use Rattle.cs_image.specs.Reads.{page_total}
+use Rattle.law_refinement.specs.ImageReads.{page_total}
 
 -- What a core has in memory besides its disk and its history.
 pub record Stored : Type 0 where

@@ -1,8 +1,8 @@
 -- Which extents a sweep may begin with.
 use Rattle.std.specs.Prelude.{ℕ}
 use Rattle.cs_extent.specs.State.{extents_of, shape}
-use Rattle.cs_model.specs.Apart.{MayNotBegin, by_rule}
-use Rattle.cs_reclaim.specs.Sweeps.{IsNotSweepable}
+use Rattle.law_machine.specs.Apart.{MayNotBegin, by_rule}
+use Rattle.law_refinement.specs.cs_reclaim.Sweeps.{IsNotSweepable}
 use Rattle.cs_core.specs.Stored.{Stored}
 
 -- an extent that can't be swept: up to format 2 it isn't there, or it is open, empty or being swept; where chunks and runs lie apart it isn't

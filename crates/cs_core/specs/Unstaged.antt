@@ -1,7 +1,7 @@
 -- Whether there is something to stage a root for.
 use Rattle.std.specs.Prelude.{◌≡◌, ◌≢◌, ◌⊎◌, ◌&&◌, Bool, false, true, []}
 use Rattle.cs_extent.specs.State.{extents_of, shape}
-use Rattle.cs_reclaim.specs.Rooted.{is_left_over}
+use Rattle.law_refinement.specs.cs_reclaim.Rooted.{is_left_over}
 use Rattle.cs_core.specs.Stored.{Stored}
 
 -- copies are noted still of a sweep that was given up: none are where chunks and runs may lie on one extent

@@ -1,20 +1,20 @@
 -- A core as contracts see it, and what one event does to it.
 use Rattle.std.specs.Prelude.{◌≡◌, ◌≢◌, ◌⊎◌, ◌<◌, ◌≤◌, ◌++◌, ◌∷◌, ℕ, List, [], None, drop, length}
-use Rattle.cs_deps.specs.declared.refusals.Refusal.TheVariants.{DeviceFault, HistoryFull}
+use Rattle.cs_refusal.specs.declared.refusals.Refusal.TheVariants.{DeviceFault, HistoryFull}
 use Rattle.cs_disk.specs.declared.disk.PageDisk.{Ghosts as PageDisk}
 use Rattle.cs_disk.specs.Disk.{Image, Rises, State as DiskState, page}
 use Rattle.cs_extent.specs.State.{shape}
 use Rattle.cs_frame.specs.Formats.{formats_of}
-use Rattle.cs_image.specs.Counts.{HasCount}
-use Rattle.cs_image.specs.Reads.{page_total}
-use Rattle.cs_model.specs.Device.{Shape}
-use Rattle.cs_model.specs.Element.{Map}
-use Rattle.cs_model.specs.Formats.{Formats}
-use Rattle.cs_model.specs.Open.{opened_state}
-use Rattle.cs_model.specs.Recovery.{Recovers}
-use Rattle.cs_model.specs.State as model
-use Rattle.cs_model.specs.Step.{History, Step}
-use Rattle.cs_refine.specs.Devices.{IsDiskOf}
+use Rattle.law_refinement.specs.Counts.{HasCount}
+use Rattle.law_refinement.specs.ImageReads.{page_total}
+use Rattle.law_machine.specs.Device.{Shape}
+use Rattle.law_machine.specs.Element.{Map}
+use Rattle.law_machine.specs.Formats.{Formats}
+use Rattle.law_machine.specs.Open.{opened_state}
+use Rattle.law_machine.specs.Recovery.{Recovers}
+use Rattle.law_machine.specs.State as model
+use Rattle.law_machine.specs.Step.{History, Step}
+use Rattle.law_refinement.specs.Devices.{IsDiskOf}
 use Rattle.cs_core.specs.declared.events.Event.{Event}
 use Rattle.cs_core.specs.declared.events.Reply.{Reply}
 use Rattle.cs_core.specs.declared.events.Reply.TheVariants.{Refused}

@@ -8,14 +8,14 @@ ghost use Rattle.cs_core.specs.Reads.{MoveAnswers};
 ghost use Rattle.cs_core.specs.Replies.{MayRefuse};
 ghost use Rattle.cs_core.specs.Stored.{but_for_room};
 ghost use Rattle.cs_core.specs.Writebacks.{KeepsRound, Stages};
-ghost use Rattle.cs_image.specs.Reads.{page_total};
+ghost use Rattle.law_refinement.specs.ImageReads.{page_total};
 
 use crate::events::Event;
-use crate::stores::Store;
-use cs_deps::Refusal;
+use crate::parts::Store;
 use cs_disk::PageDisk;
 use cs_frame::ShardId;
-use cs_reclaim::Sweep;
+use cs_refusal::Refusal;
+use law_refinement::reclaim::Sweep;
 
 impl Store {
     /// Moves the first live chunk off an extent that is being swept, and tells which it was; None where none is live. Where chunks and runs

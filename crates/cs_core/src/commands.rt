@@ -4,10 +4,10 @@ ghost use Rattle.cs_extent.specs.State.{IsWhole, shape};
 ghost use Rattle.cs_frame.specs.Formats.{place_of};
 ghost use Rattle.cs_frame.specs.Locators.{KeepFormat};
 ghost use Rattle.cs_index.specs.State.{IsSet, id_number, index_of};
-ghost use Rattle.cs_model.specs.Events.{Chunked};
-ghost use Rattle.cs_model.specs.Geometry.{weigh_in};
-ghost use Rattle.cs_model.specs.Index.{weight_with};
-ghost use Rattle.cs_model.specs.State.{Accepted, Delete, Put};
+ghost use Rattle.law_machine.specs.Events.{Chunked};
+ghost use Rattle.law_machine.specs.Geometry.{weigh_in};
+ghost use Rattle.law_machine.specs.Index.{weight_with};
+ghost use Rattle.law_machine.specs.State.{Accepted, Delete, Put};
 ghost use Rattle.cs_core.specs.Lookups.{AreMeantBytes};
 ghost use Rattle.cs_core.specs.Puts.{MeansTheSameBut};
 ghost use Rattle.cs_core.specs.Replies.{MayRefuse};
@@ -16,12 +16,12 @@ ghost use Rattle.cs_core.specs.Stored.{IsTooHeavy, IsWhyWorn, but_for_room};
 ghost use Rattle.cs_core.specs.Writebacks.{AddsCommand, KeepsRound, KeepsStaging, Stages};
 
 use crate::events::Event;
-use crate::stores::Store;
+use crate::parts::Store;
 use cs_chunk::{put_chunks_by, put_fits_by, shard_bytes};
-use cs_deps::Refusal;
 use cs_extent::Extents;
 use cs_frame::{Places, ShardId};
 use cs_index::Index;
+use cs_refusal::Refusal;
 
 impl Store {
     /// Stages a shard, chunk by chunk, and gives its number among the accepted commands.

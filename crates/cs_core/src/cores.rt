@@ -7,7 +7,7 @@
 //! `left` of `Core::apply` say that the image is such a one; `a_crash_of_a_run_leaves_a_prefix` says it of many calls in a row;
 //! `recovers` of `Core::open` says that such an image is opened so.
 ghost use Rattle.std.specs.Prelude.{IfErr, IfOk, IsOk, IsSome, IsTrue, MatchBool, MatchOption, MatchResult, None, OnErr, OnOk, Some, [], false, length, take, true, ℕ, ◌+◌, ◌<◌, ◌^◌, ◌↔◌, ◌≡◌, ◌≢◌, ◌≤◌, ◌⊎◌};
-ghost use Rattle.cs_refine.specs.Crashes.{IsPrefix};
+ghost use Rattle.law_refinement.specs.Crashes.{IsPrefix};
 ghost use Rattle.cs_chunk.specs.Reads.{IsNoAnswer};
 ghost use Rattle.cs_deps.specs.Named.{IsWithin};
 ghost use Rattle.cs_deps.specs.Staging.{IsKept};
@@ -17,11 +17,11 @@ ghost use Rattle.cs_disk.specs.Disk.{GoesOn, Leaves, LeavesOnly, MayLeave, Rises
 ghost use Rattle.cs_extent.specs.State.{IsWhole, extents_of, shape};
 ghost use Rattle.cs_frame.specs.Formats.{formats_of};
 ghost use Rattle.cs_frame.specs.Geometries.{IsGeometry, device_pages, section_size};
-ghost use Rattle.cs_image.specs.Counts.{HasCount};
-ghost use Rattle.cs_model.specs.Element.{Map};
-ghost use Rattle.cs_model.specs.Geometry.{shape_of};
-ghost use Rattle.cs_model.specs.Recovery.{Recovers};
-ghost use Rattle.cs_model.specs.State.{State};
+ghost use Rattle.law_refinement.specs.Counts.{HasCount};
+ghost use Rattle.law_machine.specs.Element.{Map};
+ghost use Rattle.law_machine.specs.Geometry.{shape_of};
+ghost use Rattle.law_machine.specs.Recovery.{Recovers};
+ghost use Rattle.law_machine.specs.State.{State};
 ghost use Rattle.cs_plan.specs.Best.{IsBestPlan};
 ghost use Rattle.cs_core.specs.Answered.{TellsMeant};
 ghost use Rattle.cs_core.specs.Sweepable.{IsUnsweepable};
@@ -37,15 +37,16 @@ ghost use Rattle.cs_core.specs.Views.{Applies, IsCore, IsUntouched, IsFound, IsI
 ghost use Rattle.cs_core.specs.Writebacks.{WritesBack};
 
 use crate::contents::Bytes;
+use crate::core_openings::flush_and_read;
 use crate::events::{Event, OutOfMemory, Reply};
 use crate::formats::start_store;
 use crate::histories::History;
-use crate::openings::open_store;
+use crate::parts::Store;
 use crate::replays::replay_events;
-use crate::stores::Store;
-use cs_deps::{Dependency, Element, GraphView, LAST_NUMBER, Plan, Refusal};
+use cs_deps::{Dependency, Element, GraphView, LAST_NUMBER, Plan};
 use cs_disk::PageDisk;
 use cs_frame::{Geometry, ShardId};
+use cs_refusal::Refusal;
 use std::alloc::{AllocError, Global};
 use std::marker::Model;
 use std::snapshot::Snapshot;
@@ -169,7 +170,7 @@ impl<D: PageDisk> Core<D> {
             return Err((Refusal::NotAStore, disk));
         }
         let mut disk = disk;
-        let read = open_store(alloc, &mut disk);
+        let read = flush_and_read(alloc, &mut disk);
         match read {
             Ok(found) => Ok(Core {
                 alloc,
@@ -189,7 +190,7 @@ impl<D: PageDisk> Core<D> {
     /// which nothing has changed but what memory is reserved.
     ///
     /// Refused 41 HistoryFull (Put, Get, Delete, Settle, BeginSweep and MoveOne alone), then 40 Halted where a write or a flush failed
-    /// (but for Get and Settle), then as `Event` says. `step` says that a core goes by two tables of cs_model: `Does` (specs/Events.antt), what each event does, and
+    /// (but for Get and Settle), then as `Event` says. `step` says that a core goes by two tables of law_machine: `Does` (specs/Events.antt), what each event does, and
     /// `Refuses` (specs/Grounds.antt), the grounds of its refusals in their order.
     pub fn apply(&mut self, event: &Event) -> Result<Reply, OutOfMemory>
         ensures step { IfOk result (λ reply. Applies D.PageDisk self.old event.now reply self.new) }

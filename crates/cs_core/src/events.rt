@@ -3,8 +3,9 @@ ghost use Rattle.std.specs.Prelude.{◌≡◌, IfOk, MatchBool};
 ghost use Rattle.cs_core.specs.Answered.{IsForDevice, IsLimited};
 
 use crate::contents::{Bytes, Elements};
-use cs_deps::{Element, Refusal};
+use cs_deps::Element;
 use cs_frame::ShardId;
+use cs_refusal::Refusal;
 use std::alloc::{AllocError, AllocFailed};
 
 /// Memory was asked for and refused; nothing has changed.

@@ -6,14 +6,14 @@ ghost use Rattle.cs_frame.specs.Superblocks.{SpellsSuperblock};
 ghost use Rattle.cs_core.specs.Started.{AreNew, AreNewWritten, IsHeadWritten, IsNewOn, IsNewSection, new_stored};
 
 use crate::families::new_graph;
+use crate::parts::Store;
 use crate::roots::first_root;
-use crate::stores::Store;
-use cs_deps::Refusal;
 use cs_disk::{DiskFault, PageDisk};
 use cs_extent::Extents;
 use cs_frame::{Geometry, Root, Superblock, encode_root, encode_superblock};
 use cs_index::Index;
-use cs_reclaim::Copies;
+use cs_refusal::Refusal;
+use law_refinement::reclaim::Copies;
 use std::alloc::{AllocError, Global};
 use std::mem;
 

@@ -13,20 +13,20 @@ ghost use Rattle.cs_extent.specs.State.{shape};
 ghost use Rattle.cs_frame.specs.Formats.{as_locator, formats_of};
 ghost use Rattle.cs_frame.specs.Frames.{page_count};
 ghost use Rattle.cs_index.specs.State.{id_number, index_of};
-ghost use Rattle.cs_model.specs.Index.{live_at};
-ghost use Rattle.cs_model.specs.State.{State, map_now};
-ghost use Rattle.cs_refine.specs.Crashes.{IsPrefix};
+ghost use Rattle.law_machine.specs.Index.{live_at};
+ghost use Rattle.law_machine.specs.State.{State, map_now};
+ghost use Rattle.law_refinement.specs.Crashes.{IsPrefix};
 ghost use Rattle.cs_core.specs.Lookups.{AreMeantBytes, IsReading, IsSaid, IsSize};
 ghost use Rattle.cs_core.specs.Meanings.{commands_said};
 ghost use Rattle.cs_core.specs.Stored.{AreInside};
 ghost use Rattle.cs_core.specs.Views.{IsIn};
 
 use crate::cores::Core;
-use cs_deps::Refusal;
 use cs_disk::PageDisk;
 use cs_extent::Extents;
 use cs_frame::{FrameKind, Locator, ShardId};
 use cs_index::Index;
+use cs_refusal::Refusal;
 
 impl<D: PageDisk> Core<D> {
     /// The bytes of a shard, None where there is none: what the event Get would answer. Searches the index, and reads each page of each

@@ -3,7 +3,7 @@ ghost use Rattle.std.specs.Prelude.{◌≡◌, ◌≢◌, IfOk, MatchResult};
 
 use crate::contents::Bytes;
 use crate::events::{OutOfMemory, Reply};
-use cs_deps::Refusal;
+use cs_refusal::Refusal;
 use std::alloc::Global;
 
 /// The reply with the bytes of a shard, twice.

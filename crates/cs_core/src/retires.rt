@@ -1,7 +1,7 @@
 //! Ends of sweeps: an extent is retired.
 ghost use Rattle.std.specs.Prelude.{◌≡◌, ◌≢◌, ◌⊎◌, [], IfErr, OnErr, OnOk, false, true};
 ghost use Rattle.cs_extent.specs.State.{shape};
-ghost use Rattle.cs_model.specs.State.{Retire, Retired};
+ghost use Rattle.law_machine.specs.State.{Retire, Retired};
 ghost use Rattle.cs_core.specs.Puts.{MeansTheSame};
 ghost use Rattle.cs_core.specs.Replies.{MayRefuse};
 ghost use Rattle.cs_core.specs.Steps.{Answers};
@@ -9,10 +9,10 @@ ghost use Rattle.cs_core.specs.Stored.{but_for_room};
 ghost use Rattle.cs_core.specs.Writebacks.{KeepsRound, Stages};
 
 use crate::events::Event;
+use crate::parts::Store;
 use crate::roots::Root;
-use crate::stores::Store;
-use cs_deps::Refusal;
-use cs_reclaim::Sweep;
+use cs_refusal::Refusal;
+use law_refinement::reclaim::Sweep;
 
 impl Store {
     /// Stages one run of all that is live and the root over it, and empties an extent that is being swept; where chunks and runs lie apart

@@ -6,14 +6,15 @@ ghost use Rattle.cs_core.specs.Replies.{MayRefuse};
 ghost use Rattle.cs_core.specs.Rounds.{BeginAnswers, EndAnswers, IssueAnswers};
 ghost use Rattle.cs_core.specs.Stored.{members_of, but_for_room};
 ghost use Rattle.cs_core.specs.Writebacks.{IsMemberIssued, IsRoundBegun, IsRoundEnded, StaysRefused};
-ghost use Rattle.cs_image.specs.Reads.{page_total};
+ghost use Rattle.law_refinement.specs.ImageReads.{page_total};
 
 use crate::events::{Event, Reply};
 use crate::frontiers::let_go;
-use crate::stores::Store;
-use cs_deps::{Element, Refusal};
+use crate::parts::Store;
+use cs_deps::Element;
 use cs_disk::{DiskFault, PageDisk};
 use cs_plan::next_round;
+use cs_refusal::Refusal;
 
 impl Store {
     /// Takes the next round of the plan of all that waits, and gives its members twice; None where nothing waits.

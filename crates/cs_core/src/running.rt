@@ -6,14 +6,14 @@ ghost use Rattle.cs_core.specs.Answered.{IsAlone, IsAnswered, IsForDevice};
 ghost use Rattle.cs_core.specs.Served.{IsServed};
 ghost use Rattle.cs_core.specs.Stored.{but_for_room};
 ghost use Rattle.cs_core.specs.Views.{Serves};
-ghost use Rattle.cs_image.specs.Reads.{page_total};
+ghost use Rattle.law_refinement.specs.ImageReads.{page_total};
 
 use crate::contents::Elements;
 use crate::events::{Event, OutOfMemory, Reply};
+use crate::parts::Store;
 use crate::replies::refused;
-use crate::stores::Store;
-use cs_deps::Refusal;
 use cs_disk::PageDisk;
+use cs_refusal::Refusal;
 
 impl Store {
     /// Does an event that asks nothing of the disk, where the store isn't halted, and gives its reply twice.

@@ -7,13 +7,12 @@ ghost use Rattle.cs_extent.specs.Sections.{AreSections, format_of, pages_of, row
 ghost use Rattle.cs_frame.specs.FirstFormat.{SpellsPageZero, page_zero_fault};
 ghost use Rattle.cs_frame.specs.Geometries.{IsKnown, device_pages};
 ghost use Rattle.cs_frame.specs.Superblocks.{SpellsSuperblock, superblock_fault};
-ghost use Rattle.cs_image.specs.Reads.{AreSectionsRead};
+ghost use Rattle.law_refinement.specs.ImageReads.{AreSectionsRead};
 ghost use Rattle.cs_core.specs.Openings.{HasNumbers, IsOpeningRefusal, IsOtherFirst, IsWhyNoSection, IsWhyNoSections};
 
-use cs_chunk::{refusal_of_disk, refusal_of_fault};
-use cs_deps::Refusal;
-use cs_disk::PageDisk;
-use cs_frame::{Superblock, decode_section, decode_superblock};
+use cs_disk::{PageDisk, refusal_of_disk};
+use cs_frame::{Format, Superblock, decode_section, decode_superblock, refusal_of_fault};
+use cs_refusal::Refusal;
 use std::alloc::{AllocError, Global};
 
 /// What page 0 spells of a superblock.
@@ -74,7 +73,7 @@ pub fn read_first<D: PageDisk>(alloc: Global, disk: &mut D) -> Result<Superblock
 }
 
 /// The further section of a superblock that a page spells in this format.
-fn decoded_section(alloc: Global, page: &[u8; 4096], format: u8) -> Result<Superblock, Refusal>
+fn decoded_section(alloc: Global, page: &[u8; 4096], format: Format) -> Result<Superblock, Refusal>
     requires { IsKnown format }
     ensures format { IfOk result (λ it. it.format ≡ format) }
     ensures spelled { IfOk result (λ it. SpellsSuperblock page.now it.format it.version it.recorded it.extent_count it.pages it.sections it.section it.extents.items) }
@@ -92,7 +91,7 @@ fn read_further<D: PageDisk>(
     alloc: Global,
     disk: &mut D,
     number: u64,
-    format: u8,
+    format: Format,
 ) -> Result<Superblock, Refusal>
     requires known { IsKnown format }
     requires inside { number < D.page_count disk.old }
@@ -114,7 +113,7 @@ fn read_further<D: PageDisk>(
 /// Whether a section is this one, of a superblock of this format and of so many extents, pages and sections.
 fn has_numbers(
     superblock: &Superblock,
-    format: u8,
+    format: Format,
     extents: u16,
     pages: u16,
     sections: u8,
@@ -122,7 +121,7 @@ fn has_numbers(
 ) -> bool
     ensures { MatchBool result (HasNumbers format extents pages sections section superblock.now) (¬ HasNumbers format extents pages sections section superblock.now) }
 {
-    superblock.format == format
+    superblock.format.number() == format.number()
         && superblock.extent_count == extents
         && superblock.pages == pages
         && superblock.sections == sections
@@ -141,7 +140,7 @@ fn further_page(extents: u16, pages: u16, section: u8) -> u64
 fn read_section<D: PageDisk>(
     alloc: Global,
     disk: &mut D,
-    format: u8,
+    format: Format,
     extents: u16,
     pages: u16,
     sections: u8,

@@ -7,14 +7,14 @@ ghost use Rattle.cs_core.specs.Answered.{IsAnswered};
 ghost use Rattle.cs_core.specs.Served.{IsServed};
 ghost use Rattle.cs_core.specs.Stored.{but_for_room};
 ghost use Rattle.cs_core.specs.Views.{Serves};
-ghost use Rattle.cs_image.specs.Reads.{page_total};
+ghost use Rattle.law_refinement.specs.ImageReads.{page_total};
 
 use crate::events::{Event, OutOfMemory, Reply};
+use crate::parts::Store;
 use crate::replies::{found, refused};
-use crate::stores::Store;
-use cs_deps::Refusal;
 use cs_disk::PageDisk;
 use cs_frame::ShardId;
+use cs_refusal::Refusal;
 
 impl Store {
     /// Does one event, and gives its reply twice: to tell it, and to keep it in the history. A store that is halted refuses

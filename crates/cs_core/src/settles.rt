@@ -3,7 +3,7 @@ ghost use Rattle.std.specs.Prelude.{◌≡◌, ◌<◌, ◌↔◌, ℕ, [], IsTr
 ghost use Rattle.cs_extent.specs.State.{extents_of};
 ghost use Rattle.cs_core.specs.Checkpoints.{IsSettled};
 
-use crate::stores::Store;
+use crate::parts::Store;
 
 impl Store {
     /// Whether nothing waits, no round is out, the index has no change that isn't staged, and no extent is being swept.

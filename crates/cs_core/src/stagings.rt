@@ -1,7 +1,7 @@
 //! Runs and roots.
 ghost use Rattle.std.specs.Prelude.{◌≡◌, ◌≢◌, ◌+◌, ◌⊎◌, [], IfErr, IfOk, MatchBool, MatchOption, OnErr, OnOk, false, true};
 ghost use Rattle.cs_extent.specs.State.{shape};
-ghost use Rattle.cs_model.specs.State.{Stage};
+ghost use Rattle.law_machine.specs.State.{Stage};
 ghost use Rattle.cs_core.specs.Puts.{MeansTheSame};
 ghost use Rattle.cs_core.specs.Replies.{MayRefuse};
 ghost use Rattle.cs_core.specs.Steps.{Answers, staged_or_not};
@@ -10,9 +10,9 @@ ghost use Rattle.cs_core.specs.Unstaged.{MayStage, NothingToStage, are_left_over
 ghost use Rattle.cs_core.specs.Writebacks.{KeepsRound, Stages};
 
 use crate::events::Event;
+use crate::parts::Store;
 use crate::roots::Root;
-use crate::stores::Store;
-use cs_deps::Refusal;
+use cs_refusal::Refusal;
 
 impl Store {
     /// Whether a Stage stages a root: the index has changes that aren't staged, or, where chunks and runs lie apart, a sweep that was given up

@@ -6,7 +6,6 @@ pub mod Rounds
 pub mod View
 pub mod Staging
 pub mod State
-pub mod Refusals
 pub mod Entries
 pub mod Needs
 pub mod Turns

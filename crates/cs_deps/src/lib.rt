@@ -5,14 +5,13 @@ mod backlogs;
 mod cleaning;
 mod dependencies;
 mod elements;
+mod graph_laws;
 mod graphs;
 mod keeps;
-mod laws;
 mod levels;
 mod needs;
 mod pages;
 mod records;
-mod refusals;
 mod rounds;
 mod rows;
 mod spans;
@@ -25,12 +24,11 @@ mod wanting;
 
 pub use dependencies::Dependency;
 pub use elements::{Element, LAST_NUMBER};
-pub use graphs::Graph;
-pub use laws::{
+pub use graph_laws::{
     a_chain_bounds_every_schedule, a_first_round_waits_no_more, a_round_lowers_heights,
     each_waiting_element_has_a_height, rounds_in_turn_are_a_plan,
 };
-pub use refusals::Refusal;
+pub use graphs::Graph;
 pub use spans::Span;
 pub use views::{GraphView, Plan};
 pub use waiting::find;

@@ -7,7 +7,7 @@ ghost use Rattle.cs_disk.specs.Unflushed.{bytes_at};
 ghost use Rattle.cs_disk.specs.Disk.{HasCause};
 
 use crate::ahead::Ahead;
-use crate::openings::{NewFault, existing, file_of_zeros, new_file};
+use crate::file_openings::{NewFault, existing, file_of_zeros, new_file};
 use crate::unflushed::Unflushed;
 use crate::{Access, CrashDisk, DiskFault, FileFault, OpenFault, PageDisk, SystemFault};
 use std::alloc::Global;

@@ -2,7 +2,7 @@
 use Rattle.std.proofs.Common.{◌≡◌, ℕ, Bool, List, subst}
 use Rattle.cs_deps.specs.State.{State as GraphState}
 use Rattle.cs_frame.specs.declared.locators.Locator.{Locator}
-use Rattle.cs_model.specs.Extents.{Purpose as Reason}
+use Rattle.law_machine.specs.Extents.{Purpose as Reason}
 use Rattle.cs_extent.specs.Appended.{IsAppendedBy}
 use Rattle.cs_extent.specs.State.{State}
 

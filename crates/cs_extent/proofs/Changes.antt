@@ -5,8 +5,8 @@ use Rattle.std.specs.List.{AllByRecursion}
 use Rattle.std.proofs.lemmas.Bool.Decides.{nat_tests}
 use Rattle.std.proofs.lemmas.Bool.{cases_lt}
 use Rattle.std.proofs.lemmas.List.{length-map, length-replicate, get_or-set_same, get_or-set_other}
-use Rattle.cs_model.specs.Extents.{emptied, open_after, taken}
-use Rattle.cs_model.specs.Lists.{with}
+use Rattle.law_machine.specs.Extents.{emptied, open_after, taken}
+use Rattle.law_machine.specs.Lists.{with}
 use Rattle.cs_frame.specs.Geometries.{IsGeometry}
 use Rattle.cs_extent.specs.Changes.{emptied_in}
 use Rattle.cs_extent.specs.Frames.{greatest}

@@ -4,8 +4,8 @@ use Rattle.std.specs.Prelude.{◌==◌, if◌then◌else◌, count_by}
 use Rattle.std.proofs.lemmas.Bool.Decides.{nat_tests}
 use Rattle.std.proofs.lemmas.Bool.{cases_lt}
 use Rattle.std.proofs.lemmas.List.Sums.{count_by_more_no, count_by_more_yes}
-use Rattle.cs_model.specs.Extents.{empties}
-use Rattle.cs_model.specs.Lists.{with}
+use Rattle.law_machine.specs.Extents.{empties}
+use Rattle.law_machine.specs.Lists.{with}
 
 -- what two tests tell of a number
 pub is_zero : (n : ℕ) → (n == 0) ≡ true → n ≡ 0

@@ -7,9 +7,9 @@ use Rattle.std.proofs.lemmas.Bool.Decides.{nat_tests}
 use Rattle.std.proofs.lemmas.Option.{same_Some}
 use Rattle.std.proofs.Math.Seq.{drop-cons}
 use Rattle.std.proofs.lemmas.List.{drop_all}
-use Rattle.cs_model.specs.Device.{Shape}
-use Rattle.cs_model.specs.Extents.{Extents, Purpose as Reason, HasRoom, IsFirstEmpty, Placed, Fits, empties, open_after, spare, taken}
-use Rattle.cs_model.specs.Lists.{with}
+use Rattle.law_machine.specs.Device.{Shape}
+use Rattle.law_machine.specs.Extents.{Extents, Purpose as Reason, HasRoom, IsFirstEmpty, Placed, Fits, empties, open_after, spare, taken}
+use Rattle.law_machine.specs.Lists.{with}
 use Rattle.cs_extent.specs.declared.supplies.Supply.{Supply}
 use Rattle.cs_extent.specs.Places.{room_at, left_after}
 use Rattle.cs_extent.specs.State.{State, IsWhole, extents_of, shape}

@@ -3,9 +3,9 @@ use Rattle.std.proofs.Common.{◌≡◌, ◌∙◌, ℕ, zero, suc, ◌+◌, ◌
 use Rattle.std.specs.Prelude.{◌==◌, if◌then◌else◌}
 use Rattle.std.proofs.lemmas.Bool.Decides.{nat_tests}
 use Rattle.std.proofs.lemmas.Option.{same_Some}
-use Rattle.cs_model.specs.Device.{Shape}
-use Rattle.cs_model.specs.Extents.{Extents, emptied, forgotten, marked, taken, taken_by}
-use Rattle.cs_model.specs.Lists.{with}
+use Rattle.law_machine.specs.Device.{Shape}
+use Rattle.law_machine.specs.Extents.{Extents, emptied, forgotten, marked, taken, taken_by}
+use Rattle.law_machine.specs.Lists.{with}
 use Rattle.cs_extent.specs.Changes.{Append, AppendApart, Change, Given, LeadsTo, Mark, Note, Reset, ResetApart, emptied_in, given_from}
 use Rattle.cs_extent.specs.Frames.{greatest}
 use Rattle.cs_extent.proofs.Changes.{greatest_is}

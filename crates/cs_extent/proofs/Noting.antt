@@ -5,9 +5,9 @@ use Rattle.std.proofs.lemmas.Bool.{cases_lt}
 use Rattle.std.proofs.lemmas.Bool.Decides.{nat_tests}
 use Rattle.std.proofs.lemmas.Option.{same_Some}
 use Rattle.cs_deps.specs.State.{State as GraphState, write_of}
-use Rattle.cs_model.specs.Device.{Shape, mark_of}
-use Rattle.cs_model.specs.Extents.{Extents, ForMerge, ForMove, ForPut, ForRun, GoesApart, Purpose as Reason, emptied, forgotten, marked, noted_by, of_runs_by, other_than, taken}
-use Rattle.cs_model.specs.Lists.{with}
+use Rattle.law_machine.specs.Device.{Shape, mark_of}
+use Rattle.law_machine.specs.Extents.{Extents, ForMerge, ForMove, ForPut, ForRun, GoesApart, Purpose as Reason, emptied, forgotten, marked, noted_by, of_runs_by, other_than, taken}
+use Rattle.law_machine.specs.Lists.{with}
 use Rattle.cs_extent.specs.Appended.{IsAppendedBy}
 use Rattle.cs_extent.specs.Frames.{AddsOnlyOf, AreWritten, IsFrameStaged, IsOfFrame, family_of, next_place, next_section, root_recorded}
 use Rattle.cs_extent.specs.Notes.{fresh_noted, is_of_run, last_noted, noted_in, open_noted}

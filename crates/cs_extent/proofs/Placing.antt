@@ -3,8 +3,8 @@ use Rattle.std.proofs.Common.{◌≡◌, ◌∙◌, ◌+◌, ◌<◌, ◌≤◌,
 use Rattle.std.specs.Prelude.{◌↔◌, ◌&&◌, if◌then◌else◌, nat_lt, not, MatchOption}
 use Rattle.std.proofs.lemmas.Bool.{cases_lt, lt-ltb, ltb-true}
 use Rattle.cs_extent.specs.Puts.{holds}
-use Rattle.cs_model.specs.Device.{Shape}
-use Rattle.cs_model.specs.Extents.{Extents, GoesApart, IsFirstEmpty, MayOpen, Purpose as Reason, Takes, how_many}
+use Rattle.law_machine.specs.Device.{Shape}
+use Rattle.law_machine.specs.Extents.{Extents, GoesApart, IsFirstEmpty, MayOpen, Purpose as Reason, Takes, how_many}
 
 module _ (S : Shape) (x : Extents) (r : Reason) (k : ℕ) where
   -- where nothing takes it, it goes to the first empty extent, if that may be taken

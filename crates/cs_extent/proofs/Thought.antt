@@ -5,10 +5,10 @@ use Rattle.std.proofs.lemmas.List.{drop_all, get_or-set_other, get_or-set_same, 
 use Rattle.std.proofs.lemmas.Grind.{take-set_at}
 use Rattle.std.specs.Prelude.{◌==◌, if◌then◌else◌}
 use Rattle.std.proofs.Math.Seq.{drop-cons}
-use Rattle.cs_model.specs.Device.{Shape}
-use Rattle.cs_model.specs.Extents.{Extents, FitsBy, ForPut, GoesApart, taken_by}
-use Rattle.cs_model.specs.Lists.{with}
-use Rattle.cs_model.proofs.Places.{goes_one}
+use Rattle.law_machine.specs.Device.{Shape}
+use Rattle.law_machine.specs.Extents.{Extents, FitsBy, ForPut, GoesApart, taken_by}
+use Rattle.law_machine.specs.Lists.{with}
+use Rattle.law_machine.proofs.Places.{goes_one}
 use Rattle.cs_extent.specs.Puts.{after_puts, open_after_puts, pointers_after}
 use Rattle.cs_extent.specs.Worn.{AreCountedBy, ArePlacedBy, in_section}
 use Rattle.cs_extent.proofs.Changes.{zeros_at}

@@ -7,10 +7,10 @@ use Rattle.std.proofs.lemmas.List.Sums.{sum_by-cons}
 use Rattle.std.proofs.lemmas.Option.{same_Some}
 use Rattle.std.proofs.Math.Seq.{drop-cons}
 use Rattle.cs_deps.specs.Staging.{Staging}
-use Rattle.cs_model.specs.Device.{Shape}
-use Rattle.cs_model.specs.Extents.{Extents, Fits, FitsBy, HasRoom, IsFirstEmpty, Placed, Purpose as Reason, empties, open_after, spare, taken, taken_by}
-use Rattle.cs_model.specs.Lists.{with}
-use Rattle.cs_model.proofs.Places.{goes_one}
+use Rattle.law_machine.specs.Device.{Shape}
+use Rattle.law_machine.specs.Extents.{Extents, Fits, FitsBy, HasRoom, IsFirstEmpty, Placed, Purpose as Reason, empties, open_after, spare, taken, taken_by}
+use Rattle.law_machine.specs.Lists.{with}
+use Rattle.law_machine.proofs.Places.{goes_one}
 use Rattle.cs_frame.proofs.GeometryLaws.{bounds}
 use Rattle.cs_extent.specs.declared.ways.Way.{Way}
 use Rattle.cs_extent.specs.Frames.{family_of}

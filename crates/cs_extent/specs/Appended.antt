@@ -2,8 +2,8 @@
 use Rattle.std.specs.Prelude.{◌≡◌, ◌+◌, ℕ, Bool, false, List, [], ◌∷◌, Some, length, slice_index}
 use Rattle.cs_deps.specs.State.{State as GraphState, write_of}
 use Rattle.cs_frame.specs.declared.locators.Locator.{Locator}
-use Rattle.cs_model.specs.Device.{mark_of}
-use Rattle.cs_model.specs.Extents.{Goes, Purpose as Reason, taken_by}
+use Rattle.law_machine.specs.Device.{mark_of}
+use Rattle.law_machine.specs.Extents.{Goes, Purpose as Reason, taken_by}
 use Rattle.cs_extent.specs.Frames.{AreWritten, IsFrameStaged, IsOfFrame, AddsOnlyOf, family_of, next_place, next_section, root_recorded}
 use Rattle.cs_extent.specs.State.{SpellsExtents, State, extents_of, need_of, shape}
 

@@ -1,8 +1,8 @@
 -- What happens to extents, one change after another, and which pages are given.
 use Rattle.std.specs.Prelude.{◌≡◌, ◌++◌, ◌∷◌, ℕ, zero, suc, Bool, true, List, [], Option, if◌then◌else◌}
-use Rattle.cs_model.specs.Device.{Shape}
-use Rattle.cs_model.specs.Lists.{with}
-use Rattle.cs_model.specs.Extents.{Extents, Purpose as Reason, GoesApart, Placed, emptied, forgotten, marked, taken, taken_by}
+use Rattle.law_machine.specs.Device.{Shape}
+use Rattle.law_machine.specs.Lists.{with}
+use Rattle.law_machine.specs.Extents.{Extents, Purpose as Reason, GoesApart, Placed, emptied, forgotten, marked, taken, taken_by}
 
 -- what is done to the extents, one thing at a time
 pub data Change : Type 0 where

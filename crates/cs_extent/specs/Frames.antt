@@ -8,7 +8,7 @@ use Rattle.cs_deps.specs.Staging.{Staging, IsVersionStaged}
 use Rattle.cs_deps.specs.State.{State, Write, write_of}
 use Rattle.cs_frame.specs.declared.locators.Locator.{Locator}
 use Rattle.cs_frame.specs.Superblocks.{record_in}
-use Rattle.cs_model.specs.Extents.{Extents}
+use Rattle.law_machine.specs.Extents.{Extents}
 
 -- the family of the root's versions
 abbrev pub root_family : ℕ

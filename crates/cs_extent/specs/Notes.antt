@@ -1,6 +1,6 @@
 -- What is noted of extents where chunks and runs lie apart, once a frame went to one of them.
 use Rattle.std.specs.Prelude.{◌||◌, ℕ, Bool, true, false, Option, Some, if◌then◌else◌, slice_index_or, slice_set}
-use Rattle.cs_model.specs.Extents.{ForMerge, ForMove, ForPut, ForRun, Purpose as Reason}
+use Rattle.law_machine.specs.Extents.{ForMerge, ForMove, ForPut, ForRun, Purpose as Reason}
 use Rattle.cs_extent.specs.State.{State}
 
 -- such a frame is a run

@@ -1,6 +1,6 @@
 -- What a frame is appended for, in the words of the store's machine.
 use Rattle.std.specs.Prelude.{}
-use Rattle.cs_model.specs.Extents.{Purpose as Reason, ForPut, ForRun, ForMove, ForMerge}
+use Rattle.law_machine.specs.Extents.{Purpose as Reason, ForPut, ForRun, ForMove, ForMerge}
 use Rattle.cs_extent.specs.declared.purposes.Purpose.{Purpose}
 use Rattle.cs_extent.specs.declared.purposes.Purpose.TheVariants.{Put, Run, Move, Merge}
 

@@ -1,7 +1,7 @@
 -- Where the extents are led by chunks of a put that are thought of and not appended yet.
 use Rattle.std.specs.Prelude.{◌&&◌, ℕ, Bool, not, nat_lt, List, [], ◌∷◌, Option, Some, if◌then◌else◌}
-use Rattle.cs_model.specs.Extents.{Extents}
-use Rattle.cs_model.specs.Lists.{with}
+use Rattle.law_machine.specs.Extents.{Extents}
+use Rattle.law_machine.specs.Lists.{with}
 
 -- the pointers once chunks went to these extents, one after another, behind each of which the pointer is then
 abbrev pub pointers_after : (ℕ → ℕ) → List (ℕ × ℕ) → ℕ → ℕ

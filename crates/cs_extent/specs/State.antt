@@ -1,8 +1,8 @@
 -- What the extents of a store are, in the words of the store's machine.
 use Rattle.std.specs.Prelude.{◌≡◌, ℕ, ◌+◌, ◌<◌, ◌≤◌, ◌^◌, Bool, true, false, List, Option, Some, length, map, replicate, take, drop, slice_index, slice_index_or}
-use Rattle.cs_model.specs.Device.{Shape}
-use Rattle.cs_model.specs.Geometry.{shape_of}
-use Rattle.cs_model.specs.Extents.{Extents}
+use Rattle.law_machine.specs.Device.{Shape}
+use Rattle.law_machine.specs.Geometry.{shape_of}
+use Rattle.law_machine.specs.Extents.{Extents}
 use Rattle.cs_frame.specs.Geometries.{Dimensions, IsGeometry, section_length, section_size, section_start}
 use Rattle.cs_frame.specs.Superblocks.{SpellsSuperblock}
 use Rattle.cs_extent.specs.Frames.{greatest}

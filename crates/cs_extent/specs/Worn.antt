@@ -2,8 +2,8 @@
 -- would pass its greatest.
 use Rattle.std.specs.Prelude.{◌≡◌, ◌⊎◌, ◌↔◌, ◌+◌, ◌^◌, ◌<◌, ◌≤◌, ◌==◌, ℕ, Bool, false, List, [], ◌∷◌, count_by, slice_index, sum}
 use Rattle.cs_deps.specs.Staging.{Staging}
-use Rattle.cs_model.specs.Device.{Shape}
-use Rattle.cs_model.specs.Extents.{Extents, Goes, Purpose as Reason, taken_by}
+use Rattle.law_machine.specs.Device.{Shape}
+use Rattle.law_machine.specs.Extents.{Extents, Goes, Purpose as Reason, taken_by}
 use Rattle.cs_extent.specs.Frames.{IsWorn, family_of}
 use Rattle.cs_extent.specs.State.{State, extents_of, shape}
 

@@ -3,9 +3,9 @@ ghost use Rattle.std.specs.Prelude.{◌≡◌, ℕ, ◌+◌, ◌-◌, ◌*◌, �
 ghost use Rattle.cs_deps.specs.declared.elements.Element.{Element as Item};
 ghost use Rattle.cs_deps.specs.Named.{Names};
 ghost use Rattle.cs_deps.specs.State.{write_of};
-ghost use Rattle.cs_model.specs.Device.{mark_of};
-ghost use Rattle.cs_model.specs.Geometry.{apart_in};
-ghost use Rattle.cs_model.specs.Extents.{Fits, IsFirstEmpty, Placed, empties, marked, taken};
+ghost use Rattle.law_machine.specs.Device.{mark_of};
+ghost use Rattle.law_machine.specs.Geometry.{apart_in};
+ghost use Rattle.law_machine.specs.Extents.{Fits, IsFirstEmpty, Placed, empties, marked, taken};
 ghost use Rattle.cs_frame.specs.Superblocks.{FitsRecord};
 ghost use Rattle.cs_extent.specs.Appended.{IsAppended};
 ghost use Rattle.cs_extent.specs.Changes.{emptied_in};
@@ -17,13 +17,14 @@ ghost use Rattle.cs_extent.specs.State.{IsWhole, SpellsExtents, extents_of, foun
 ghost use Rattle.cs_extent.specs.Worn.{AreCounted, AreWorn, IsEmptyFrom, IsFrameWorn};
 
 use crate::families::{ROOT, on_versions, section_family};
-use crate::frames::stage_frame;
-use crate::notes::{found_at, lies_apart};
+use crate::notes::found_at;
 use crate::purposes::Purpose;
+use crate::staged_frames::stage_frame;
 use crate::supplies::Supply;
 use crate::ways::{Way, are_versions_worn, are_writes_worn, count};
-use cs_deps::{Dependency, Graph, LAST_NUMBER, Refusal};
+use cs_deps::{Dependency, Graph, LAST_NUMBER};
 use cs_frame::{Geometry, Locator, Superblock, encode_section, frame_mark, record_in};
+use cs_refusal::Refusal;
 use std::alloc::{AllocError, Global};
 use std::marker::Model;
 
@@ -74,7 +75,7 @@ impl Extents {
         let resets = vec![in alloc; 0; written.len()]?;
         let swept = vec![in alloc; false; written.len()]?;
         let kinds = vec![in alloc; false; written.len()]?;
-        let found = found_at(alloc, &written, lies_apart(geometry.format()))?;
+        let found = found_at(alloc, &written, geometry.format().lies_apart())?;
         Ok(Extents {
             geometry,
             written,
@@ -104,7 +105,7 @@ impl Extents {
     pub fn pages_first(&self) -> bool
         ensures { result ≡ (shape self.now).pages_first }
     {
-        self.geometry.format() <= 2
+        self.geometry.format().pages_first()
     }
 
     /// How many extents there are.
@@ -632,7 +633,10 @@ fn geometry_of(sections: &[Superblock]) -> Geometry
     ensures sections { result.sections ≡ length sections.now }
 {
     let first = &sections[0];
-    let (format, extents) = (u64::from(first.format), u64::from(first.extent_count));
+    let (format, extents) = (
+        u64::from(first.format.number()),
+        u64::from(first.extent_count),
+    );
     let (pages, sections) = (u64::from(first.pages), u64::from(first.sections));
     match Geometry::of_format(format, extents, pages, Some(sections)) {
         Ok(geometry) => geometry,

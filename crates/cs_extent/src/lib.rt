@@ -4,20 +4,20 @@
 //! records how many pages of the frame's extent are given.
 #![tactic(auto)]
 
-mod apart;
+mod apart_places;
+mod extent_laws;
 mod extents;
 mod families;
-mod frames;
-mod laws;
 mod notes;
 mod purposes;
 mod putting;
+mod staged_frames;
 mod supplies;
 mod ways;
 
-pub use extents::{Extents, LAST_GENERATION};
-pub use families::{ROOT, root_needs, section_family};
-pub use laws::{
+pub use extent_laws::{
     joining_adds_nothing_to_one_section, needs_never_fall, one_place, pages_are_given_once,
 };
+pub use extents::{Extents, LAST_GENERATION};
+pub use families::{ROOT, root_needs, section_family};
 pub use purposes::Purpose;

@@ -1,14 +1,14 @@
 //! What is noted of the extents where chunks and runs lie apart.
 ghost use Rattle.std.specs.Prelude.{◌≡◌, ◌↔◌, ◌<◌, ◌≤◌, ◌^◌, ◌==◌, if◌then◌else◌, ℕ, true, Some, None, IfOk, IfErr, OnOk, OnErr, IsTrue, length};
-ghost use Rattle.cs_model.specs.Extents.{emptied, forgotten, other_than, reach};
-ghost use Rattle.cs_model.specs.Geometry.{apart_in, fills_in};
+ghost use Rattle.law_machine.specs.Extents.{emptied, forgotten, other_than, reach};
+ghost use Rattle.law_machine.specs.Geometry.{apart_in, fills_in};
 ghost use Rattle.cs_extent.specs.Notes.{fresh_noted, is_of_run, last_noted, noted_in, open_noted};
 ghost use Rattle.cs_extent.specs.Purposes.{reason_of};
 ghost use Rattle.cs_extent.specs.State.{IsWhole, extents_of, found_at, shape};
 
 use crate::extents::{Extents, LAST_GENERATION};
 use crate::purposes::Purpose;
-use cs_deps::Refusal;
+use cs_refusal::Refusal;
 use std::alloc::{AllocError, Global};
 
 impl Extents {
@@ -16,7 +16,7 @@ impl Extents {
     pub fn is_apart(&self) -> bool
         ensures { result ≡ (shape self.now).apart }
     {
-        lies_apart(self.geometry().format())
+        self.geometry().format().lies_apart()
     }
 
     /// Whether an extent holds runs.
@@ -40,7 +40,7 @@ impl Extents {
     pub fn fills(&self) -> bool
         ensures { result ≡ (shape self.now).fills }
     {
-        fills_up(self.geometry().format())
+        self.geometry().format().fills_up()
     }
 
     /// How far a frame may reach that begins at a page of an extent: to the end of the pages that were found where it begins among
@@ -213,20 +213,6 @@ fn unless_equal(extent: usize, other: usize) -> Option<usize>
     ensures { result ≡ (if other == extent then None else Some other) }
 {
     if other == extent { None } else { Some(other) }
-}
-
-/// Whether chunks and runs lie apart in stores of this format.
-pub fn lies_apart(format: u8) -> bool
-    ensures { result ≡ apart_in format }
-{
-    2 < format
-}
-
-/// Whether extents are filled up in stores of this format.
-pub fn fills_up(format: u8) -> bool
-    ensures { result ≡ fills_in format }
-{
-    2 < format
 }
 
 /// How many pages of each extent count as found as a store is opened: all that are given where chunks and runs lie apart, else none.

@@ -1,6 +1,6 @@
 //! What frames are appended for.
 ghost use Rattle.std.specs.Prelude.{◌≡◌};
-ghost use Rattle.cs_model.specs.Extents.{spare};
+ghost use Rattle.law_machine.specs.Extents.{spare};
 ghost use Rattle.cs_extent.specs.Purposes.{reason_of};
 
 /// What a frame is appended for.

@@ -1,6 +1,6 @@
 //! The extents once chunks of a put went to them, before any of these is appended.
 ghost use Rattle.std.specs.Prelude.{◌≡◌, ◌↔◌, ◌+◌, ◌<◌, ◌≤◌, ◌==◌, if◌then◌else◌, ℕ, true, IsTrue, MatchOption, All, length};
-ghost use Rattle.cs_model.specs.Extents.{FitsBy, ForPut, GoesApart};
+ghost use Rattle.law_machine.specs.Extents.{FitsBy, ForPut, GoesApart};
 ghost use Rattle.cs_extent.specs.Puts.{after_puts, open_after_puts};
 ghost use Rattle.cs_extent.specs.State.{extents_of, shape};
 ghost use Rattle.cs_extent.specs.Worn.{AreCountedBy, AreWornBy};

@@ -1,10 +1,10 @@
 -- Each run and each chunk fits on an extent.
 use Rattle.std.proofs.Common.{◌≡◌, le_of_eq, le_trans, ℕ, ◌+◌, ◌-◌, ◌*◌, ◌≤◌, Bool, true, false, List, ◌++◌, length, length-append, map, if◌then◌else◌, ap, ◌∙◌, arith}
-use Rattle.cs_model.specs.Device.{Shape}
-use Rattle.cs_model.specs.Element.{Entry as NamedEntry}
-use Rattle.cs_model.specs.Formats.{ChunkFrame, RunFrame}
-use Rattle.cs_model.specs.Geometry.{head_bytes_in, heads_in, shape_of}
-use Rattle.cs_model.specs.Index.{IsRunList, run_weight}
+use Rattle.law_machine.specs.Device.{Shape}
+use Rattle.law_machine.specs.Element.{Entry as NamedEntry}
+use Rattle.law_machine.specs.Formats.{ChunkFrame, RunFrame}
+use Rattle.law_machine.specs.Geometry.{head_bytes_in, heads_in, shape_of}
+use Rattle.law_machine.specs.Index.{IsRunList, run_weight}
 use Rattle.cs_frame.specs.Formats.{as_entry, formats_of}
 use Rattle.cs_frame.specs.Frames.{frame_bytes, page_count, spelled_frame}
 use Rattle.cs_frame.specs.Heads.{head_in}

@@ -11,13 +11,13 @@ use Rattle.std.proofs.lemmas.List.Folds.{list_all-append}
 use Rattle.std.proofs.lemmas.List.{take_at, drop_at, length-map, length-replicate, length-reverse, reverse-reverse}
 use Rattle.byteorder.specs.Endian.{big_bytes, big_from, big_number}
 use Rattle.byteorder.specs.Numbers.{big_from-bytes, big_from-cons, big_from-lt, length-bytes_high_first}
-use Rattle.cs_model.specs.Device.{Page, Shape}
-use Rattle.cs_model.specs.Element.{Entry as NamedEntry, Locator as Place}
-use Rattle.cs_model.specs.Formats.{Formats, Stand, pages_from}
-use Rattle.cs_model.specs.Frames.{IsFormat, most_staged}
-use Rattle.cs_model.specs.Geometry.{greatest_mark_in, marks_in, shape_of}
-use Rattle.cs_model.specs.Index.{Ascending, InRange, IsRunList}
-use Rattle.cs_model.specs.Lists.{◌∈◌}
+use Rattle.law_machine.specs.Device.{Page, Shape}
+use Rattle.law_machine.specs.Element.{Entry as NamedEntry, Locator as Place}
+use Rattle.law_machine.specs.Formats.{Formats, Stand, pages_from}
+use Rattle.law_machine.specs.Frames.{IsFormat, most_staged}
+use Rattle.law_machine.specs.Geometry.{greatest_mark_in, marks_in, shape_of}
+use Rattle.law_machine.specs.Index.{Ascending, InRange, IsRunList}
+use Rattle.law_machine.specs.Lists.{◌∈◌}
 use Rattle.cs_frame.specs.declared.locators.Locator.{Locator}
 use Rattle.cs_frame.specs.Bytes.{IsBytes, zeros}
 use Rattle.cs_frame.specs.Formats.{as_entry, as_locator, extents_of, fits_entry, fits_locator, fits_root, fits_run, formats_of, id_bytes, kind_number, refusal_of, rises}

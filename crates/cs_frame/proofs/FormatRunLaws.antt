@@ -7,7 +7,7 @@ use Rattle.cs_frame.specs.PackedRuns.{SpellsPacked, packed_entries_in, packed_fa
 use Rattle.cs_frame.specs.Runs.{Entry, FitsRun, SpellsPlain, entries_in, plain_fault, plain_run}
 use Rattle.cs_frame.proofs.PackedLaws.{fault-spelled as packed_has_none, run_is_read as packed_is_read, spells as packed_spells}
 use Rattle.cs_frame.proofs.RunLaws.{run_fault-spelled, run_is_read, spells}
-use Rattle.cs_model.specs.Geometry.{marks_in}
+use Rattle.law_machine.specs.Geometry.{marks_in}
 
 -- by whether the format has marks
 abbrev Spells : (marked : Bool) → List ℕ → List Entry → Type 0

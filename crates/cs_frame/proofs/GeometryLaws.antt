@@ -3,9 +3,9 @@ use Rattle.std.proofs.Common.{◌≡◌, ⊎_elim, ℕ, zero, suc, ◌+◌, ◌-
 use Rattle.std.specs.Prelude.{◌↔◌}
 use Rattle.std.proofs.Math.Nat.{mod-lt, mul_comm}
 use Rattle.std.proofs.lemmas.Nat.{div-add-mod', div-mul-add, div_below}
-use Rattle.cs_model.proofs.LocalRecovery.{lies_below}
-use Rattle.cs_model.specs.Geometry.{HasExtentsApart, IsGeometry as IsModelGeometry, most_run_extents, shape_of}
-use Rattle.cs_model.specs.Local.{LiesBelow}
+use Rattle.law_machine.proofs.LocalRecovery.{lies_below}
+use Rattle.law_machine.specs.Geometry.{HasExtentsApart, IsGeometry as IsModelGeometry, most_run_extents, shape_of}
+use Rattle.law_machine.specs.Local.{LiesBelow}
 use Rattle.std.proofs.lemmas.Bool.Decides.{nat_tests}
 use Rattle.std.proofs.lemmas.Bool.{and_parts, and_from, leb-true, ltb-true, le-leb, lt-ltb}
 use Rattle.cs_frame.specs.Geometries.{IsGeometry, IsKnown, device_pages, greatest_extents, greatest_pages, greatest_section_extents, greatest_sections, in_bounds, is_divided, least_extents, least_pages, lengths_below, section_length, section_size, section_start}

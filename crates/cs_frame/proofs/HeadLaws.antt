@@ -1,6 +1,6 @@
 -- Heads of chunks.
 use Rattle.std.proofs.Common.{◌≡◌, ℕ, Bool, true, false, List, [], ◌++◌, length, take, drop, if◌then◌else◌, refl}
-use Rattle.cs_model.specs.Geometry.{head_bytes_in, heads_in}
+use Rattle.law_machine.specs.Geometry.{head_bytes_in, heads_in}
 use Rattle.cs_frame.specs.Heads.{body_in, head_in, spelled_head}
 
 -- a head has one size

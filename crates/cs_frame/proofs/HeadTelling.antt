@@ -5,8 +5,8 @@ use Rattle.std.proofs.lemmas.List.{length-take-le, take_more}
 use borrow.Rule.Slice.PartMut.{put_mid}
 use Rattle.std.proofs.lemmas.Bool.Decides.{nat_tests}
 use Rattle.byteorder.specs.Endian.{big_bytes}
-use Rattle.cs_model.specs.Device.{Shape}
-use Rattle.cs_model.specs.Geometry.{heads_in}
+use Rattle.law_machine.specs.Device.{Shape}
+use Rattle.law_machine.specs.Geometry.{heads_in}
 use Rattle.cs_frame.specs.declared.identifiers.ShardId.{ShardId}
 use Rattle.cs_frame.specs.Bytes.{IsBytes, number}
 use Rattle.cs_frame.specs.Formats.{formats_of}

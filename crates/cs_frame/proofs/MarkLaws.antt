@@ -16,10 +16,10 @@ use Rattle.cs_frame.specs.Formats.{formats_of, kind_number, refusal_of}
 use Rattle.cs_frame.specs.Frames.{SpellsFrame, first_page, frame_bytes, frame_fault, meant_fault, page_count, payload_mark, spelled_frame}
 use Rattle.cs_frame.proofs.Fields.{IsBytes-field, field_8, field_at, field_of_take}
 use Rattle.cs_frame.proofs.FrameLaws.{at_digest_of, first_front}
-use Rattle.cs_model.specs.Device.{Shape, mark_of}
-use Rattle.cs_model.specs.Formats.{FrameKind, fault_for, refused_or}
-use Rattle.cs_model.specs.Geometry.{digest_number, mark_in, marks_in}
-use Rattle.cs_model.specs.Refusal.{Misplaced, Refusal}
+use Rattle.law_machine.specs.Device.{Shape, mark_of}
+use Rattle.law_machine.specs.Formats.{FrameKind, fault_for, refused_or}
+use Rattle.law_machine.specs.Geometry.{digest_number, mark_in, marks_in}
+use Rattle.law_machine.specs.Refusal.{Misplaced, Refusal}
 
 -- byte k of the eight behind the ninth
 digit : (page : List ℕ) (k : ℕ) → k < 8 → slice_index page (9 + k) ≡ slice_index (field 9 17 page) k

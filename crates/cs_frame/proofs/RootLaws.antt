@@ -11,7 +11,7 @@ use Rattle.cs_frame.specs.declared.locators.Locator.{Locator}
 use Rattle.cs_frame.specs.Bytes.{IsBytes, IsPage, all_zero, field, number, zeros}
 use Rattle.cs_frame.specs.Geometries.{IsKnown}
 use Rattle.cs_frame.specs.Locators.{FitsLocator, locator_size, locators_in, spelled_locators}
-use Rattle.cs_model.specs.Geometry.{marks_in}
+use Rattle.law_machine.specs.Geometry.{marks_in}
 use Rattle.cs_frame.specs.Pages.{padded, sealed, digest_test, digit_test, padding_test}
 use Rattle.cs_frame.specs.Roots.{FitsRoot, SpellsRoot, greatest_runs, root_digit, root_end, root_fault, root_fields, root_length_test, root_range_test, root_tests, runs_in, spelled_root}
 use Rattle.cs_frame.proofs.Fields.{after_field, byte_at_front, field_1, field_8, field_at, number_at, take_more, length-field, IsBytes-field}

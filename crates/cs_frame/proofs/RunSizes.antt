@@ -12,7 +12,7 @@ use Rattle.cs_frame.specs.Places.{Listed}
 use Rattle.cs_frame.specs.Runs.{Entry, FitsEntry, entries_of, greatest_chunks, plain_run, spelled_entry}
 use Rattle.cs_frame.specs.declared.identifiers.ShardId.{ShardId}
 use Rattle.cs_frame.proofs.LocatorLaws.{length-spelled_locators}
-use Rattle.cs_model.specs.Geometry.{marks_in}
+use Rattle.law_machine.specs.Geometry.{marks_in}
 
 -- an identifier of 16 bytes, and not too many locators
 pub record HasSizes (e : Entry) : Type 0 where

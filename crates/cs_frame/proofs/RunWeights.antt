@@ -9,10 +9,10 @@ use Rattle.cs_frame.specs.Geometries.{run_bytes, weight_bytes}
 use Rattle.cs_frame.specs.PackedRuns.{packed_sizes}
 use Rattle.cs_frame.specs.Runs.{Entry}
 use Rattle.cs_frame.proofs.RunSizes.{HasSizes, length-spelled_run}
-use Rattle.cs_model.specs.Element.{Entry as NamedEntry}
-use Rattle.cs_model.specs.Geometry.{marks_in, most_weight_in, shape_of, weigh_in}
-use Rattle.cs_model.specs.Index.{run_weight}
-use Rattle.cs_model.specs.Lists.{◌∈◌}
+use Rattle.law_machine.specs.Element.{Entry as NamedEntry}
+use Rattle.law_machine.specs.Geometry.{marks_in, most_weight_in, shape_of, weigh_in}
+use Rattle.law_machine.specs.Index.{run_weight}
+use Rattle.law_machine.specs.Lists.{◌∈◌}
 
 -- an entry weighs something, so there are no more than they weigh
 pub weighs_some : (marked : Bool) (c : ℕ) → 1 ≤ (if marked then 17 + 16 * c else 1)

@@ -2,7 +2,7 @@
 use Rattle.std.proofs.Common.{◌≡◌, ℕ, ◌+◌, ◌-◌, ◌*◌, ◌≤◌, ◌<◌, ◌^◌, true, false, Bool, List, [], ◌∷◌, ◌++◌, length, take, drop, slice_index, codes, None, Some, refl, sym, ap, subst, ◌∙◌, arith, append_assoc, length-append, ◌&&◌, nat_lt, ◌≢◌, bytes_eq, if◌then◌else◌, le_refl}
 use Rattle.std.proofs.lemmas.Bool.{and_parts, and_from, ltb-true, lt-ltb}
 use Rattle.byteorder.specs.Endian.{big_bytes}
-use Rattle.cs_model.specs.Geometry.{records_in}
+use Rattle.law_machine.specs.Geometry.{records_in}
 use Rattle.sha2.specs.Sha256.{sha256}
 use Rattle.cs_frame.specs.declared.faults.FormatFault.TheVariants.{BadVersion}
 use Rattle.cs_frame.specs.Bytes.{IsPage, field, number, zeros}

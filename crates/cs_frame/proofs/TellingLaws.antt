@@ -5,8 +5,8 @@ use Rattle.std.proofs.lemmas.Bool.{cases_eq, true≢false}
 use Rattle.std.proofs.lemmas.List.{drop_at, take_at}
 use Rattle.byteorder.specs.Endian.{big_bytes}
 use Rattle.sha2.specs.Sha256.{sha256}
-use Rattle.cs_model.specs.Device.{Shape}
-use Rattle.cs_model.specs.Safe.{FitsExtent as IsInBounds}
+use Rattle.law_machine.specs.Device.{Shape}
+use Rattle.law_machine.specs.Safe.{FitsExtent as IsInBounds}
 use Rattle.cs_frame.specs.Bytes.{zeros}
 use Rattle.cs_frame.specs.FirstFormat.{first_format_fields, spelled_first_format}
 use Rattle.cs_frame.specs.Formats.{extents_of, formats_of}

@@ -4,7 +4,7 @@ use Rattle.cs_frame.specs.declared.faults.FormatFault.{FormatFault}
 use Rattle.cs_frame.specs.Geometries.{run_bytes}
 use Rattle.cs_frame.specs.PackedRuns.{packed_fault, packed_run, packed_sizes}
 use Rattle.cs_frame.specs.Runs.{Entry, FitsRun, plain_fault, plain_run}
-use Rattle.cs_model.specs.Geometry.{marks_in}
+use Rattle.law_machine.specs.Geometry.{marks_in}
 
 abbrev pub spelled_run : (format : ℕ) → List Entry → List ℕ
 spelled_run format entries = if marks_in format then packed_run entries else plain_run entries

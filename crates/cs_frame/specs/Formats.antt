@@ -1,10 +1,10 @@
 -- The machine's pages in these formats.
 use Rattle.std.specs.Prelude.{ℕ, ◌^◌, ◌==◌, ◌&&◌, zero, suc, Bool, true, List, [], ◌∷◌, length, map, nat_le, nat_lt, option_map, reverse, if◌then◌else◌}
 use Rattle.std.specs.List.{list_all}
-use Rattle.cs_model.specs.Device.{Shape}
-use Rattle.cs_model.specs.Element.{Entry as NamedEntry, Locator as Place}
-use Rattle.cs_model.specs.Formats.{Formats, FrameKind, ChunkFrame, RunFrame}
-use Rattle.cs_model.specs.Refusal.{Refusal, BadMagic, BadDigest, BadLength, BadPadding, BadVersion, Misplaced}
+use Rattle.law_machine.specs.Device.{Shape}
+use Rattle.law_machine.specs.Element.{Entry as NamedEntry, Locator as Place}
+use Rattle.law_machine.specs.Formats.{Formats, FrameKind, ChunkFrame, RunFrame}
+use Rattle.law_machine.specs.Refusal.{Refusal, BadMagic, BadDigest, BadLength, BadPadding, BadVersion, Misplaced}
 use Rattle.cs_frame.specs.declared.faults.FormatFault.{FormatFault}
 use Rattle.cs_frame.specs.declared.faults.FormatFault.TheVariants as fault
 use Rattle.cs_frame.specs.declared.locators.Locator.{Locator}
@@ -16,7 +16,7 @@ use Rattle.cs_frame.specs.Roots.{greatest_runs, spelled_root}
 use Rattle.cs_frame.specs.FormatRuns.{spelled_run}
 use Rattle.cs_frame.specs.Locators.{most_mark}
 use Rattle.cs_frame.specs.Runs.{Entry}
-use Rattle.cs_model.specs.Geometry.{marks_in}
+use Rattle.law_machine.specs.Geometry.{marks_in}
 use Rattle.cs_frame.specs.Superblocks.{spelled_superblock}
 
 -- the byte of a kind of frame

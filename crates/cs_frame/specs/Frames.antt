@@ -10,7 +10,7 @@ use Rattle.cs_frame.specs.declared.frames.FrameKind.TheVariants.{Chunk, Run}
 use Rattle.cs_frame.specs.Bytes.{all_zero, field, number, zeros}
 use Rattle.cs_frame.specs.Faults.{first_fault, unless}
 use Rattle.cs_frame.specs.Pages.{magic_test, version_test}
-use Rattle.cs_model.specs.Geometry.{mark_in}
+use Rattle.law_machine.specs.Geometry.{mark_in}
 
 -- the byte of a kind
 abbrev pub kind_byte : FrameKind → ℕ

@@ -1,5 +1,5 @@
 -- The dimensions of a store, the bounds of them, and which extents a section of its superblock has. A bound is that of a format.
-use Rattle.cs_model.specs.Geometry.{marks_in}
+use Rattle.law_machine.specs.Geometry.{marks_in}
 use Rattle.std.specs.Prelude.{◌≡◌, ◌⊎◌, ℕ, zero, suc, ◌+◌, ◌-◌, ◌*◌, ◌/◌, ◌<◌, ◌≤◌, ◌&&◌, ◌==◌, min, Bool, if◌then◌else◌, nat_le, nat_lt}
 
 -- the formats in which a store is written

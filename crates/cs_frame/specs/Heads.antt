@@ -2,7 +2,7 @@
 use Rattle.std.specs.Prelude.{ℕ, List, [], ◌∷◌, ◌++◌, drop, if◌then◌else◌}
 use Rattle.byteorder.specs.Endian.{big_bytes}
 use Rattle.cs_frame.specs.Identifiers.{id_bytes}
-use Rattle.cs_model.specs.Geometry.{head_bytes_in, heads_in}
+use Rattle.law_machine.specs.Geometry.{head_bytes_in, heads_in}
 
 -- |  0 | 16 | the identifier of the shard                  |
 -- | 16 | 1  | the chunk's number in the shard, from 0 on   |

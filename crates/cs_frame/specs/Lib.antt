@@ -16,3 +16,5 @@ pub mod Geometries
 pub mod Identifiers
 pub mod Heads
 pub mod Formats
+pub mod Refusals
+pub mod FormatNumbers

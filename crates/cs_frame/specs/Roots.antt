@@ -10,7 +10,7 @@ use Rattle.cs_frame.specs.Bytes.{field, number}
 use Rattle.cs_frame.specs.Faults.{first_fault, unless}
 use Rattle.cs_frame.specs.Geometries.{IsKnown}
 use Rattle.cs_frame.specs.Locators.{FitsLocator, KeepFormat, locator_size, locators_in, spelled_locators}
-use Rattle.cs_model.specs.Geometry.{marks_in}
+use Rattle.law_machine.specs.Geometry.{marks_in}
 use Rattle.cs_frame.specs.Pages.{digest_test, digit_test, magic_test, padded, padding_test, sealed}
 
 -- the greatest number of runs of a root

@@ -3,12 +3,12 @@
 ghost use Rattle.std.specs.Prelude.{◌≡◌, ◌+◌, ◌++◌, ◌^◌, ◌<◌, ◌≤◌, ℕ, List, None, Ok, Err, IfOk, length, vec_len};
 ghost use Rattle.cs_frame.specs.Bytes.{EachHas, IsBytes};
 ghost use Rattle.cs_frame.specs.Faults.{HasFault, OkUnlessMemory, fault_in};
-ghost use Rattle.cs_model.specs.Geometry.{digest_number, mark_in};
+ghost use Rattle.law_machine.specs.Geometry.{digest_number, mark_in};
 ghost use Rattle.sha2.specs.Sha256.{sha256};
 ghost use Rattle.cs_frame.specs.Frames.{SpellsFrame, bytes_in, first_page, frame_count, frame_fault, header_fault, kind_byte, mark_test, meant_header_fault, page_count, payload_in, payload_length, spelled_frame};
 
 use crate::faults::FormatFault;
-use crate::locators::has_marks;
+use crate::formats::Format;
 use crate::pages::{check_magic, check_version, is_zero};
 use byteorder::{BigEndian, ByteOrder};
 use sha2::{Digest, Sha256};
@@ -139,10 +139,10 @@ fn digest_front(first: &[u8; 4096]) -> u64
 }
 
 /// The mark of the frame whose first page this is, 0 in a format that has no marks.
-pub fn frame_mark(format: u8, first: &[u8; 4096]) -> u64
+pub fn frame_mark(format: Format, first: &[u8; 4096]) -> u64
     ensures { result ≡ mark_in format first.now }
 {
-    if has_marks(format) {
+    if format.has_marks() {
         digest_front(first)
     } else {
         0
@@ -150,7 +150,7 @@ pub fn frame_mark(format: u8, first: &[u8; 4096]) -> u64
 }
 
 /// That the frame whose first page this is has a mark: else it is another one, 26 Misplaced.
-pub(crate) fn check_mark(format: u8, mark: u64, first: &[u8; 4096]) -> Result<(), FormatFault>
+pub(crate) fn check_mark(format: Format, mark: u64, first: &[u8; 4096]) -> Result<(), FormatFault>
     ensures { fault_in result ≡ mark_test format mark first.now }
 {
     if frame_mark(format, first) == mark {
@@ -162,7 +162,7 @@ pub(crate) fn check_mark(format: u8, mark: u64, first: &[u8; 4096]) -> Result<()
 
 /// As `decode_frame_header`, and then that it is the header of the frame of this mark: else 26 Misplaced.
 pub fn decode_meant_header(
-    format: u8,
+    format: Format,
     kind: FrameKind,
     mark: u64,
     first: &[u8; 4096],

@@ -1,30 +1,16 @@
 //! How many extents a store has, of how many pages, which of them each section of its superblock has, and where all of it lies.
 
 ghost use Rattle.std.specs.Prelude.{◌≡◌, ◌↔◌, ◌+◌, ◌-◌, ◌*◌, ◌/◌, ◌^◌, ◌<◌, ◌≤◌, ◌==◌, if◌then◌else◌, IfOk, IfErr, IsOk, IsTrue, unwrap_or};
-ghost use Rattle.cs_model.specs.Geometry.{chunk_bytes_in, most_weight_in};
-ghost use Rattle.cs_frame.specs.Geometries.{Dimensions, IsGeometry, IsKnown, device_pages, greatest_extents, greatest_pages, greatest_sections, in_bounds, is_divided, kept_pages, least_extents, section_length, section_size, section_start, sections_needed};
+ghost use Rattle.law_machine.specs.Geometry.{chunk_bytes_in, most_weight_in};
+ghost use Rattle.cs_frame.specs.Geometries.{Dimensions, IsGeometry, IsKnown, device_pages, in_bounds, is_divided, section_length, section_size, section_start, sections_needed};
 
 use crate::faults::FormatFault;
+use crate::formats::Format;
 use crate::heads::head_bytes;
-use crate::locators::has_marks;
 use std::marker::Model;
 
 /// The format in which stores are made where none is asked for.
 pub const FORMAT: u8 = 2;
-
-/// The least number of extents of a store.
-pub fn least_extents(format: u8) -> u16
-    ensures { result ≡ least_extents format }
-{
-    if format == 3 { 5 } else { 4 }
-}
-
-/// The greatest number of extents of a store.
-pub fn greatest_extents(format: u8) -> u16
-    ensures { result ≡ greatest_extents format }
-{
-    if format == 3 { 7680 } else { 2048 }
-}
 
 /// The greatest number of extents of a section, so that what it spells and its digest have room on a page.
 pub const GREATEST_SECTION_EXTENTS: u16 = 512;
@@ -32,56 +18,24 @@ pub const GREATEST_SECTION_EXTENTS: u16 = 512;
 /// The greatest number of extents of a superblock of the first format, which is one page.
 pub const GREATEST_SUPERBLOCK_EXTENTS: u16 = 512;
 
-/// The greatest number of sections of a superblock.
-pub fn greatest_sections(format: u8) -> u8
-    ensures { result ≡ greatest_sections format }
-{
-    if format == 3 { 15 } else { 8 }
-}
-
 /// The least number of pages of an extent.
 pub const LEAST_PAGES: u16 = 2;
 
-/// The greatest number of pages of an extent.
-pub fn greatest_pages(format: u8) -> u16
-    ensures { result ≡ greatest_pages format }
-{
-    if format == 3 { 65535 } else { 256 }
-}
-
-/// The last pages of the device, kept for a second copy of the root and of each section.
-fn kept_pages(format: u8, sections: u8) -> u64
-    ensures { result ≡ kept_pages format sections }
-{
-    if format == 3 {
-        1 + u64::from(sections)
-    } else {
-        0
-    }
-}
-
 /// The pages of the device of a store of this format, and of so many extents, pages and sections.
-pub fn device_pages(format: u8, extents: u16, pages: u16, sections: u8) -> u64
+pub fn device_pages(format: Format, extents: u16, pages: u16, sections: u8) -> u64
     ensures { result ≡ device_pages format extents pages sections }
 {
-    1 + u64::from(extents) * u64::from(pages) + u64::from(sections) + kept_pages(format, sections)
-}
-
-/// A store may have this format.
-fn is_known(format: u64) -> bool
-    ensures { IsTrue result ↔ IsKnown format }
-{
-    format == 2 || format == 3
+    1 + u64::from(extents) * u64::from(pages) + u64::from(sections) + format.kept_pages(sections)
 }
 
 /// So many extents of so many pages are in the bounds of a format, where `greatest` is the greatest number of extents.
-pub(crate) fn are_in_bounds(format: u8, greatest: u16, extents: u64, pages: u64) -> bool
+pub(crate) fn are_in_bounds(format: Format, greatest: u16, extents: u64, pages: u64) -> bool
     ensures { result ≡ in_bounds format greatest extents pages }
 {
-    u64::from(least_extents(format)) <= extents
+    u64::from(format.least_extents()) <= extents
         && extents <= u64::from(greatest)
         && u64::from(LEAST_PAGES) <= pages
-        && pages <= u64::from(greatest_pages(format))
+        && pages <= u64::from(format.greatest_pages())
 }
 
 /// The extents of each section but the last, which may have fewer.
@@ -94,10 +48,10 @@ fn extents_each(extents: u16, sections: u8) -> usize
 }
 
 /// So many sections of a format can have so many extents.
-pub(crate) fn can_be_divided(format: u8, extents: u16, sections: u8) -> bool
+pub(crate) fn can_be_divided(format: Format, extents: u16, sections: u8) -> bool
     ensures { result ≡ is_divided format extents sections }
 {
-    if sections < 1 || sections > greatest_sections(format) {
+    if sections < 1 || sections > format.greatest_sections() {
         return false;
     }
     let size = extents_each(extents, sections);
@@ -123,17 +77,14 @@ fn sections_needed(extents: u64) -> u64
 }
 
 /// There is a store of this format of so many extents, pages and sections.
-fn is_geometry(format: u64, extents: u64, pages: u64, sections: u64) -> bool
+fn is_geometry(format: Format, extents: u64, pages: u64, sections: u64) -> bool
+    requires { IsKnown format }
     ensures { IsTrue result ↔ IsGeometry format extents pages sections }
 {
-    if !is_known(format) {
+    if !are_in_bounds(format, format.greatest_extents(), extents, pages) {
         return false;
     }
-    let format = format as u8;
-    if !are_in_bounds(format, greatest_extents(format), extents, pages) {
-        return false;
-    }
-    if sections > u64::from(greatest_sections(format)) {
+    if sections > u64::from(format.greatest_sections()) {
         return false;
     }
     can_be_divided(format, extents as u16, sections as u8)
@@ -143,7 +94,7 @@ fn is_geometry(format: u64, extents: u64, pages: u64, sections: u64) -> bool
 /// extents follow, one extent after another, behind them the superblock's other sections, and in format 3 pages that are kept.
 #[derive(Clone, Copy, Debug, PartialEq, Eq)]
 pub struct Geometry {
-    format: u8,
+    format: Format,
     extents: u16,
     pages: u16,
     sections: u8,
@@ -176,9 +127,12 @@ impl Geometry {
         ensures fault { IfErr result (λ fault. fault ≡ FormatFault.BadGeometry) }
     {
         let sections = sections.unwrap_or(sections_needed(extents));
+        let Some(format) = Format::numbered(format) else {
+            return Err(FormatFault::BadGeometry);
+        };
         if is_geometry(format, extents, pages, sections) {
             Ok(Geometry {
-                format: format as u8,
+                format,
                 extents: extents as u16,
                 pages: pages as u16,
                 sections: sections as u8,
@@ -214,7 +168,7 @@ impl Geometry {
     }
 
     /// The format of the store.
-    pub fn format(self) -> u8
+    pub fn format(self) -> Format
         ensures format { result ≡ self.format }
         ensures geometry { IsGeometry self.format self.extents self.pages self.sections }
     {
@@ -316,7 +270,7 @@ impl Geometry {
         ensures { result ≡ most_weight_in self.format self.pages }
     {
         let bytes = 4096 * usize::from(self.pages) - 45;
-        if has_marks(self.format) {
+        if self.format.has_marks() {
             bytes
         } else {
             bytes / 81

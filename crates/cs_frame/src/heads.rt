@@ -4,26 +4,20 @@ ghost use Rattle.std.specs.Prelude.{◌≡◌, ◌++◌, ◌+◌, ◌^◌, ◌<�
 ghost use Rattle.cs_frame.specs.Frames.{page_count, spelled_frame};
 ghost use Rattle.cs_frame.specs.Heads.{body_in, head_in, spelled_head};
 ghost use Rattle.cs_frame.specs.Identifiers.{id_number};
-ghost use Rattle.cs_model.specs.Geometry.{head_bytes_in, heads_in};
+ghost use Rattle.law_machine.specs.Geometry.{head_bytes_in, heads_in};
 
+use crate::formats::Format;
 use crate::frames::{FrameKind, encode_parts};
 use crate::identifiers::ShardId;
 use byteorder::{BigEndian, ByteOrder};
 use std::alloc::{AllocError, Global};
 
-/// Whether the payload of a chunk begins with a head.
-pub fn has_heads(format: u8) -> bool
-    ensures { result ≡ heads_in format }
-{
-    format > 2
-}
-
 /// How many bytes a head has: 26, and none in a format that has no heads.
-pub fn head_bytes(format: u8) -> usize
+pub fn head_bytes(format: Format) -> usize
     ensures bytes { result ≡ head_bytes_in format }
     ensures small { result ≤ 26 }
 {
-    if has_heads(format) { 26 } else { 0 }
+    if format.has_heads() { 26 } else { 0 }
 }
 
 /// What the head of a chunk says.
@@ -70,7 +64,7 @@ pub fn decode_head(payload: &[u8]) -> Option<ChunkHead>
 }
 
 /// The piece of a shard's bytes in the payload of a chunk: what is behind its head, where the format has heads.
-pub fn chunk_body(format: u8, payload: &[u8]) -> &[u8]
+pub fn chunk_body(format: Format, payload: &[u8]) -> &[u8]
     ensures { result.now ≡ body_in format payload.now }
 {
     let start = head_bytes(format).min(payload.len());
@@ -80,7 +74,7 @@ pub fn chunk_body(format: u8, payload: &[u8]) -> &[u8]
 /// The pages of a chunk's frame, whose payload is a piece of the shard's bytes behind the head, where the format has heads.
 pub fn encode_chunk(
     alloc: Global,
-    format: u8,
+    format: Format,
     head: ChunkHead,
     piece: &[u8],
 ) -> Result<Vec<[u8; 4096]>, AllocError>

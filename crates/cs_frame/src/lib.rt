@@ -4,13 +4,15 @@
 //! pages and no others. It makes its tests in a stated order and answers the fault of the first that fails.
 #![tactic(auto)]
 
+mod fault_refusals;
 mod faults;
+mod format_laws;
 mod format_runs;
+mod formats;
 mod frames;
 mod geometries;
 mod heads;
 mod identifiers;
-mod laws;
 mod locators;
 mod packed_runs;
 mod page_zero;
@@ -19,36 +21,34 @@ mod places;
 mod pointers;
 mod read_frames;
 mod roots;
-mod runs;
+mod run_frames;
 mod superblocks;
 
+pub use fault_refusals::refusal_of_fault;
 pub use faults::FormatFault;
-pub use format_runs::{decode_run, encode_run, entry_weight, run_size, weight_bytes};
-pub use frames::{
-    FrameHeader, FrameKind, decode_frame, decode_frame_header, decode_meant_header, encode_frame,
-    frame_mark, frame_pages,
-};
-pub use geometries::{
-    FORMAT, GREATEST_SECTION_EXTENTS, GREATEST_SUPERBLOCK_EXTENTS, Geometry, LEAST_PAGES,
-    device_pages, greatest_extents, greatest_pages, greatest_sections, least_extents,
-};
-pub use heads::{
-    ChunkHead, chunk_body, decode_head, encode_chunk, encode_head, has_heads, head_bytes,
-};
-pub use identifiers::ShardId;
-pub use laws::{
+pub use format_laws::{
     first_format_has_one_spelling, formats_are_apart, frame_has_one_spelling,
     frame_is_read_by_its_header, frames_fit_on_an_extent, heads_tell_chunks, marks_tell_digests,
     page_zero_has_one_spelling, records_fit, root_has_one_spelling, run_has_one_spelling,
     runs_have_sizes, runs_take_what_they_weigh, sections_have_all_extents, sections_tell_pointers,
     superblock_has_one_spelling, these_formats_are_formats,
 };
-pub use locators::{Locator, has_marks};
+pub use format_runs::{decode_run, encode_run, entry_weight, run_size, weight_bytes};
+pub use formats::Format;
+pub use frames::{
+    FrameHeader, FrameKind, decode_frame, decode_frame_header, decode_meant_header, encode_frame,
+    frame_mark, frame_pages,
+};
+pub use geometries::{
+    FORMAT, GREATEST_SECTION_EXTENTS, GREATEST_SUPERBLOCK_EXTENTS, Geometry, LEAST_PAGES,
+    device_pages,
+};
+pub use heads::{ChunkHead, chunk_body, decode_head, encode_chunk, encode_head, head_bytes};
+pub use identifiers::ShardId;
+pub use locators::Locator;
 pub use page_zero::decode_superblock;
 pub use places::Places;
 pub use read_frames::{ReadFrame, read_frame_in};
-pub use roots::{Root, decode_root, encode_root, greatest_runs};
-pub use runs::{GREATEST_CHUNKS, Run, run_bytes};
-pub use superblocks::{
-    Superblock, decode_section, encode_section, encode_superblock, has_records, record_in,
-};
+pub use roots::{Root, decode_root, encode_root};
+pub use run_frames::{GREATEST_CHUNKS, Run, run_bytes};
+pub use superblocks::{Superblock, decode_section, encode_section, encode_superblock, record_in};

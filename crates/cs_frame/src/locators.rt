@@ -2,10 +2,11 @@
 
 ghost use Rattle.std.specs.Prelude.{◌≡◌, ◌+◌, ◌*◌, ◌≤◌, ◌++◌, false, length, true, IfOk};
 ghost use Rattle.cs_frame.specs.Locators.{AreUnmarked, FitsLocator, KeepFormat, locator_in, locator_size, locators_in, spelled_locators};
-ghost use Rattle.cs_model.specs.Geometry.{marks_in};
+ghost use Rattle.law_machine.specs.Geometry.{marks_in};
 ghost use Rattle.std.specs.List.{AllByRecursion};
 ghost use Rattle.cs_frame.specs.Buffers.{text_of};
 
+use crate::formats::Format;
 use crate::pages::PageBuffer;
 use byteorder::{BigEndian, ByteOrder};
 use std::alloc::{AllocError, Global};
@@ -21,13 +22,6 @@ pub struct Locator {
     pub generation: u32,
     /// The mark of the frame that is meant, 0 in a format that has no marks.
     pub mark: u64,
-}
-
-/// Whether the locators of a format have marks.
-pub fn has_marks(format: u8) -> bool
-    ensures { result ≡ marks_in format }
-{
-    format > 2
 }
 
 pub(crate) fn locator_from(bytes: &[u8; 8]) -> Locator
@@ -79,12 +73,12 @@ fn all_marked_from(alloc: Global, bytes: &[u8]) -> Result<Vec<Locator>, AllocErr
 /// The locators that these bytes spell in a format.
 pub(crate) fn locators_from(
     alloc: Global,
-    format: u8,
+    format: Format,
     bytes: &[u8],
 ) -> Result<Vec<Locator>, AllocError>
     ensures { IfOk result (λ v. v.items ≡ locators_in (marks_in format) bytes.now) }
 {
-    if has_marks(format) {
+    if format.has_marks() {
         all_marked_from(alloc, bytes)
     } else {
         unmarked_from(alloc, bytes)
@@ -145,13 +139,13 @@ fn append_marked(page: &mut PageBuffer, locators: &[Locator])
 }
 
 /// Writes locators as a format has them.
-pub(crate) fn append_locators(page: &mut PageBuffer, format: u8, locators: &[Locator])
+pub(crate) fn append_locators(page: &mut PageBuffer, format: Format, locators: &[Locator])
     requires room { length (text_of page.old) + locator_size (marks_in format) * length locators.now ≤ 4096 }
     requires marks { KeepFormat format locators.now }
     ensures text { text_of page.new ≡ text_of page.old ++ spelled_locators (marks_in format) locators.now }
     ensures fit { AllByRecursion (FitsLocator (marks_in format)) locators.now }
 {
-    if has_marks(format) {
+    if format.has_marks() {
         append_marked(page, locators);
     } else {
         append_unmarked(page, locators);

@@ -12,7 +12,7 @@ use crate::faults::FormatFault;
 use crate::identifiers::ShardId;
 use crate::locators::Locator;
 use crate::places::{Places, marked_places_from};
-use crate::runs::{GREATEST_CHUNKS, Run, check_order};
+use crate::run_frames::{GREATEST_CHUNKS, Run, check_order};
 use byteorder::{BigEndian, ByteOrder};
 use std::alloc::{AllocError, Global};
 

@@ -8,7 +8,8 @@ ghost use Rattle.cs_frame.specs.FirstFormat.{IsOfFirstFormat, SpellsFirstFormat,
 ghost use Rattle.cs_frame.specs.Superblocks.{SpellsSuperblock};
 
 use crate::faults::FormatFault;
-use crate::geometries::{FORMAT, GREATEST_SUPERBLOCK_EXTENTS, are_in_bounds};
+use crate::formats::Format;
+use crate::geometries::{GREATEST_SUPERBLOCK_EXTENTS, are_in_bounds};
 use crate::pages::{check_digest, check_magic, check_padding, check_version};
 use crate::pointers::{check_pointers_in, check_range, extents_of};
 use crate::superblocks::{Superblock, decode_section};
@@ -30,7 +31,7 @@ fn check_bounds(page: &[u8; 4096]) -> Result<(), FormatFault>
     let extents = BigEndian::read_u16(&page[12..14]);
     let pages = BigEndian::read_u16(&page[14..16]);
     if are_in_bounds(
-        FORMAT,
+        Format::two(),
         GREATEST_SUPERBLOCK_EXTENTS,
         u64::from(extents),
         u64::from(pages),
@@ -80,7 +81,7 @@ fn first_format_from(alloc: Global, page: &[u8; 4096]) -> Result<Superblock, All
 {
     let extents = extents_of(alloc, &page[16..end_of(page)])?;
     Ok(Superblock {
-        format: FORMAT,
+        format: Format::two(),
         version: BigEndian::read_u64(&page[4..12]),
         recorded: 0,
         extent_count: BigEndian::read_u16(&page[12..14]),
@@ -106,10 +107,14 @@ fn decode_first_format(alloc: Global, page: &[u8; 4096]) -> Result<Superblock, F
 }
 
 /// The format whose tests of a section are made on page 0, by the digit that is its fourth byte.
-fn section_format(page: &[u8; 4096]) -> u8
+fn section_format(page: &[u8; 4096]) -> Format
     ensures { result ≡ zero_format page.now }
 {
-    if page[3] == b'3' { 3 } else { 2 }
+    if page[3] == b'3' {
+        Format::three()
+    } else {
+        Format::two()
+    }
 }
 
 /// What page 0 spells: a section of the superblock in the format of the store, or all of a superblock of the first format, which is one

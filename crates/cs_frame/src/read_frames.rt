@@ -4,6 +4,7 @@ ghost use Rattle.cs_frame.specs.Faults.{fault_in};
 ghost use Rattle.cs_frame.specs.Frames.{SpellsFrame, frame_fault, kind_byte, meant_fault};
 
 use crate::faults::FormatFault;
+use crate::formats::Format;
 use crate::frames::{FrameKind, check_mark, frame_pages, payload_of};
 use std::marker::Model;
 
@@ -52,7 +53,7 @@ fn whole_frame_in(kind: FrameKind, pages: Vec<[u8; 4096]>) -> Result<ReadFrame, 
 /// The frame of a mark in these pages, which the payload stays in. Tested as by `decode_frame`, and then its mark, 26 Misplaced where it
 /// is another frame's; no memory is asked for.
 pub fn read_frame_in(
-    format: u8,
+    format: Format,
     kind: FrameKind,
     mark: u64,
     pages: Vec<[u8; 4096]>,

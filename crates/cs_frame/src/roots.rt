@@ -2,7 +2,7 @@
 
 ghost use Rattle.std.specs.Prelude.{◌≡◌, ℕ, List, None, Ok, Err, IfOk, ◌+◌, ◌*◌, ◌≤◌, slice_index};
 ghost use Rattle.cs_frame.specs.Locators.{locator_size};
-ghost use Rattle.cs_model.specs.Geometry.{marks_in};
+ghost use Rattle.law_machine.specs.Geometry.{marks_in};
 ghost use Rattle.cs_frame.specs.declared.locators.Locator.{Locator as Place};
 ghost use Rattle.cs_frame.specs.Faults.{HasFault, OkUnlessMemory, fault_in};
 ghost use Rattle.cs_frame.specs.Geometries.{IsKnown};
@@ -10,30 +10,17 @@ ghost use Rattle.cs_frame.specs.Roots.{IsRoot, SpellsRoot, greatest_runs, root_d
 ghost use Rattle.cs_frame.specs.Bytes.{IsPage, number};
 
 use crate::faults::FormatFault;
-use crate::locators::{Locator, append_locators, has_marks, locators_from};
+use crate::formats::Format;
+use crate::locators::{Locator, append_locators, locators_from};
 use crate::pages::{PageBuffer, check_digest, check_digit, check_magic, check_padding};
 use byteorder::{BigEndian, ByteOrder};
 use std::alloc::{AllocError, Global};
-
-/// The greatest number of runs of a root: 4, and 24 in format 3.
-pub fn greatest_runs(format: u8) -> usize
-    ensures { result ≡ greatest_runs format }
-{
-    if format <= 2 { 4 } else { 24 }
-}
-
-/// The fourth byte of a root.
-fn root_digit(format: u8) -> u8
-    ensures { result ≡ root_digit format }
-{
-    if format == 3 { b'3' } else { b'1' }
-}
 
 /// What page 1 spells: the index as of one version.
 #[derive(Debug, Drop)]
 pub struct Root {
     /// The format of the store, 2 or 3.
-    pub format: u8,
+    pub format: Format,
     /// From 1 to 2^63 - 1.
     pub version: u64,
     /// How many puts and deletes are included, up to 2^63 - 1.
@@ -49,7 +36,7 @@ pub fn encode_root(root: &Root) -> [u8; 4096]
 {
     let mut page = PageBuffer::new();
     page.append(b"CSR");
-    page.append(&[root_digit(root.format)]);
+    page.append(&[root.format.root_digit()]);
     page.append(&root.version.to_be_bytes());
     page.append(&root.commands.to_be_bytes());
     page.append(&[root.runs.len() as u8]);
@@ -59,13 +46,13 @@ pub fn encode_root(root: &Root) -> [u8; 4096]
 }
 
 /// Where the runs of a root end, if there are so many.
-fn runs_end(format: u8, count: usize) -> usize
+fn runs_end(format: Format, count: usize) -> usize
     requires { count ≤ greatest_runs format }
     ensures value { result ≡ 21 + locator_size (marks_in format) * count }
     ensures inside { result + 32 ≤ 4096 }
     ensures behind { 21 ≤ result }
 {
-    if has_marks(format) {
+    if format.has_marks() {
         21 + 16 * count
     } else {
         21 + 8 * count
@@ -86,14 +73,14 @@ fn check_range(page: &[u8; 4096]) -> Result<(), FormatFault>
 }
 
 /// Makes the tests of a root in order.
-fn check_root(page: &[u8; 4096], format: u8) -> Result<(), FormatFault>
+fn check_root(page: &[u8; 4096], format: Format) -> Result<(), FormatFault>
     ensures fault { fault_in result ≡ root_fault format page.now }
     ensures page { IsPage page.now }
 {
     check_magic(page, b"CSR")?;
-    check_digit(page, root_digit(format))?;
+    check_digit(page, format.root_digit())?;
     let count = usize::from(page[20]);
-    if count > greatest_runs(format) {
+    if count > format.greatest_runs() {
         return Err(FormatFault::BadLength);
     }
     let end = runs_end(format, count);
@@ -103,7 +90,7 @@ fn check_root(page: &[u8; 4096], format: u8) -> Result<(), FormatFault>
 }
 
 /// The root that a page without a fault spells.
-fn root_from(alloc: Global, page: &[u8; 4096], format: u8) -> Result<Root, AllocError>
+fn root_from(alloc: Global, page: &[u8; 4096], format: Format) -> Result<Root, AllocError>
     requires { slice_index page.now 20 ≤ greatest_runs format }
     ensures format { IfOk result (λ root. root.format ≡ format) }
     ensures version { IfOk result (λ root. root.version ≡ number 4 12 page.now) }
@@ -123,7 +110,7 @@ fn root_from(alloc: Global, page: &[u8; 4096], format: u8) -> Result<Root, Alloc
 /// The root that a page spells in this format, that of the store. The first test that fails is answered: 20 BadMagic, 24 BadVersion where
 /// the fourth byte isn't the format's, 22 BadLength, 21 BadDigest, then 24 for the ranges of version and number, and 23 BadPadding; 9
 /// OutOfMemory only for a page that spells a root.
-pub fn decode_root(alloc: Global, page: &[u8; 4096], format: u8) -> Result<Root, FormatFault>
+pub fn decode_root(alloc: Global, page: &[u8; 4096], format: Format) -> Result<Root, FormatFault>
     requires { IsKnown format }
     // What is read has this format, and is spelled by the page.
     ensures format { IfOk result (λ root. root.format ≡ format) }

@@ -1,7 +1,7 @@
 //! The superblock in sections, a page for each, in the format of the store.
 
 ghost use Rattle.std.specs.Prelude.{◌≡◌, ◌+◌, ◌*◌, ◌^◌, ◌<◌, ◌≤◌, ℕ, List, None, Ok, Err, IfOk, length, slice_index};
-ghost use Rattle.cs_model.specs.Geometry.{records_in};
+ghost use Rattle.law_machine.specs.Geometry.{records_in};
 ghost use Rattle.cs_frame.specs.Geometries.{IsKnown, section_length};
 ghost use Rattle.std.specs.List.{AllByRecursion};
 ghost use Rattle.cs_frame.specs.Buffers.{text_of};
@@ -11,9 +11,8 @@ ghost use Rattle.cs_frame.specs.Superblocks.{FitsRecord, IsSection, IsSuperblock
 ghost use Rattle.cs_frame.specs.Pointers.{FitsGeneration};
 
 use crate::faults::FormatFault;
-use crate::geometries::{
-    Geometry, are_in_bounds, can_be_divided, extents_in_section, greatest_extents,
-};
+use crate::formats::Format;
+use crate::geometries::{Geometry, are_in_bounds, can_be_divided, extents_in_section};
 use crate::pages::{PageBuffer, check_digest, check_digit, check_magic, check_padding};
 use crate::pointers::{append_extents, check_pointers_in, check_range, extents_of};
 use byteorder::{BigEndian, ByteOrder};
@@ -23,7 +22,7 @@ use std::alloc::{AllocError, Global};
 #[derive(Debug, Drop)]
 pub struct Superblock {
     /// The format of the store, 2 or 3.
-    pub format: u8,
+    pub format: Format,
     /// From 1 to 2^63 - 1.
     pub version: u64,
     /// The version of the root that was persistent as the section was staged; 0 up to format 2, whose sections don't record it.
@@ -42,40 +41,33 @@ pub struct Superblock {
     pub extents: Vec<(u16, u32)>,
 }
 
-/// Whether a section records the version of the root that was persistent as it was staged.
-pub fn has_records(format: u8) -> bool
-    ensures { result ≡ records_in format }
-{
-    format > 2
-}
-
 /// What a section records in a format where this version of the root is persistent: 0 where it has no bytes for it.
-pub fn record_in(format: u8, root: u64) -> u64
+pub fn record_in(format: Format, root: u64) -> u64
     ensures record { result ≡ record_in format root }
     ensures fits { FitsRecord format result }
 {
-    if has_records(format) { root } else { 0 }
+    if format.has_records() { root } else { 0 }
 }
 
 /// How many bytes a section has for what it records.
-fn record_bytes(format: u8) -> usize
+fn record_bytes(format: Format) -> usize
     ensures bytes { result ≡ record_bytes format }
     ensures small { result ≤ 8 }
 {
-    if has_records(format) { 8 } else { 0 }
+    if format.has_records() { 8 } else { 0 }
 }
 
 /// The digit of a format, its fourth byte.
-fn digit_of(format: u8) -> u8
+fn digit_of(format: Format) -> u8
     requires { IsKnown format }
     ensures { result ≡ 48 + format }
 {
-    b'0' + format
+    b'0' + format.number()
 }
 
 /// The page of a section up to its digest.
 fn unsealed(
-    format: u8,
+    format: Format,
     version: u64,
     recorded: u64,
     extent_count: u16,
@@ -104,7 +96,7 @@ fn unsealed(
 
 /// The page that spells a section of so many extents, pages and sections.
 fn spelled_page(
-    format: u8,
+    format: Format,
     version: u64,
     recorded: u64,
     extent_count: u16,
@@ -177,10 +169,10 @@ pub fn encode_section(
 }
 
 /// What a page of a section records.
-fn recorded_of(page: &[u8; 4096], format: u8) -> u64
+fn recorded_of(page: &[u8; 4096], format: Format) -> u64
     ensures { result ≡ superblock_record format page.now }
 {
-    if has_records(format) {
+    if format.has_records() {
         BigEndian::read_u64(&page[18..26])
     } else {
         0
@@ -188,7 +180,7 @@ fn recorded_of(page: &[u8; 4096], format: u8) -> u64
 }
 
 /// Where the extents begin in a page of a section.
-fn start_of(format: u8) -> usize
+fn start_of(format: Format) -> usize
     ensures start { result ≡ superblock_start format }
     ensures small { result ≤ 26 }
 {
@@ -196,7 +188,7 @@ fn start_of(format: u8) -> usize
 }
 
 /// Where the digest begins in a page of a section.
-fn end_of(page: &[u8; 4096], format: u8) -> usize
+fn end_of(page: &[u8; 4096], format: Format) -> usize
     requires { 1 ≤ slice_index page.now 16 }
     ensures { result ≡ superblock_end format page.now }
 {
@@ -205,7 +197,7 @@ fn end_of(page: &[u8; 4096], format: u8) -> usize
 }
 
 /// So many extents of so many pages have a superblock of so many sections, and this is one of them.
-fn check_section(page: &[u8; 4096], format: u8) -> Result<(), FormatFault>
+fn check_section(page: &[u8; 4096], format: Format) -> Result<(), FormatFault>
     ensures fault { fault_in result ≡ section_test format page.now }
     ensures sections { IfOk result (λ _. 1 ≤ slice_index page.now 16) }
     ensures end { IfOk result (λ _. superblock_end format page.now + 32 ≤ 4096) }
@@ -214,7 +206,7 @@ fn check_section(page: &[u8; 4096], format: u8) -> Result<(), FormatFault>
     let pages = BigEndian::read_u16(&page[14..16]);
     if are_in_bounds(
         format,
-        greatest_extents(format),
+        format.greatest_extents(),
         u64::from(extents),
         u64::from(pages),
     ) && can_be_divided(format, extents, page[16])
@@ -227,7 +219,7 @@ fn check_section(page: &[u8; 4096], format: u8) -> Result<(), FormatFault>
 }
 
 /// No pointer is past the extent's pages.
-fn check_pointers(page: &[u8; 4096], format: u8) -> Result<(), FormatFault>
+fn check_pointers(page: &[u8; 4096], format: Format) -> Result<(), FormatFault>
     requires sections { 1 ≤ slice_index page.now 16 }
     requires end { superblock_end format page.now + 32 ≤ 4096 }
     ensures { fault_in result ≡ superblock_pointer_test format page.now }
@@ -237,7 +229,7 @@ fn check_pointers(page: &[u8; 4096], format: u8) -> Result<(), FormatFault>
 }
 
 /// Makes the tests of a section's page in order.
-fn check_page(page: &[u8; 4096], format: u8) -> Result<(), FormatFault>
+fn check_page(page: &[u8; 4096], format: Format) -> Result<(), FormatFault>
     requires { IsKnown format }
     ensures fault { fault_in result ≡ superblock_fault format page.now }
     ensures sections { IfOk result (λ _. 1 ≤ slice_index page.now 16) }
@@ -255,7 +247,7 @@ fn check_page(page: &[u8; 4096], format: u8) -> Result<(), FormatFault>
 }
 
 /// The section that a page without a fault spells.
-fn section_from(alloc: Global, page: &[u8; 4096], format: u8) -> Result<Superblock, AllocError>
+fn section_from(alloc: Global, page: &[u8; 4096], format: Format) -> Result<Superblock, AllocError>
     requires sections { 1 ≤ slice_index page.now 16 }
     requires end { superblock_end format page.now + 32 ≤ 4096 }
     ensures format { IfOk result (λ it. it.format ≡ format) }
@@ -286,7 +278,7 @@ fn section_from(alloc: Global, page: &[u8; 4096], format: u8) -> Result<Superblo
 pub fn decode_section(
     alloc: Global,
     page: &[u8; 4096],
-    format: u8,
+    format: Format,
 ) -> Result<Superblock, FormatFault>
     requires { IsKnown format }
     // What is read has this format, and is spelled by the page.

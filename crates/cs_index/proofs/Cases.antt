@@ -5,13 +5,13 @@ use Rattle.std.proofs.lemmas.Bool.{cases_lt}
 use Rattle.std.proofs.lemmas.Bool.Decides.{nat_tests}
 use Rattle.cs_deps.specs.State.{State as GraphState}
 use Rattle.cs_extent.specs.State.{State as ExtentsState, shape}
-use Rattle.cs_model.proofs.Counting.{lookup_here}
-use Rattle.cs_model.proofs.Merging.{none_live}
-use Rattle.cs_model.specs.Device.{Shape}
-use Rattle.cs_model.specs.Element.{Entry, Locator as Place, Run}
-use Rattle.cs_model.specs.Extents.{ForRun, Purpose as Reason}
-use Rattle.cs_model.specs.Index.{IsMergedRun, IsTableRun, entries_of, if_live, live, lookup}
-use Rattle.cs_model.specs.Merges.{IsRunOf}
+use Rattle.law_machine.proofs.Counting.{lookup_here}
+use Rattle.law_machine.proofs.Merging.{none_live}
+use Rattle.law_machine.specs.Device.{Shape}
+use Rattle.law_machine.specs.Element.{Entry, Locator as Place, Run}
+use Rattle.law_machine.specs.Extents.{ForRun, Purpose as Reason}
+use Rattle.law_machine.specs.Index.{IsMergedRun, IsTableRun, entries_of, if_live, live, lookup}
+use Rattle.law_machine.specs.Merges.{IsRunOf}
 use Rattle.cs_index.specs.Merges.{deletions_go, part, reached, stage_takes}
 use Rattle.cs_index.specs.Staged.{IsMergeAppended, IsMergeStaged, IsNewestStaged, IsPartAppended, IsPartStaged, IsRootStaged, IsTableStaged, WritesMerged, WritesPart, WritesRun}
 use Rattle.cs_index.specs.State.{State, index_of}

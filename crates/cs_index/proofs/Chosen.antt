@@ -2,20 +2,20 @@
 use Rattle.std.proofs.Common.{◌≡◌, ◌≢◌, ◌⊎◌, ◌↔◌, inl, inr, ⊎_elim, ℕ, ◌<◌, ◌≤◌, Bool, true, false, List, [], ◌∷◌, ◌++◌, drop, length, Option, Some, None, nat_lt, refl, sym, ap, subst, ◌∙◌, arith, if◌then◌else◌}
 use Rattle.std.specs.Prelude.{IfOk, MatchBool, MatchOption, OnErr, Result, Ok, Err, is_some}
 use Rattle.std.proofs.lemmas.Bool.Decides.{nat_tests}
-use Rattle.cs_deps.specs.declared.refusals.Refusal.{Refusal}
-use Rattle.cs_deps.specs.declared.refusals.Refusal.TheVariants.{Full, OutOfMemory, WornOut}
+use Rattle.cs_refusal.specs.declared.refusals.Refusal.{Refusal}
+use Rattle.cs_refusal.specs.declared.refusals.Refusal.TheVariants.{Full, OutOfMemory, WornOut}
 use Rattle.cs_deps.specs.Staging.{Staging}
 use Rattle.cs_deps.specs.State.{State as GraphState}
 use Rattle.cs_extent.specs.State.{State as ExtentsState, extents_of, shape}
 use Rattle.cs_extent.specs.Worn.{IsFrameWornBy}
-use Rattle.cs_model.proofs.Counting.{lookup_here}
-use Rattle.cs_model.specs.Apart.{is_none}
-use Rattle.cs_model.specs.Device.{Shape}
-use Rattle.cs_model.specs.Element.{Entry, Locator as Place}
-use Rattle.cs_model.specs.Extents.{ForMerge, ForRun, GoesApart, Purpose as Reason}
-use Rattle.cs_model.specs.Geometry.{pages_first_in}
-use Rattle.cs_model.specs.Index.{if_live, lookup, names}
-use Rattle.cs_model.specs.Merges.{IsRunOf, reaching, sizes}
+use Rattle.law_machine.proofs.Counting.{lookup_here}
+use Rattle.law_machine.specs.Apart.{is_none}
+use Rattle.law_machine.specs.Device.{Shape}
+use Rattle.law_machine.specs.Element.{Entry, Locator as Place}
+use Rattle.law_machine.specs.Extents.{ForMerge, ForRun, GoesApart, Purpose as Reason}
+use Rattle.law_machine.specs.Geometry.{pages_first_in}
+use Rattle.law_machine.specs.Index.{if_live, lookup, names}
+use Rattle.law_machine.specs.Merges.{IsRunOf, reaching, sizes}
 use Rattle.cs_index.specs.Apart.{IsFullApart, IsNewestStagedApart, IsRunWornApart, IsStageFullApart, IsStageWornApart, IsStagedApart, WritesNewest, takes_apart}
 use Rattle.cs_index.specs.Merges.{deletions_go, part, reached, stage_takes}
 use Rattle.cs_index.specs.Staged.{IsExact, IsPartStagedBy, IsRootOver, IsRootStaged, IsRootWorn, IsRunStagedBy, IsWhy, WritesPart, run_frame}

@@ -1,18 +1,18 @@
 -- When staging is refused, and what it gives.
 use Rattle.std.proofs.Common.{◌≡◌, ◌≢◌, ◌⊎◌, inl, inr, ⊎_elim, ℕ, List, [], ◌∷◌, drop, length, map, append-nil, refl, sym, ap, subst, ◌∙◌, arith}
 use Rattle.std.specs.Prelude.{◌↔◌, Bool, MatchBool, MatchResult, Result, Ok, Err, false, true}
-use Rattle.cs_deps.specs.declared.refusals.Refusal.{Refusal}
-use Rattle.cs_deps.specs.declared.refusals.Refusal.TheVariants.{Full, OutOfMemory, WornOut}
+use Rattle.cs_refusal.specs.declared.refusals.Refusal.{Refusal}
+use Rattle.cs_refusal.specs.declared.refusals.Refusal.TheVariants.{Full, OutOfMemory, WornOut}
 use Rattle.cs_deps.specs.Staging.{Staging}
 use Rattle.cs_deps.specs.State.{State as GraphState}
 use Rattle.cs_extent.specs.State.{State as ExtentsState, extents_of, shape}
 use Rattle.cs_extent.specs.Worn.{IsFrameWorn}
-use Rattle.cs_model.specs.Device.{Shape}
-use Rattle.cs_model.specs.Element.{Entry, Locator as Place}
-use Rattle.cs_model.specs.Extents.{ForRun, NoPlace, Placed, Purpose as Reason}
-use Rattle.cs_model.specs.Geometry.{pages_first_in}
-use Rattle.cs_model.specs.Index.{Ascending, IsMergedRun, lookup}
-use Rattle.cs_model.specs.Merges.{IsRunOf}
+use Rattle.law_machine.specs.Device.{Shape}
+use Rattle.law_machine.specs.Element.{Entry, Locator as Place}
+use Rattle.law_machine.specs.Extents.{ForRun, NoPlace, Placed, Purpose as Reason}
+use Rattle.law_machine.specs.Geometry.{pages_first_in}
+use Rattle.law_machine.specs.Index.{Ascending, IsMergedRun, lookup}
+use Rattle.law_machine.specs.Merges.{IsRunOf}
 use Rattle.cs_index.specs.Merges.{deletions_go, part, stage_takes}
 use Rattle.cs_index.specs.Staged.{IsExact, IsFull, IsNewestStaged, IsPartStaged, IsRootOver, IsRootWorn, IsRunStaged, IsStageWorn, IsWhy, WritesMerged, WritesPart, WritesRun, run_frame}
 use Rattle.cs_index.specs.State.{State, index_of}

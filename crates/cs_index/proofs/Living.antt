@@ -14,9 +14,9 @@ use Rattle.cs_index.specs.State.{IsAfter, IsId, IsNext, id_number}
 use Rattle.cs_index.proofs.Merged.{IsSmall}
 use Rattle.cs_index.proofs.Merging.{after_or_not}
 use Rattle.cs_index.proofs.Numbers.{small_number}
-use Rattle.cs_model.specs.Element.{Entry, Locator as Place}
-use Rattle.cs_model.specs.Index.{FirstLive, NothingLive, live, live_at, lookup}
-use Rattle.cs_model.specs.Lists.{◌∈◌, nth}
+use Rattle.law_machine.specs.Element.{Entry, Locator as Place}
+use Rattle.law_machine.specs.Index.{FirstLive, NothingLive, live, live_at, lookup}
+use Rattle.law_machine.specs.Lists.{◌∈◌, nth}
 
 -- ---- members
 

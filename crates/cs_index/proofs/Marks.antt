@@ -11,19 +11,19 @@ use Rattle.cs_frame.specs.Formats.{as_locator, place_of}
 use Rattle.cs_frame.specs.Locators.{KeepFormat}
 use Rattle.cs_frame.specs.Places.{Listed}
 use Rattle.cs_frame.specs.Runs.{IsRun}
-use Rattle.cs_index.specs.declared.runs.StoredRun.{StoredRun}
+use Rattle.cs_index.specs.declared.stored_runs.StoredRun.{StoredRun}
 use Rattle.cs_index.specs.Staged.{IsRunAppendedBy, run_frame}
 use Rattle.cs_index.specs.State.{KeepTo, RunsKeepTo, named_entry, newest_first, run_of}
 use Rattle.cs_index.proofs.Merged.{live_left}
 use Rattle.cs_index.proofs.Newest.{all_newest, all_oldest, lookup_above, lookup_first}
 use Rattle.cs_index.proofs.Sorted.{above_all, all_append, all_drop}
-use Rattle.cs_model.proofs.Counting.{ascending_tail, lookup_here, lookup_there}
-use Rattle.cs_model.specs.Device.{mark_of}
-use Rattle.cs_model.specs.Element.{Entry, Locator as Place, Run}
-use Rattle.cs_model.specs.Extents.{Purpose as Reason}
-use Rattle.cs_model.specs.Geometry.{digest_number, marks_in}
-use Rattle.cs_model.specs.Index.{Ascending, entries_of, live, live_at, lookup}
-use Rattle.cs_model.specs.Merges.{IsRunOf}
+use Rattle.law_machine.proofs.Counting.{ascending_tail, lookup_here, lookup_there}
+use Rattle.law_machine.specs.Device.{mark_of}
+use Rattle.law_machine.specs.Element.{Entry, Locator as Place, Run}
+use Rattle.law_machine.specs.Extents.{Purpose as Reason}
+use Rattle.law_machine.specs.Geometry.{digest_number, marks_in}
+use Rattle.law_machine.specs.Index.{Ascending, entries_of, live, live_at, lookup}
+use Rattle.law_machine.specs.Merges.{IsRunOf}
 
 -- ---- where locators have marks
 

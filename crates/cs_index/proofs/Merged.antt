@@ -3,11 +3,11 @@ use Rattle.std.proofs.Common.{◌≡◌, ◌≢◌, inl, inr, ⊎_elim, ℕ, ◌
 use Rattle.std.specs.Prelude.{is_some}
 use Rattle.std.specs.List.{AllByRecursion}
 use Rattle.std.proofs.lemmas.Bool.{cases_eq, cases_lt}
-use Rattle.cs_model.proofs.Counting.{ascending_names, lookup_here, lookup_there, names_le}
-use Rattle.cs_model.proofs.Sorted.{one_sorted}
-use Rattle.cs_model.specs.Element.{Entry, Locator as Place}
-use Rattle.cs_model.specs.Index.{Ascending, IsMergedRun, if_live, live, live_at, lookup, names}
-use Rattle.cs_model.specs.Merges.{IsRunOf}
+use Rattle.law_machine.proofs.Counting.{ascending_names, lookup_here, lookup_there, names_le}
+use Rattle.law_machine.proofs.Sorted.{one_sorted}
+use Rattle.law_machine.specs.Element.{Entry, Locator as Place}
+use Rattle.law_machine.specs.Index.{Ascending, IsMergedRun, if_live, live, live_at, lookup, names}
+use Rattle.law_machine.specs.Merges.{IsRunOf}
 use Rattle.cs_index.specs.Sorted.{IsMergedTo, IsRunTo, kept_entry, live_entry}
 use Rattle.cs_index.specs.State.{IsAfter, IsNext, IsShort}
 use Rattle.cs_index.proofs.Merging.{after_or_not, before_next}

@@ -8,10 +8,10 @@ use Rattle.std.proofs.lemmas.List.{get_or-set_other}
 use Rattle.std.proofs.lemmas.Option.{get_or_from_slice_get}
 use Rattle.cs_frame.specs.declared.identifiers.ShardId.{ShardId}
 use Rattle.cs_frame.specs.Places.{Listed}
-use Rattle.cs_index.specs.declared.runs.StoredRun.{StoredRun}
-use Rattle.cs_model.proofs.Counting.{lookup_here, lookup_there}
-use Rattle.cs_model.specs.Element.{Entry, Locator as Place, Run}
-use Rattle.cs_model.specs.Index.{Ascending, entries_of, lookup}
+use Rattle.cs_index.specs.declared.stored_runs.StoredRun.{StoredRun}
+use Rattle.law_machine.proofs.Counting.{lookup_here, lookup_there}
+use Rattle.law_machine.specs.Element.{Entry, Locator as Place, Run}
+use Rattle.law_machine.specs.Index.{Ascending, entries_of, lookup}
 use Rattle.cs_index.specs.Read.{ArePlaces, AreStarts}
 use Rattle.cs_index.specs.Sorted.{IsPlace, IsStart, first_of}
 use Rattle.cs_index.specs.State.{IsAfter, IsNext, IsStored, named_entry, newest_first, run_of}

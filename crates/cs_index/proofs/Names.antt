@@ -1,9 +1,9 @@
 -- How many identifiers are named.
 use Rattle.std.proofs.Common.{◌≡◌, ℕ, ◌≤◌, List, Option, ap, sym, ◌∙◌, arith}
 use Rattle.std.specs.Prelude.{is_some}
-use Rattle.cs_model.proofs.Counting.{names_le}
-use Rattle.cs_model.specs.Element.{Entry, Locator}
-use Rattle.cs_model.specs.Index.{lookup, names}
+use Rattle.law_machine.proofs.Counting.{names_le}
+use Rattle.law_machine.specs.Element.{Entry, Locator}
+use Rattle.law_machine.specs.Index.{lookup, names}
 
 -- lists that name the same name as many
 pub names_same : (xs ys : List Entry) → ((id : ℕ) → is_some (lookup id xs) ≡ is_some (lookup id ys)) → names xs ≡ names ys

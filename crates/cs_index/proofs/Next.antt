@@ -6,17 +6,17 @@ use Rattle.std.proofs.lemmas.List.{length-map}
 use Rattle.std.proofs.lemmas.Option.{same_Some}
 use Rattle.cs_frame.specs.declared.locators.Locator.{Locator}
 use Rattle.cs_frame.specs.Formats.{place_of}
-use Rattle.cs_index.specs.declared.runs.StoredRun.{StoredRun}
+use Rattle.cs_index.specs.declared.stored_runs.StoredRun.{StoredRun}
 use Rattle.cs_index.specs.Copies.{FirstBehind, NoneBehind}
 use Rattle.cs_index.specs.Live.{FirstAfter, IsFirstOn, IsFirstOnBehind, NoneAfter, NoneOn, NoneOnBehind}
 use Rattle.cs_index.specs.State.{IsAfter, IsNext, newest_first}
 use Rattle.cs_index.proofs.Living.{no_places, nth_inside, nth_map}
 use Rattle.cs_index.proofs.Merging.{after_or_not, later_still}
 use Rattle.cs_index.proofs.Newest.{newest_more}
-use Rattle.cs_model.specs.Apart.{any_run_on}
-use Rattle.cs_model.specs.Element.{Entry, Locator as Place, Run}
-use Rattle.cs_model.specs.Index.{live, live_at, lookup}
-use Rattle.cs_model.specs.Lists.{nth}
+use Rattle.law_machine.specs.Apart.{any_run_on}
+use Rattle.law_machine.specs.Element.{Entry, Locator as Place, Run}
+use Rattle.law_machine.specs.Index.{live, live_at, lookup}
+use Rattle.law_machine.specs.Lists.{nth}
 
 -- ---- the first of some places behind a number
 

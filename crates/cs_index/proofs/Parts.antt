@@ -8,16 +8,16 @@ use Rattle.cs_deps.specs.State.{State as GraphState}
 use Rattle.cs_extent.specs.State.{State as ExtentsState}
 use Rattle.cs_frame.specs.Formats.{place_of}
 use Rattle.cs_frame.specs.Locators.{KeepFormat}
-use Rattle.cs_index.specs.declared.runs.StoredRun.{StoredRun}
-use Rattle.cs_model.proofs.Counting.{ascending_names, lookup_here}
-use Rattle.cs_model.proofs.Gives.{lookup_append}
-use Rattle.cs_model.specs.Element.{Entry, Locator as Place, Run}
-use Rattle.cs_model.specs.Extents.{Purpose as Reason}
-use Rattle.cs_model.proofs.Weights.{weight_some}
-use Rattle.cs_model.specs.Geometry.{weigh_in}
-use Rattle.cs_model.specs.Index.{Ascending, entries_of, if_live, live, live_at, lookup, named_weight, names, run_weight}
-use Rattle.cs_model.specs.Merges.{IsRunOf}
-use Rattle.cs_model.specs.Tally.{living_weight}
+use Rattle.cs_index.specs.declared.stored_runs.StoredRun.{StoredRun}
+use Rattle.law_machine.proofs.Counting.{ascending_names, lookup_here}
+use Rattle.law_machine.proofs.Gives.{lookup_append}
+use Rattle.law_machine.specs.Element.{Entry, Locator as Place, Run}
+use Rattle.law_machine.specs.Extents.{Purpose as Reason}
+use Rattle.law_machine.proofs.Weights.{weight_some}
+use Rattle.law_machine.specs.Geometry.{weigh_in}
+use Rattle.law_machine.specs.Index.{Ascending, entries_of, if_live, live, live_at, lookup, named_weight, names, run_weight}
+use Rattle.law_machine.specs.Merges.{IsRunOf}
+use Rattle.law_machine.specs.Tally.{living_weight}
 use Rattle.cs_index.specs.Merges.{part}
 use Rattle.cs_index.specs.Staged.{IsPartAppendedBy, IsPartStagedBy}
 use Rattle.cs_index.specs.State.{IsShort, IsStored, IsWhole, KeepTo, RunsKeepTo, State, index_of, named_entry, newest_first, run_of, state_of}

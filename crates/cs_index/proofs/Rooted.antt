@@ -14,11 +14,11 @@ use Rattle.cs_extent.specs.Frames.{IsFrameStaged, IsRootNeed, root_family, root_
 use Rattle.cs_extent.specs.State.{State as ExtentsState}
 use Rattle.cs_frame.specs.Formats.{as_locator, place_of}
 use Rattle.cs_frame.specs.declared.locators.Locator.{Locator}
-use Rattle.cs_index.specs.declared.runs.StoredRun.{StoredRun}
-use Rattle.cs_model.specs.Element.{Entry, Locator as Place, Run}
-use Rattle.cs_model.specs.Extents.{Purpose as Reason}
-use Rattle.cs_model.specs.Formats.{places}
-use Rattle.cs_model.specs.Geometry.{pages_first_in}
+use Rattle.cs_index.specs.declared.stored_runs.StoredRun.{StoredRun}
+use Rattle.law_machine.specs.Element.{Entry, Locator as Place, Run}
+use Rattle.law_machine.specs.Extents.{Purpose as Reason}
+use Rattle.law_machine.specs.Formats.{places}
+use Rattle.law_machine.specs.Geometry.{pages_first_in}
 use Rattle.cs_index.specs.Staged.{IsRootOver, IsRootWorn, IsRunStaged, IsRunStagedBy, run_frame}
 use Rattle.cs_index.specs.State.{newest_first, run_of}
 

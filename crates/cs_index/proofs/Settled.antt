@@ -5,18 +5,18 @@ use Rattle.std.proofs.Common.{◌≡◌, ◌∙◌, ℕ, zero, suc, ◌+◌, ◌
 use Rattle.cs_frame.specs.declared.locators.Locator.{Locator}
 use Rattle.cs_frame.specs.Formats.{place_of}
 use Rattle.std.specs.List.{AllByRecursion}
-use Rattle.cs_index.specs.declared.copies.ChunkCopy.{ChunkCopy}
-use Rattle.cs_index.specs.declared.runs.StoredRun.{StoredRun}
+use Rattle.cs_index.specs.declared.counted_copies.ChunkCopy.{ChunkCopy}
+use Rattle.cs_index.specs.declared.stored_runs.StoredRun.{StoredRun}
 use Rattle.cs_index.proofs.Weights.{as_many_weigh}
 use Rattle.cs_index.proofs.Whole.{Entries}
 use Rattle.cs_index.specs.Copies.{IsSettled, copy_of, newest_copies, settle_in, settle_table}
 use Rattle.cs_index.specs.State.{IsSet, IsShort, IsStored, IsWhole, KeepTo, RunsKeepTo, State, index_of, named_entry, newest_first, state_of}
-use Rattle.cs_model.proofs.Gives.{lookup_append}
-use Rattle.cs_model.specs.Apart.{is_place, same_place}
-use Rattle.cs_model.specs.Element.{Copy, Entry, Locator as Place, Run}
-use Rattle.cs_model.specs.Geometry.{weigh_in}
-use Rattle.cs_model.specs.Index.{Ascending, entries_of, live, live_at, lookup, named_weight, weight_with}
-use Rattle.cs_model.specs.Lists.{nth, replaced}
+use Rattle.law_machine.proofs.Gives.{lookup_append}
+use Rattle.law_machine.specs.Apart.{is_place, same_place}
+use Rattle.law_machine.specs.Element.{Copy, Entry, Locator as Place, Run}
+use Rattle.law_machine.specs.Geometry.{weigh_in}
+use Rattle.law_machine.specs.Index.{Ascending, entries_of, live, live_at, lookup, named_weight, weight_with}
+use Rattle.law_machine.specs.Lists.{nth, replaced}
 
 -- ---- one copy
 

@@ -1,12 +1,12 @@
 -- How many identifiers live.
 use Rattle.std.proofs.Common.{◌≡◌, ◌≢◌, inl, inr, ℕ, ◌+◌, ◌-◌, ◌≤◌, ◌==◌, true, List, [], ◌∷◌, ◌++◌, length, length-append, Option, Some, None, if◌then◌else◌, refl, sym, ap, ◌∙◌, arith}
-use Rattle.cs_model.proofs.Counting.{ascending_lookup, ascending_tail, none_below}
-use Rattle.cs_model.proofs.Sorted.{sorted_live}
-use Rattle.cs_model.proofs.Tallies.{counts, counts_alike}
-use Rattle.cs_model.specs.Element.{Entry, Locator as Place}
-use Rattle.cs_model.specs.Index.{Ascending, IsMergedRun, if_live, live, live_at, lookup, names}
-use Rattle.cs_model.specs.Lists.{◌∈◌}
-use Rattle.cs_model.specs.Tally.{one_if_some, shards}
+use Rattle.law_machine.proofs.Counting.{ascending_lookup, ascending_tail, none_below}
+use Rattle.law_machine.proofs.Sorted.{sorted_live}
+use Rattle.law_machine.proofs.Tallies.{counts, counts_alike}
+use Rattle.law_machine.specs.Element.{Entry, Locator as Place}
+use Rattle.law_machine.specs.Index.{Ascending, IsMergedRun, if_live, live, live_at, lookup, names}
+use Rattle.law_machine.specs.Lists.{◌∈◌}
+use Rattle.law_machine.specs.Tally.{one_if_some, shards}
 use Rattle.cs_index.specs.Sorted.{IsMergedTo, live_entry}
 use Rattle.cs_index.specs.State.{IsNext}
 use Rattle.cs_index.proofs.Merged.{merged_live, merged_step, run_few}

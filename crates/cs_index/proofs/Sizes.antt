@@ -6,13 +6,13 @@ use Rattle.std.proofs.lemmas.Bool.Decides.{nat_tests}
 use Rattle.std.specs.Prelude.{is_some}
 use Rattle.std.specs.List.{AllByRecursion}
 use Rattle.std.proofs.lemmas.List.{length-map, length-take-le}
-use Rattle.cs_index.specs.declared.runs.StoredRun.{StoredRun}
-use Rattle.cs_model.proofs.Counting.{ascending_names, names_le}
-use Rattle.cs_model.specs.Device.{Shape}
-use Rattle.cs_model.specs.Element.{Entry, Locator as Place, Run}
-use Rattle.cs_model.specs.Index.{entries_of, lookup, names}
-use Rattle.cs_model.specs.Merges.{reaching, sizes}
-use Rattle.cs_model.specs.Tally.{dead_weight}
+use Rattle.cs_index.specs.declared.stored_runs.StoredRun.{StoredRun}
+use Rattle.law_machine.proofs.Counting.{ascending_names, names_le}
+use Rattle.law_machine.specs.Device.{Shape}
+use Rattle.law_machine.specs.Element.{Entry, Locator as Place, Run}
+use Rattle.law_machine.specs.Index.{entries_of, lookup, names}
+use Rattle.law_machine.specs.Merges.{reaching, sizes}
+use Rattle.law_machine.specs.Tally.{dead_weight}
 use Rattle.cs_index.specs.Merges.{deletions_go, reached, stage_takes}
 use Rattle.cs_index.specs.State.{IsStored, IsWhole, State, index_of, named_entry, newest_first, run_of, state_of}
 use Rattle.cs_index.proofs.Newest.{all_oldest, lookup_first, lookup_second, newest_more}

@@ -4,9 +4,9 @@ use Rattle.std.specs.Prelude.{get_or, slice_get, slice_set}
 use Rattle.std.specs.List.{AllByRecursion, insert}
 use Rattle.std.proofs.lemmas.Bool.{cases_eq, cases_lt}
 use Rattle.std.proofs.lemmas.List.{map-append, map-set, set_split}
-use Rattle.cs_model.proofs.Counting.{ascending_tail, lookup_here, lookup_there}
-use Rattle.cs_model.specs.Element.{Entry}
-use Rattle.cs_model.specs.Index.{Ascending, lookup}
+use Rattle.law_machine.proofs.Counting.{ascending_tail, lookup_here, lookup_there}
+use Rattle.law_machine.specs.Element.{Entry}
+use Rattle.law_machine.specs.Index.{Ascending, lookup}
 use Rattle.cs_index.specs.State.{IsShort}
 use Rattle.cs_index.specs.Sorted.{IsPlace, IsPut}
 

@@ -20,9 +20,9 @@ use Rattle.cs_frame.specs.declared.identifiers.ShardId.{ShardId}
 use Rattle.cs_frame.specs.declared.locators.Locator.{Locator}
 use Rattle.cs_frame.specs.Places.{Listed}
 use Rattle.cs_index.specs.Staged.{run_frame}
-use Rattle.cs_model.specs.Element.{Entry}
-use Rattle.cs_model.specs.Geometry.{marks_in, most_weight_in, weigh_in}
-use Rattle.cs_model.specs.Index.{run_weight}
+use Rattle.law_machine.specs.Element.{Entry}
+use Rattle.law_machine.specs.Geometry.{marks_in, most_weight_in, weigh_in}
+use Rattle.law_machine.specs.Index.{run_weight}
 use Rattle.cs_index.specs.State.{IsShort, id_number, named_entry}
 use Rattle.cs_index.proofs.Numbers.{bytes_are}
 

@@ -4,14 +4,14 @@ use Rattle.std.specs.Prelude.{is_some}
 use Rattle.std.specs.List.{AllByRecursion}
 use Rattle.std.proofs.lemmas.Bool.{lt-ltb}
 use Rattle.std.proofs.lemmas.List.{length-map}
-use Rattle.cs_frame.specs.declared.runs.Run.{Run as SpelledRun}
+use Rattle.cs_frame.specs.declared.run_frames.Run.{Run as SpelledRun}
 use Rattle.cs_frame.specs.Runs.{IsRun, Rises, entries_of as spelled_entries}
-use Rattle.cs_index.specs.declared.runs.StoredRun.{StoredRun}
-use Rattle.cs_model.proofs.Counting.{ascending_names, names_le}
-use Rattle.cs_model.specs.Element.{Entry, Locator as Place}
-use Rattle.cs_model.proofs.Weights.{ascending_weight, weight_some}
-use Rattle.cs_model.specs.Geometry.{most_weight_in, weigh_in}
-use Rattle.cs_model.specs.Index.{Ascending, entries_of, live_at, lookup, named_weight, names, run_weight}
+use Rattle.cs_index.specs.declared.stored_runs.StoredRun.{StoredRun}
+use Rattle.law_machine.proofs.Counting.{ascending_names, names_le}
+use Rattle.law_machine.specs.Element.{Entry, Locator as Place}
+use Rattle.law_machine.proofs.Weights.{ascending_weight, weight_some}
+use Rattle.law_machine.specs.Geometry.{most_weight_in, weigh_in}
+use Rattle.law_machine.specs.Index.{Ascending, entries_of, live_at, lookup, named_weight, names, run_weight}
 use Rattle.cs_frame.specs.Formats.{place_of}
 use Rattle.cs_index.specs.State.{IsId, IsShort, IsStored, IsWhole, KeepTo, RunsKeepTo, id_number, index_of, named_entry, newest_first, run_of, state_of}
 use Rattle.cs_index.proofs.Marks.{keep_entries, newer_keep, run_keeps}

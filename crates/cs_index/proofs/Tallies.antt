@@ -9,21 +9,21 @@ use Rattle.cs_frame.specs.declared.locators.Locator.{Locator}
 use Rattle.cs_frame.specs.Formats.{place_of}
 use Rattle.cs_index.specs.Held.{AreCounts, one_on}
 use Rattle.cs_index.specs.Sorted.{IsMergedTo, live_entry}
-use Rattle.cs_index.specs.declared.runs.StoredRun.{StoredRun}
+use Rattle.cs_index.specs.declared.stored_runs.StoredRun.{StoredRun}
 use Rattle.cs_index.specs.Merges.{part}
 use Rattle.cs_index.specs.State.{IsNext, IsShort, IsStored, State, index_of, named_entry, newest_first, state_of}
 use Rattle.cs_index.proofs.Merged.{live_left, merged_live, merged_step, run_few}
 use Rattle.cs_index.proofs.Parts.{part_lookup}
 use Rattle.cs_index.proofs.Sorted.{all_append, take_at_get}
 use Rattle.cs_index.proofs.Whole.{Entries, short_in, short_runs}
-use Rattle.cs_model.proofs.Counting.{ascending_lookup, ascending_tail, lookup_here, lookup_there, none_below}
-use Rattle.cs_model.proofs.Sorted.{sorted_live}
-use Rattle.cs_model.proofs.Tallies.{counts, counts_alike}
-use Rattle.cs_model.specs.Element.{Entry, Locator as Place, Run}
-use Rattle.cs_model.specs.Index.{Ascending, IsMergedRun, entries_of, live, live_at, lookup, names}
-use Rattle.cs_model.specs.Merges.{IsRunOf}
-use Rattle.cs_model.specs.Lists.{◌∈◌}
-use Rattle.cs_model.specs.Tally.{lives_on, places_on}
+use Rattle.law_machine.proofs.Counting.{ascending_lookup, ascending_tail, lookup_here, lookup_there, none_below}
+use Rattle.law_machine.proofs.Sorted.{sorted_live}
+use Rattle.law_machine.proofs.Tallies.{counts, counts_alike}
+use Rattle.law_machine.specs.Element.{Entry, Locator as Place, Run}
+use Rattle.law_machine.specs.Index.{Ascending, IsMergedRun, entries_of, live, live_at, lookup, names}
+use Rattle.law_machine.specs.Merges.{IsRunOf}
+use Rattle.law_machine.specs.Lists.{◌∈◌}
+use Rattle.law_machine.specs.Tally.{lives_on, places_on}
 
 -- ---- places of a list
 

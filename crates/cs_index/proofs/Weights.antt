@@ -3,15 +3,15 @@ use Rattle.std.proofs.Common.{◌≡◌, ◌≢◌, ℕ, suc, ◌+◌, ◌-◌, 
 use Rattle.std.specs.Prelude.{is_some, map, ◌^◌}
 use Rattle.std.proofs.lemmas.List.{length-map}
 use Rattle.std.specs.List.{AllByRecursion}
-use Rattle.cs_model.proofs.Counting.{ascending_names}
-use Rattle.cs_model.proofs.Shapes.{is_weighing}
-use Rattle.cs_model.proofs.Tallies.{counts_alike}
-use Rattle.cs_model.proofs.Weights.{ascending_weight, named_parts, names_weigh, none_dead, weighs, weight_alike, weight_deletion, weight_one, weight_replaced, weight_some}
-use Rattle.cs_model.specs.Element.{Entry, Locator as Place, Run}
-use Rattle.cs_model.specs.Geometry.{marks_in, most_weight_in, weigh_in}
-use Rattle.cs_model.specs.Index.{entries_of, live, live_at, lookup, named_weight, names, run_weight, weight, weight_with}
-use Rattle.cs_model.specs.Merges.{IsRunOf}
-use Rattle.cs_model.specs.Tally.{dead_weight, living_weight, weight_if_some}
+use Rattle.law_machine.proofs.Counting.{ascending_names}
+use Rattle.law_machine.proofs.Shapes.{is_weighing}
+use Rattle.law_machine.proofs.Tallies.{counts_alike}
+use Rattle.law_machine.proofs.Weights.{ascending_weight, named_parts, names_weigh, none_dead, weighs, weight_alike, weight_deletion, weight_one, weight_replaced, weight_some}
+use Rattle.law_machine.specs.Element.{Entry, Locator as Place, Run}
+use Rattle.law_machine.specs.Geometry.{marks_in, most_weight_in, weigh_in}
+use Rattle.law_machine.specs.Index.{entries_of, live, live_at, lookup, named_weight, names, run_weight, weight, weight_with}
+use Rattle.law_machine.specs.Merges.{IsRunOf}
+use Rattle.law_machine.specs.Tally.{dead_weight, living_weight, weight_if_some}
 use Rattle.cs_extent.specs.State.{State as ExtentsState, shape}
 use Rattle.cs_frame.proofs.RunWeights.{length_weighs}
 use Rattle.cs_frame.specs.declared.locators.Locator.{Locator}

@@ -4,10 +4,10 @@ use Rattle.cs_deps.specs.Staging.{Staging}
 use Rattle.cs_deps.specs.State.{State as GraphState}
 use Rattle.cs_extent.specs.State.{State as ExtentsState, extents_of, shape}
 use Rattle.cs_extent.specs.Worn.{IsFrameWornBy}
-use Rattle.cs_model.specs.Apart.{is_none}
-use Rattle.cs_model.specs.Device.{Shape}
-use Rattle.cs_model.specs.Element.{Entry}
-use Rattle.cs_model.specs.Extents.{ForMerge, ForRun, GoesApart, Purpose as Reason}
+use Rattle.law_machine.specs.Apart.{is_none}
+use Rattle.law_machine.specs.Device.{Shape}
+use Rattle.law_machine.specs.Element.{Entry}
+use Rattle.law_machine.specs.Extents.{ForMerge, ForRun, GoesApart, Purpose as Reason}
 use Rattle.cs_index.specs.Merges.{deletions_go, stage_takes}
 use Rattle.cs_index.specs.Staged.{IsPartStagedBy, IsRootWorn, WritesPart, run_frame}
 use Rattle.cs_index.specs.State.{State}

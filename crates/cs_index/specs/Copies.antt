@@ -2,12 +2,12 @@
 use Rattle.std.specs.Prelude.{◌≡◌, ◌⊎◌, ◌<◌, ◌≤◌, ◌∷◌, ◌++◌, ℕ, List, Option, Some, None, [], if◌then◌else◌}
 use Rattle.cs_frame.specs.declared.identifiers.ShardId.{ShardId}
 use Rattle.cs_frame.specs.Formats.{place_of}
-use Rattle.cs_index.specs.declared.copies.ChunkCopy.{ChunkCopy}
+use Rattle.cs_index.specs.declared.counted_copies.ChunkCopy.{ChunkCopy}
 use Rattle.cs_index.specs.State.{State, id_number, index_of}
-use Rattle.cs_model.specs.Apart.{is_place}
-use Rattle.cs_model.specs.Element.{Copy, Entry, Locator as Place}
-use Rattle.cs_model.specs.Index.{entries_of, live_at, lookup}
-use Rattle.cs_model.specs.Lists.{nth, replaced}
+use Rattle.law_machine.specs.Apart.{is_place}
+use Rattle.law_machine.specs.Element.{Copy, Entry, Locator as Place}
+use Rattle.law_machine.specs.Index.{entries_of, live_at, lookup}
+use Rattle.law_machine.specs.Lists.{nth, replaced}
 
 -- a copy of a chunk in the words of the machine
 abbrev pub copy_of : ChunkCopy → Copy

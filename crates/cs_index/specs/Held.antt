@@ -6,10 +6,10 @@ use Rattle.cs_frame.specs.Places.{Listed}
 use Rattle.cs_index.specs.declared.live.Cleared.{Cleared}
 use Rattle.cs_index.specs.Live.{IsClear}
 use Rattle.cs_index.specs.State.{IsId, IsWhole, State, index_of}
-use Rattle.cs_model.specs.Element.{Entry}
-use Rattle.cs_model.specs.Geometry.{weigh_in}
-use Rattle.cs_model.specs.Index.{named_weight, names}
-use Rattle.cs_model.specs.Tally.{lives_on, shards}
+use Rattle.law_machine.specs.Element.{Entry}
+use Rattle.law_machine.specs.Geometry.{weigh_in}
+use Rattle.law_machine.specs.Index.{named_weight, names}
+use Rattle.law_machine.specs.Tally.{lives_on, shards}
 
 -- 1 where it is this extent, else 0
 abbrev pub one_on : (extent e : ℕ) → ℕ

@@ -2,9 +2,9 @@
 use Rattle.std.specs.Prelude.{◌≡◌, ◌≢◌, ◌⊎◌, ◌<◌, ◌≤◌, ℕ, List, Option, Some, option_map}
 use Rattle.cs_index.specs.declared.live.Cleared.{Cleared}
 use Rattle.cs_index.specs.State.{IsAfter, id_number}
-use Rattle.cs_model.specs.Element.{Entry, Locator as Place}
-use Rattle.cs_model.specs.Index.{live_at}
-use Rattle.cs_model.specs.Lists.{nth}
+use Rattle.law_machine.specs.Element.{Entry, Locator as Place}
+use Rattle.law_machine.specs.Index.{live_at}
+use Rattle.law_machine.specs.Lists.{nth}
 
 -- none of these places is on the extent
 abbrev pub NoneOn : List Place → ℕ → Type 0

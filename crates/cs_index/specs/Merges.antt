@@ -1,10 +1,10 @@
 -- What staging an index merges: the table and so many of the newest runs.
 use Rattle.std.specs.Prelude.{◌*◌, ◌++◌, ◌&&◌, ◌||◌, ℕ, Bool, List, length, take, nat_le, nat_lt, if◌then◌else◌}
-use Rattle.cs_model.specs.Device.{Shape}
-use Rattle.cs_model.specs.Element.{Entry}
-use Rattle.cs_model.specs.Index.{entries_of, names}
-use Rattle.cs_model.specs.Merges.{reaching, sizes}
-use Rattle.cs_model.specs.Tally.{dead_weight}
+use Rattle.law_machine.specs.Device.{Shape}
+use Rattle.law_machine.specs.Element.{Entry}
+use Rattle.law_machine.specs.Index.{entries_of, names}
+use Rattle.law_machine.specs.Merges.{reaching, sizes}
+use Rattle.law_machine.specs.Tally.{dead_weight}
 use Rattle.cs_index.specs.State.{State, index_of}
 
 -- the entries of the table and of the newest k runs

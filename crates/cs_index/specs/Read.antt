@@ -3,11 +3,11 @@ use Rattle.std.specs.Prelude.{◌≡◌, ℕ, ◌≤◌, ◌++◌, List, Option,
 use Rattle.std.specs.List.{AllByRecursion}
 use Rattle.cs_frame.specs.declared.identifiers.ShardId.{ShardId}
 use Rattle.cs_frame.specs.Places.{Listed}
-use Rattle.cs_index.specs.declared.runs.StoredRun.{StoredRun}
+use Rattle.cs_index.specs.declared.stored_runs.StoredRun.{StoredRun}
 use Rattle.cs_index.specs.Sorted.{IsPlace, IsStart}
 use Rattle.cs_index.specs.State.{IsShort, IsStored, id_number, named_entry, newest_first}
-use Rattle.cs_model.specs.Element.{Entry}
-use Rattle.cs_model.specs.Index.{Ascending, entries_of}
+use Rattle.law_machine.specs.Element.{Entry}
+use Rattle.law_machine.specs.Index.{Ascending, entries_of}
 
 -- entries, the last of each identifier first, and after which identifier reading goes on
 pub record Reading : Type 0 where

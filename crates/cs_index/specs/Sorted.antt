@@ -1,8 +1,8 @@
 -- Places in sorted entries.
 use Rattle.std.specs.Prelude.{◌≡◌, ℕ, ◌<◌, ◌≤◌, ◌==◌, Bool, true, false, List, [], ◌∷◌, Option, Some, None, length, take, drop, nat_lt, if◌then◌else◌}
 use Rattle.std.specs.List.{AllByRecursion}
-use Rattle.cs_model.specs.Element.{Entry, Locator as Place}
-use Rattle.cs_model.specs.Index.{Ascending, if_live, lookup}
+use Rattle.law_machine.specs.Element.{Entry, Locator as Place}
+use Rattle.law_machine.specs.Index.{Ascending, if_live, lookup}
 use Rattle.cs_index.specs.State.{IsAfter, IsShort}
 
 -- the entries before place k have lesser identifiers than this one, and those from it on have none that is less

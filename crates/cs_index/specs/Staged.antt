@@ -2,8 +2,8 @@
 use Rattle.std.specs.Prelude.{◌≡◌, ◌≢◌, ◌⊎◌, ◌↔◌, ◌+◌, ◌^◌, ◌≤◌, ◌∷◌, ℕ, Bool, false, List, [], Some, Result, Ok, Err, drop, length, map, reverse, slice_index}
 use Rattle.cs_deps.specs.declared.elements.Element.{Element}
 use Rattle.cs_deps.specs.declared.elements.Element.TheVariants.{Version}
-use Rattle.cs_deps.specs.declared.refusals.Refusal.{Refusal}
-use Rattle.cs_deps.specs.declared.refusals.Refusal.TheVariants.{Full, OutOfMemory, WornOut}
+use Rattle.cs_refusal.specs.declared.refusals.Refusal.{Refusal}
+use Rattle.cs_refusal.specs.declared.refusals.Refusal.TheVariants.{Full, OutOfMemory, WornOut}
 use Rattle.cs_deps.specs.Named.{Named, Names}
 use Rattle.cs_deps.specs.Staging.{IsVersionStaged, Staging}
 use Rattle.cs_deps.specs.State.{AddsOnly, State as GraphState, write_of}
@@ -14,13 +14,13 @@ use Rattle.cs_extent.specs.Worn.{IsFrameWorn}
 use Rattle.cs_frame.specs.declared.locators.Locator.{Locator}
 use Rattle.cs_frame.specs.Formats.{as_locator, formats_of}
 use Rattle.cs_frame.specs.Roots.{SpellsRoot}
-use Rattle.cs_model.specs.Device.{Shape}
-use Rattle.cs_model.specs.Element.{Entry, Locator as Place, Run}
-use Rattle.cs_model.specs.Extents.{ForRun, NoPlace, Purpose as Reason}
-use Rattle.cs_model.specs.Formats.{RunFrame, places}
-use Rattle.cs_model.specs.Geometry.{pages_first_in}
-use Rattle.cs_model.specs.Index.{IsMergedRun, IsTableRun, live_at}
-use Rattle.cs_model.specs.Merges.{IsRunOf}
+use Rattle.law_machine.specs.Device.{Shape}
+use Rattle.law_machine.specs.Element.{Entry, Locator as Place, Run}
+use Rattle.law_machine.specs.Extents.{ForRun, NoPlace, Purpose as Reason}
+use Rattle.law_machine.specs.Formats.{RunFrame, places}
+use Rattle.law_machine.specs.Geometry.{pages_first_in}
+use Rattle.law_machine.specs.Index.{IsMergedRun, IsTableRun, live_at}
+use Rattle.law_machine.specs.Merges.{IsRunOf}
 use Rattle.cs_index.specs.Merges.{deletions_go, part, stage_takes}
 use Rattle.cs_index.specs.State.{State, index_of}
 

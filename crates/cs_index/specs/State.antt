@@ -6,10 +6,10 @@ use Rattle.cs_frame.specs.declared.identifiers.ShardId.{ShardId}
 use Rattle.cs_frame.specs.Formats.{place_of}
 pub use Rattle.cs_frame.specs.Identifiers.{id_number}
 use Rattle.cs_frame.specs.Places.{Listed}
-use Rattle.cs_index.specs.declared.runs.StoredRun.{StoredRun}
-use Rattle.cs_model.specs.Element.{Entry, Locator as Place, Run}
-use Rattle.cs_model.specs.Geometry.{marks_in, weigh_in}
-use Rattle.cs_model.specs.Index.{Ascending, entries_of, live_at, lookup, named_weight}
+use Rattle.cs_index.specs.declared.stored_runs.StoredRun.{StoredRun}
+use Rattle.law_machine.specs.Element.{Entry, Locator as Place, Run}
+use Rattle.law_machine.specs.Geometry.{marks_in, weigh_in}
+use Rattle.law_machine.specs.Index.{Ascending, entries_of, live_at, lookup, named_weight}
 
 -- sixteen bytes
 pub record IsId (id : ShardId) : Type 0 where

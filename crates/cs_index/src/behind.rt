@@ -4,12 +4,12 @@ ghost use Rattle.cs_frame.specs.Formats.{place_of};
 ghost use Rattle.cs_index.specs.Copies.{FirstBehind, NoneBehind, numbered};
 ghost use Rattle.cs_index.specs.Live.{IsFirstOnBehind, NoneOnBehind};
 ghost use Rattle.cs_index.specs.State.{id_number, index_of};
-ghost use Rattle.cs_model.specs.Apart.{any_run_on};
-ghost use Rattle.cs_model.specs.Index.{live_at};
+ghost use Rattle.law_machine.specs.Apart.{any_run_on};
+ghost use Rattle.law_machine.specs.Index.{live_at};
 
 use crate::indexes::Index;
 use crate::live::{LiveChunk, first_on_behind, search_behind};
-use crate::runs::lies_on;
+use crate::stored_runs::lies_on;
 use cs_frame::{Locator, ShardId};
 
 impl Index {

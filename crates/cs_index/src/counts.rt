@@ -4,14 +4,14 @@ ghost use Rattle.cs_frame.specs.Formats.{place_of};
 ghost use Rattle.cs_index.specs.Read.{IsReadable};
 ghost use Rattle.cs_index.specs.Held.{AreCounts, one_on};
 ghost use Rattle.cs_index.specs.State.{id_number, named_entry, newest_first};
-ghost use Rattle.cs_model.specs.Geometry.{weigh_in};
-ghost use Rattle.cs_model.specs.Index.{entries_of, live_at, lookup, named_weight, names};
-ghost use Rattle.cs_model.specs.Tally.{lives_on, one_if_some, places_on, shards};
+ghost use Rattle.law_machine.specs.Geometry.{weigh_in};
+ghost use Rattle.law_machine.specs.Index.{entries_of, live_at, lookup, named_weight, names};
+ghost use Rattle.law_machine.specs.Tally.{lives_on, one_if_some, places_on, shards};
 
 use crate::entries::entries_from;
-use crate::runs::{StoredRun, find_in_runs};
+use crate::stored_runs::{StoredRun, find_in_runs};
 use crate::tables::find;
-use cs_frame::{Locator, Places, ShardId, entry_weight};
+use cs_frame::{Format, Locator, Places, ShardId, entry_weight};
 
 /// 1 where there is a locator, 0 where there is none.
 pub fn one_if_living(locators: &[Locator]) -> usize
@@ -132,7 +132,7 @@ pub struct Newest {
 
 /// Counts the identifiers that a table and runs name, which are listed oldest first, and weighs the newest entry of each in this format.
 /// Reads all entries.
-pub fn count_newest(table: &[(ShardId, Places)], runs: &[StoredRun], format: u8) -> Newest
+pub fn count_newest(table: &[(ShardId, Places)], runs: &[StoredRun], format: Format) -> Newest
     requires readable { IsReadable table.now runs.now }
     requires few { names (map named_entry table.now ++ entries_of (newest_first runs.now)) < 2 ^ 40 }
     ensures named { result.named ≡ names (map named_entry table.now ++ entries_of (newest_first runs.now)) }

@@ -2,12 +2,12 @@
 ghost use Rattle.std.specs.Prelude.{◌≡◌, ◌≤◌, ◌++◌, ℕ, IfSome, None, Option, Some, length, map, option_copied, option_map, slice_get};
 ghost use Rattle.std.specs.List.{AllByRecursion};
 ghost use Rattle.cs_frame.specs.Formats.{place_of};
-ghost use Rattle.cs_model.specs.Index.{Ascending, entries_of};
+ghost use Rattle.law_machine.specs.Index.{Ascending, entries_of};
 ghost use Rattle.cs_index.specs.Read.{ArePlaces, AreStarts, IsReadable};
 ghost use Rattle.cs_index.specs.Sorted.{IsPlace, IsStart, first_of};
 ghost use Rattle.cs_index.specs.State.{IsNext, IsStored, id_number, named_entry, newest_first};
 
-use crate::runs::StoredRun;
+use crate::stored_runs::StoredRun;
 use crate::tables::{is_at, is_before, place};
 use cs_frame::{Locator, Places, ShardId};
 use std::marker::Model;

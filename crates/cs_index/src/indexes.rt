@@ -3,19 +3,19 @@ ghost use Rattle.std.specs.Prelude.{◌≡◌, ◌≢◌, ℕ, ◌+◌, ◌<◌,
 ghost use Rattle.std.specs.List.{AllByRecursion};
 ghost use Rattle.cs_frame.specs.Locators.{KeepFormat};
 ghost use Rattle.cs_frame.specs.Runs.{IsRun};
-ghost use Rattle.cs_model.specs.Geometry.{weigh_in};
-ghost use Rattle.cs_model.specs.Index.{FirstLive, NothingLive, entries_of, live_at, lookup, named_weight, names, weight, weight_with};
-ghost use Rattle.cs_model.specs.Tally.{lives_on, one_if_some};
+ghost use Rattle.law_machine.specs.Geometry.{weigh_in};
+ghost use Rattle.law_machine.specs.Index.{FirstLive, NothingLive, entries_of, live_at, lookup, named_weight, names, weight, weight_with};
+ghost use Rattle.law_machine.specs.Tally.{lives_on, one_if_some};
 ghost use Rattle.cs_frame.specs.Formats.{place_of};
 ghost use Rattle.cs_index.specs.State.{IsSet, IsWhole, id_number, index_of, newest_first};
 
 use crate::counts::{MOST_EXTENTS, count_living, count_newest, one_if_living, recount, sum_after};
 use crate::entries::{Entries, entries_after, entries_from};
 use crate::live::{Cleared, LiveChunk, NONE_KNOWN, known_up_to, search, still_cleared};
-use crate::runs::{StoredRun, are_ids, count_after, find_in_runs};
+use crate::stored_runs::{StoredRun, are_ids, count_after, find_in_runs};
 use crate::tables::{find, put};
-use cs_deps::Refusal;
-use cs_frame::{Locator, Places, Run, ShardId, entry_weight};
+use cs_frame::{Format, Locator, Places, Run, ShardId, entry_weight};
+use cs_refusal::Refusal;
 use std::alloc::{AllocError, Global};
 use std::marker::Model;
 
@@ -35,7 +35,7 @@ pub struct Index {
     /// How many chunks live on each extent that a store can have.
     pub(crate) on: Vec<u32>,
     /// The format of the store.
-    pub(crate) format: u8,
+    pub(crate) format: Format,
     /// What they may weigh.
     pub(crate) limit: usize,
     /// So many more entries of the table have their place already.
@@ -72,7 +72,7 @@ impl Index {
     /// have. Reads all entries in order twice.
     pub fn load(
         alloc: Global,
-        format: u8,
+        format: Format,
         limit: usize,
         runs: Vec<StoredRun>,
     ) -> Result<Index, Refusal>
@@ -180,7 +180,7 @@ impl Index {
     }
 
     /// The format of the store.
-    pub fn format(&self) -> u8
+    pub fn format(&self) -> Format
         ensures { result ≡ self.now.format }
     {
         self.format

@@ -6,26 +6,26 @@
 //! all are read in order, table and runs side by side.
 #![tactic(auto)]
 
-mod apart;
 mod behind;
-mod copies;
+mod counted_copies;
 mod counts;
 mod entries;
+mod index_laws;
 mod indexes;
-mod laws;
 mod live;
 mod mergers;
 mod places;
 mod reach;
-mod runs;
 mod runs_apart;
 mod stages;
+mod stages_apart;
 mod stagings;
+mod stored_runs;
 mod tables;
 
-pub use copies::ChunkCopy;
+pub use counted_copies::ChunkCopy;
 pub use entries::Entries;
+pub use index_laws::stages_without_sizes;
 pub use indexes::Index;
-pub use laws::stages_without_sizes;
 pub use live::LiveChunk;
-pub use runs::StoredRun;
+pub use stored_runs::StoredRun;

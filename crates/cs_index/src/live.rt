@@ -3,7 +3,7 @@ ghost use Rattle.std.specs.Prelude.{◌≡◌, ◌⊎◌, ◌<◌, ◌↔◌, If
 ghost use Rattle.cs_frame.specs.Formats.{place_of};
 ghost use Rattle.cs_index.specs.Live.{FirstAfter, IsFirstOn, IsFirstOnBehind, NoneAfter, NoneOn, NoneOnBehind, NoneUpTo};
 ghost use Rattle.cs_index.specs.State.{IsAfter, IsId, id_number};
-ghost use Rattle.cs_model.specs.Index.{FirstLive, NothingLive};
+ghost use Rattle.law_machine.specs.Index.{FirstLive, NothingLive};
 
 use crate::entries::Entries;
 use crate::tables::is_before;

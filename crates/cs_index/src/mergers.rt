@@ -1,15 +1,15 @@
 //! The run of a table and of runs.
 ghost use Rattle.std.specs.Prelude.{◌≡◌, ◌≤◌, ◌∷◌, ◌++◌, [], IfOk, OnOk, length, map};
 ghost use Rattle.std.specs.List.{AllByRecursion};
-ghost use Rattle.cs_model.specs.Index.{entries_of};
-ghost use Rattle.cs_model.specs.Merges.{IsRunOf};
+ghost use Rattle.law_machine.specs.Index.{entries_of};
+ghost use Rattle.law_machine.specs.Merges.{IsRunOf};
 ghost use Rattle.cs_index.specs.Read.{IsReadable};
 ghost use Rattle.cs_index.specs.Sorted.{kept_entry, live_entry};
 ghost use Rattle.cs_frame.specs.Formats.{place_of};
 ghost use Rattle.cs_index.specs.State.{IsId, IsShort, id_number, named_entry, newest_first};
 
 use crate::entries::entries_from;
-use crate::runs::StoredRun;
+use crate::stored_runs::StoredRun;
 use cs_frame::{Locator, Places, Run, ShardId};
 use std::alloc::{AllocError, Global};
 

@@ -2,8 +2,8 @@
 ghost use Rattle.std.specs.Prelude.{◌≡◌, ◌≢◌, ◌⊎◌, ◌↔◌, ◌<◌, ◌≤◌, ℕ, [], IsTrue, MatchBool, MatchOption, length, map};
 ghost use Rattle.std.specs.List.{AllByRecursion};
 ghost use Rattle.cs_extent.specs.State.{extents_of, shape};
-ghost use Rattle.cs_model.specs.Extents.{ForMerge, ForRun, GoesApart, IsFirst, IsFirstEmpty, Takes};
-ghost use Rattle.cs_model.specs.Index.{run_weight};
+ghost use Rattle.law_machine.specs.Extents.{ForMerge, ForRun, GoesApart, IsFirst, IsFirstEmpty, Takes};
+ghost use Rattle.law_machine.specs.Index.{run_weight};
 ghost use Rattle.cs_index.specs.Staged.{run_frame};
 ghost use Rattle.cs_index.specs.State.{IsShort, named_entry};
 

@@ -2,25 +2,10 @@
 ghost use Rattle.std.specs.Prelude.{◌≡◌, ◌+◌, ◌*◌, ◌^◌, ◌<◌, ◌≤◌, ◌&&◌, ◌||◌, if◌then◌else◌, length, nat_le, nat_lt};
 ghost use Rattle.std.specs.List.{AllByRecursion};
 ghost use Rattle.cs_index.specs.State.{newest_first};
-ghost use Rattle.cs_model.specs.Device.{Shape};
-ghost use Rattle.cs_model.specs.Geometry.{by_size_in};
-ghost use Rattle.cs_model.specs.Merges.{reaching, sizes};
+ghost use Rattle.law_machine.specs.Device.{Shape};
+ghost use Rattle.law_machine.specs.Merges.{reaching, sizes};
 
-use crate::runs::StoredRun;
-
-/// Whether a Stage merges by size in a store of this format.
-pub fn merges_by_size(format: u8) -> bool
-    ensures { result ≡ by_size_in format }
-{
-    2 < format
-}
-
-/// How many runs a root has at most in a store of this format.
-pub fn most_runs(format: u8) -> usize
-    ensures { result ≡ (if nat_le format 2 then 4 else 24) }
-{
-    if format <= 2 { 4 } else { 24 }
-}
+use crate::stored_runs::StoredRun;
 
 /// Whether a run of so many entries is merged with so many, where so many runs are left with it and there may be so many: one
 /// that has at most twice as many entries, and one that would be one too many.

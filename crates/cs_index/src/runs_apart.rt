@@ -11,17 +11,18 @@ ghost use Rattle.cs_frame.specs.Geometries.{IsKnown};
 ghost use Rattle.cs_frame.specs.Locators.{KeepFormat};
 ghost use Rattle.cs_frame.specs.Roots.{greatest_runs};
 ghost use Rattle.cs_frame.specs.Runs.{IsRun};
-ghost use Rattle.cs_model.specs.Extents.{GoesApart};
-ghost use Rattle.cs_model.specs.Geometry.{pages_first_in};
-ghost use Rattle.cs_model.specs.Index.{run_weight};
+ghost use Rattle.law_machine.specs.Extents.{GoesApart};
+ghost use Rattle.law_machine.specs.Geometry.{pages_first_in};
+ghost use Rattle.law_machine.specs.Index.{run_weight};
 ghost use Rattle.cs_index.specs.Staged.{IsExact, IsRootOver, IsRootWorn, IsRunStagedBy, run_frame};
 ghost use Rattle.cs_index.specs.State.{named_entry, newest_first};
 
-use crate::runs::StoredRun;
 use crate::stagings::{frame_of, is_last_root, stage_root};
-use cs_deps::{Graph, Refusal};
+use crate::stored_runs::StoredRun;
+use cs_deps::Graph;
 use cs_extent::{Extents, Purpose};
-use cs_frame::{Locator, Run};
+use cs_frame::{Format, Locator, Run};
+use cs_refusal::Refusal;
 use std::alloc::{AllocError, Global};
 
 /// Where the frames of these runs begin, with room for one more.
@@ -150,7 +151,7 @@ pub fn stage_run_apart(
 pub fn stage_over(
     alloc: Global,
     graph: &mut Graph,
-    format: u8,
+    format: Format,
     pages_first: bool,
     runs: &[StoredRun],
     commands: u64,

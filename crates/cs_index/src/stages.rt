@@ -6,13 +6,13 @@ ghost use Rattle.cs_extent.specs.Purposes.{reason_of};
 ghost use Rattle.cs_extent.specs.State.{extents_of, shape};
 ghost use Rattle.cs_extent.specs.Worn.{IsFrameWorn};
 ghost use Rattle.cs_frame.specs.Roots.{greatest_runs};
-ghost use Rattle.cs_model.specs.Device.{Shape};
-ghost use Rattle.cs_model.specs.Element.{Locator as Place};
-ghost use Rattle.cs_model.specs.Extents.{ForRun, NoPlace};
-ghost use Rattle.cs_model.specs.Geometry.{by_size_in, weigh_in};
-ghost use Rattle.cs_model.specs.Index.{live_at, lookup, named_weight, run_weight};
-ghost use Rattle.cs_model.specs.Merges.{IsRunOf};
-ghost use Rattle.cs_model.specs.Tally.{dead_weight, living_weight};
+ghost use Rattle.law_machine.specs.Device.{Shape};
+ghost use Rattle.law_machine.specs.Element.{Locator as Place};
+ghost use Rattle.law_machine.specs.Extents.{ForRun, NoPlace};
+ghost use Rattle.law_machine.specs.Geometry.{by_size_in, weigh_in};
+ghost use Rattle.law_machine.specs.Index.{live_at, lookup, named_weight, run_weight};
+ghost use Rattle.law_machine.specs.Merges.{IsRunOf};
+ghost use Rattle.law_machine.specs.Tally.{dead_weight, living_weight};
 ghost use Rattle.cs_index.specs.Merges.{deletions_go, part, reached, stage_takes};
 ghost use Rattle.cs_index.specs.Staged.{IsExact, IsFull, IsMergeStaged, IsNewestStaged, IsPartStaged, IsRootWorn, IsRunStaged, IsStageWorn, WritesMerged, WritesPart, WritesRun, run_frame};
 ghost use Rattle.cs_index.specs.State.{IsId, IsShort, index_of, named_entry};
@@ -20,12 +20,13 @@ ghost use Rattle.cs_index.specs.State.{IsId, IsShort, index_of, named_entry};
 use crate::indexes::Index;
 use crate::live::NONE_KNOWN;
 use crate::mergers::merged_part;
-use crate::reach::{lets_deletions_go, merges_by_size, most_runs, newest_reached};
-use crate::runs::StoredRun;
+use crate::reach::{lets_deletions_go, newest_reached};
 use crate::stagings::{run_fits, stage_empty, stage_run};
-use cs_deps::{Graph, Refusal};
+use crate::stored_runs::StoredRun;
+use cs_deps::Graph;
 use cs_extent::{Extents, Purpose};
-use cs_frame::{Run, entry_weight};
+use cs_frame::{Format, Run, entry_weight};
+use cs_refusal::Refusal;
 use std::alloc::{AllocError, Global};
 use std::mem::replace;
 
@@ -72,12 +73,12 @@ impl Index {
     }
 
     /// How many of the newest runs a Stage merges in a store of this format.
-    fn newest_to_merge(&self, format: u8) -> usize
+    fn newest_to_merge(&self, format: Format) -> usize
         requires { self.now.limit < 2 ^ 32 }
         ensures { (S : Shape) → S.by_size ≡ by_size_in format → S.weigh ≡ weigh_in self.now.format → S.most_weight ≡ self.now.limit → S.most_runs ≡ (if nat_le format 2 then 4 else 24) → result ≡ stage_takes S self.now }
     {
-        if merges_by_size(format) {
-            return self.newest_by_size(most_runs(format));
+        if format.merges_by_size() {
+            return self.newest_by_size(format.greatest_runs());
         }
         let runs = self.run_count();
         if runs < 4 { 0 } else { runs }
@@ -96,7 +97,7 @@ impl Index {
         let format = extents.geometry().format();
         let newest = self.newest_to_merge(format);
         let runs = self.run_count();
-        let by_size = merges_by_size(format);
+        let by_size = format.merges_by_size();
         Portion {
             newest,
             without_deletions: lets_deletions_go(runs, newest, by_size),

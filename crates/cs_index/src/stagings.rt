@@ -13,19 +13,21 @@ ghost use Rattle.cs_frame.specs.Geometries.{IsKnown};
 ghost use Rattle.cs_frame.specs.Locators.{KeepFormat};
 ghost use Rattle.cs_frame.specs.Roots.{greatest_runs};
 ghost use Rattle.cs_frame.specs.Runs.{IsRun, entries_of};
-ghost use Rattle.cs_model.specs.Extents.{NoPlace, Placed};
-ghost use Rattle.cs_model.specs.Geometry.{pages_first_in};
-ghost use Rattle.cs_model.specs.Index.{run_weight};
+ghost use Rattle.law_machine.specs.Extents.{NoPlace, Placed};
+ghost use Rattle.law_machine.specs.Geometry.{pages_first_in};
+ghost use Rattle.law_machine.specs.Index.{run_weight};
 ghost use Rattle.cs_index.specs.Staged.{IsExact, IsRootOver, IsRootWorn, IsRunStaged, IsWhy, run_frame};
 ghost use Rattle.cs_frame.specs.Formats.{place_of};
 ghost use Rattle.cs_index.specs.State.{IsShort, named_entry, newest_first};
 
-use crate::runs::StoredRun;
-use cs_deps::{Graph, LAST_NUMBER, Refusal};
+use crate::stored_runs::StoredRun;
+use cs_deps::{Graph, LAST_NUMBER};
 use cs_extent::{Extents, Purpose, ROOT, root_needs};
 use cs_frame::{
-    FrameKind, Locator, Root, Run, encode_frame, encode_root, encode_run, frame_pages, run_size,
+    Format, FrameKind, Locator, Root, Run, encode_frame, encode_root, encode_run, frame_pages,
+    run_size,
 };
+use cs_refusal::Refusal;
 use std::alloc::{AllocError, Global};
 
 /// Whether the last number of a root is given.
@@ -41,7 +43,7 @@ pub fn is_last_root(graph: &Graph) -> bool
 pub fn stage_root(
     alloc: Global,
     graph: &mut Graph,
-    format: u8,
+    format: Format,
     pages_first: bool,
     places: Vec<Locator>,
     commands: u64,
@@ -74,7 +76,7 @@ pub fn stage_root(
 }
 
 /// The pages that spell a run in this format.
-pub fn frame_of(alloc: Global, format: u8, run: &Run) -> Result<Vec<[u8; 4096]>, AllocError>
+pub fn frame_of(alloc: Global, format: Format, run: &Run) -> Result<Vec<[u8; 4096]>, AllocError>
     requires run { IsRun format run.now }
     requires most { run_size format (entries_of run.now.entries.items) < 2 ^ 32 }
     ensures frame { IfOk result (λ frame. (x : ExtentsState) → x.format ≡ format → frame.items ≡ run_frame x (map named_entry run.now.entries.items)) }
@@ -245,7 +247,7 @@ pub fn stage_run(
 pub fn stage_empty(
     alloc: Global,
     graph: &mut Graph,
-    format: u8,
+    format: Format,
     pages_first: bool,
     commands: u64,
 ) -> Result<u64, Refusal>

@@ -1,8 +1,8 @@
 //! Sorted entries.
 ghost use Rattle.std.specs.Prelude.{◌≡◌, ◌≢◌, ◌+◌, ◌<◌, ◌≤◌, ◌==◌, Some, IfOk, IsOk, MatchBool, OnErr, OnOk, map, nat_lt, option_copied, option_map, slice_get, vec_capacity, vec_len};
-ghost use Rattle.cs_model.specs.Index.{Ascending, lookup};
+ghost use Rattle.law_machine.specs.Index.{Ascending, lookup};
 ghost use Rattle.std.specs.List.{AllByRecursion, insert as inserted};
-ghost use Rattle.cs_model.specs.Element.{Entry};
+ghost use Rattle.law_machine.specs.Element.{Entry};
 ghost use Rattle.cs_frame.specs.Formats.{place_of};
 ghost use Rattle.cs_index.specs.State.{IsId, id_number, named_entry};
 ghost use Rattle.cs_index.specs.Sorted.{IsPlace, IsPut};

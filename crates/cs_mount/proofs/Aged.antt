@@ -9,18 +9,18 @@ use Rattle.cs_frame.specs.declared.faults.FormatFault.{FormatFault}
 use Rattle.cs_frame.specs.FirstFormat.{page_zero_fault}
 use Rattle.cs_frame.specs.Geometries.{Dimensions, IsGeometry, device_pages}
 use Rattle.cs_frame.specs.Superblocks.{superblock_fault}
-use Rattle.cs_pair.specs.declared.findings.Finding.{Finding}
-use Rattle.cs_pair.specs.declared.pairs.Held.{Held}
-use Rattle.cs_pair.specs.declared.pairs.Pair.{Pair}
-use Rattle.cs_pair.specs.Findings.{finding_in, held_of}
-use Rattle.cs_pair.specs.Older.{lowered_state}
-use Rattle.cs_pair.specs.Pairs.{shown}
-use Rattle.cs_pair.specs.Showing.{findings_on, shown_on}
-use Rattle.cs_pair.specs.Stores.{dimensions_on, last_says, named, named_by, or_else, pages_of, pairs_where, root_version, store_pair, store_pairs, store_version, zero_said}
-use Rattle.cs_pair.proofs.Blank.{apart_of}
-use Rattle.cs_pair.proofs.Holding.{held_found}
-use Rattle.cs_pair.proofs.Roles.{shown_page-own}
-use Rattle.cs_pair.proofs.Shown.{page-shown}
+use Rattle.cs_twin.specs.declared.findings.Finding.{Finding}
+use Rattle.cs_twin.specs.declared.pairs.Held.{Held}
+use Rattle.cs_twin.specs.declared.pairs.Pair.{Pair}
+use Rattle.cs_twin.specs.Findings.{finding_in, held_of}
+use Rattle.cs_mount.specs.Lowered.{lowered_state}
+use Rattle.cs_twin.specs.Pairs.{shown}
+use Rattle.cs_mount.specs.Showing.{findings_on, shown_on}
+use Rattle.cs_mount.specs.StorePairs.{dimensions_on, last_says, named, named_by, or_else, pages_of, pairs_where, root_version, store_pair, store_pairs, store_version, zero_said}
+use Rattle.cs_mount.proofs.Blank.{apart_of}
+use Rattle.cs_twin.proofs.Holding.{held_found}
+use Rattle.cs_twin.proofs.Roles.{shown_page-own}
+use Rattle.cs_twin.proofs.Shown.{page-shown}
 use Rattle.cs_mount.specs.Older.{as_of, newest_root, older_on, root_found, version_found}
 
 -- ---- dimensions that are found are of format 3

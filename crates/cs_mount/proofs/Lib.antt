@@ -1,3 +1,15 @@
+pub mod Spelling
+pub mod Twins
+pub mod Unpaired
+pub mod Telling
+pub mod Mounting
+pub mod Lowering
+pub mod Sealing
+pub mod Aging
+pub mod Blank
+pub mod Refinding
+pub mod Keeping
+pub mod First
 pub mod Aged
 pub mod Looking
 pub mod Opened

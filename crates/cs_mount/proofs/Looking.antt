@@ -5,9 +5,9 @@ use Rattle.std.proofs.lemmas.Bool.{lt-ltb, ltb-true}
 use Rattle.std.proofs.lemmas.List.{get_or-map, length-map}
 use Rattle.std.proofs.lemmas.List.Elements.{Contains-get_or}
 use Rattle.std.proofs.lemmas.List.Folds.{Any-from_list_any, list_any_at}
-use Rattle.cs_deps.specs.Refusals.{number_of}
-use Rattle.cs_deps.specs.declared.refusals.Refusal.{Refusal}
-use Rattle.cs_deps.specs.declared.refusals.Refusal.TheVariants.{DeviceFault, NotAStore, Occupied, OutOfMemory}
+use Rattle.cs_refusal.specs.Refusals.{number_of}
+use Rattle.cs_refusal.specs.declared.refusals.Refusal.{Refusal}
+use Rattle.cs_refusal.specs.declared.refusals.Refusal.TheVariants.{DeviceFault, NotAStore, Occupied, OutOfMemory}
 use Rattle.cs_disk.specs.declared.fault.DiskFault.{DiskFault}
 use Rattle.cs_disk.specs.declared.fault.DiskFault.TheVariants as disk
 use Rattle.cs_disk.specs.Disk.{Image, State, page, seen}
@@ -15,16 +15,16 @@ use Rattle.cs_disk.specs.Faults.{disk_fault_number}
 use Rattle.cs_frame.specs.declared.faults.FormatFault.{FormatFault}
 use Rattle.cs_frame.specs.FirstFormat.{page_zero_fault}
 use Rattle.cs_frame.specs.Geometries.{Dimensions}
-use Rattle.cs_pair.specs.declared.findings.Finding.{Finding}
-use Rattle.cs_pair.specs.declared.pairs.Held.{Held}
-use Rattle.cs_pair.specs.declared.pairs.Pair.{Pair}
-use Rattle.cs_pair.specs.Findings.{finding_in}
-use Rattle.cs_pair.specs.Kept.{IsOfStore}
-use Rattle.cs_pair.specs.Pairs.{ArePairs, Versions, held_in}
-use Rattle.cs_pair.specs.Showing.{findings_on}
-use Rattle.cs_pair.specs.Stores.{dimensions_on, first_says, or_else, pages_of, store_pairs, store_version, zero_said}
-use Rattle.cs_pair.proofs.Holding.{held_found}
-use Rattle.cs_pair.proofs.Keeping.{made_of_store, not_both}
+use Rattle.cs_twin.specs.declared.findings.Finding.{Finding}
+use Rattle.cs_twin.specs.declared.pairs.Held.{Held}
+use Rattle.cs_twin.specs.declared.pairs.Pair.{Pair}
+use Rattle.cs_twin.specs.Findings.{finding_in}
+use Rattle.cs_mount.specs.OfStores.{IsOfStore}
+use Rattle.cs_twin.specs.Pairs.{ArePairs, Versions, held_in}
+use Rattle.cs_mount.specs.Showing.{findings_on}
+use Rattle.cs_mount.specs.StorePairs.{dimensions_on, first_says, or_else, pages_of, store_pairs, store_version, zero_said}
+use Rattle.cs_twin.proofs.Holding.{held_found}
+use Rattle.cs_mount.proofs.Keeping.{made_of_store, not_both}
 use Rattle.cs_mount.specs.Looks.{IsLeftOver, IsTaken, is_whole}
 
 -- a pair that was found with a whole half has one

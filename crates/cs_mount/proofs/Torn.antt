@@ -8,25 +8,25 @@ use Rattle.cs_core.specs.Meanings.{commands_said}
 use Rattle.cs_core.specs.Views.{IsCore, View}
 use Rattle.cs_disk.specs.declared.disk.PageDisk.{Ghosts as PageDisk}
 use Rattle.cs_disk.specs.Disk.{Image, MayLeave, State as DiskState, Write, applied, kept, page}
-use Rattle.cs_extent.specs.State.{shape}
+use Rattle.cs_core.specs.cs_extent.State.{shape}
 use Rattle.cs_frame.specs.FirstFormat.{SpellsPageZero}
 use Rattle.cs_frame.specs.Formats.{formats_of}
 use Rattle.cs_frame.specs.Geometries.{Dimensions, IsGeometry, section_size}
-use Rattle.cs_core.proofs.cs_image.Readable.{section_spelled}
-use Rattle.cs_model.specs.Element.{Map}
-use Rattle.cs_model.specs.Geometry.{shape_of}
-use Rattle.cs_model.specs.Recovery.{Recovers}
-use Rattle.cs_model.specs.State.{map_after}
-use Rattle.cs_pair.specs.declared.pairs.Pair.{Pair}
-use Rattle.cs_pair.specs.Kept.{IsOfStore}
-use Rattle.cs_pair.specs.Pairs.{AreNoOlder, shown, shown_state}
-use Rattle.cs_pair.specs.Showing.{shown_on}
-use Rattle.cs_pair.specs.Stores.{dimensions_on, pages_of, pairs_where, section_version, store_pairs, store_version}
-use Rattle.cs_pair.proofs.Refinding.{shows_again}
-use Rattle.cs_pair.proofs.Spelling.{section_read}
-use Rattle.cs_pair.proofs.Telling.{version_says}
-use Rattle.cs_pair.proofs.Unpaired.{torn_store_shows}
-use Rattle.cs_core.specs.cs_refine.Crashes.{IsPrefix, IsTornFrom}
+use Rattle.cs_core.proofs.law_refinement.Readable.{section_spelled}
+use Rattle.law_machine.specs.Element.{Map}
+use Rattle.law_machine.specs.Geometry.{shape_of}
+use Rattle.law_machine.specs.Recovery.{Recovers}
+use Rattle.law_machine.specs.State.{map_after}
+use Rattle.cs_twin.specs.declared.pairs.Pair.{Pair}
+use Rattle.cs_mount.specs.OfStores.{IsOfStore}
+use Rattle.cs_twin.specs.Pairs.{AreNoOlder, shown, shown_state}
+use Rattle.cs_mount.specs.Showing.{shown_on}
+use Rattle.cs_mount.specs.StorePairs.{dimensions_on, pages_of, pairs_where, section_version, store_pairs, store_version}
+use Rattle.cs_mount.proofs.Refinding.{shows_again}
+use Rattle.cs_mount.proofs.Spelling.{section_read}
+use Rattle.cs_mount.proofs.Telling.{version_says}
+use Rattle.cs_mount.proofs.Unpaired.{torn_store_shows}
+use Rattle.cs_core.specs.law_refinement.Crashes.{IsPrefix, IsTornFrom}
 use Rattle.cs_mount.specs.Torn.{MayTearStore, dimensions_of}
 
 -- a crash may lose all that is volatile

@@ -1,3 +1,9 @@
+pub mod StorePairs
+pub mod Showing
+pub mod Lowered
+pub mod OlderDisks
+pub mod OfStores
+pub mod TornStores
 pub mod Looks
 pub mod Older
 pub mod Torn

@@ -2,11 +2,11 @@
 use Rattle.std.specs.Prelude.{◌≡◌, ◌≢◌, ◌⊎◌, ◌-◌, ◌<◌, ℕ, Bool, List, Contains, None, nat_lt}
 use Rattle.cs_disk.specs.Disk.{Image, page}
 use Rattle.cs_frame.specs.FirstFormat.{page_zero_fault}
-use Rattle.cs_pair.specs.declared.findings.Finding.{Finding}
-use Rattle.cs_pair.specs.declared.pairs.Pair.{Pair}
-use Rattle.cs_pair.specs.Findings.{held_of}
-use Rattle.cs_pair.specs.Pairs.{Versions, held_in}
-use Rattle.cs_pair.specs.Stores.{first_says}
+use Rattle.cs_twin.specs.declared.findings.Finding.{Finding}
+use Rattle.cs_twin.specs.declared.pairs.Pair.{Pair}
+use Rattle.cs_twin.specs.Findings.{held_of}
+use Rattle.cs_twin.specs.Pairs.{Versions, held_in}
+use Rattle.cs_mount.specs.StorePairs.{first_says}
 
 -- one of the halves that were found is whole
 abbrev pub is_whole : Finding → Bool

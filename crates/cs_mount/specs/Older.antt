@@ -2,11 +2,11 @@
 use Rattle.std.specs.Prelude.{ℕ, List, Option, Some, None, slice_get}
 use Rattle.cs_disk.specs.Disk.{Image, page}
 use Rattle.cs_frame.specs.Geometries.{Dimensions}
-use Rattle.cs_pair.specs.declared.findings.Finding.{Finding}
-use Rattle.cs_pair.specs.Findings.{held_of}
-use Rattle.cs_pair.specs.Older.{lowered}
-use Rattle.cs_pair.specs.Showing.{shown_on}
-use Rattle.cs_pair.specs.Stores.{dimensions_on, root_version}
+use Rattle.cs_twin.specs.declared.findings.Finding.{Finding}
+use Rattle.cs_twin.specs.Findings.{held_of}
+use Rattle.cs_mount.specs.Lowered.{lowered}
+use Rattle.cs_mount.specs.Showing.{shown_on}
+use Rattle.cs_mount.specs.StorePairs.{dimensions_on, root_version}
 
 -- an image as of a root, where it has a store of these dimensions
 abbrev pub as_of : Option Dimensions → (root : ℕ) → Image → Image

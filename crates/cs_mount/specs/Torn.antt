@@ -1,11 +1,11 @@
 -- What a crash may leave of the device below a store of format 3, where it tears the pages that were being written.
 use Rattle.std.specs.Prelude.{◌≢◌, ◌⊎◌, None, Some, length}
 use Rattle.cs_disk.specs.Disk.{Image, State as DiskState, page}
-use Rattle.cs_extent.specs.State.{State as ExtentsState}
+use Rattle.cs_core.specs.cs_extent.State.{State as ExtentsState}
 use Rattle.cs_frame.specs.FirstFormat.{page_zero_fault}
 use Rattle.cs_frame.specs.Geometries.{Dimensions}
-use Rattle.cs_pair.specs.Stores.{store_pairs, store_version}
-use Rattle.cs_pair.specs.Tears.{IsLeft, MayTear}
+use Rattle.cs_mount.specs.StorePairs.{store_pairs, store_version}
+use Rattle.cs_twin.specs.Tears.{IsLeft, MayTear}
 
 -- the dimensions of a store with these extents
 abbrev pub dimensions_of : ExtentsState → Dimensions

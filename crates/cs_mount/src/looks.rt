@@ -1,20 +1,18 @@
 // What a disk holds of the pages that a store has twice.
 ghost use Rattle.std.specs.Prelude.{◌≡◌, ◌⊎◌, ◌↔◌, ◌<◌, Err, IfErr, IfOk, IsTrue};
 ghost use Rattle.std.specs.List.{list_any};
-ghost use Rattle.cs_chunk.specs.Reads.{IsCaused};
+ghost use Rattle.cs_core.specs.cs_chunk.Reads.{IsCaused};
 ghost use Rattle.cs_disk.specs.Disk.{HasCause, seen};
 ghost use Rattle.cs_disk.specs.Reads.{OnlyReads};
 ghost use Rattle.cs_mount.specs.Looks.{IsLeftOver, IsTaken, is_whole};
-ghost use Rattle.cs_pair.specs.Pairs.{ArePairs};
-ghost use Rattle.cs_pair.specs.Showing.{findings_on};
-ghost use Rattle.cs_pair.specs.Stores.{store_version};
+ghost use Rattle.cs_twin.specs.Pairs.{ArePairs};
+ghost use Rattle.cs_mount.specs.Showing.{findings_on};
+ghost use Rattle.cs_mount.specs.StorePairs.{store_version};
 
-use cs_chunk::refusal_of_disk;
-use cs_deps::Refusal;
-use cs_disk::{DiskFault, PageDisk};
-use cs_pair::{
-    Finding, Pair, StoreRules, find_geometry, find_last, holds_superblock, read_findings,
-};
+use crate::store_pairs::{StoreRules, find_geometry, find_last, holds_superblock};
+use cs_disk::{DiskFault, PageDisk, refusal_of_disk};
+use cs_refusal::Refusal;
+use cs_twin::{Finding, Pair, read_findings};
 use std::alloc::Global;
 
 /// What the pairs of the store hold that is on the disk.

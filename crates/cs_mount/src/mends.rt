@@ -2,15 +2,14 @@
 ghost use Rattle.std.specs.Prelude.{◌≡◌, ◌≢◌, ◌⊎◌, ◌↔◌, [], ℕ, IfErr, IfOk, MatchResult, None, Some};
 ghost use Rattle.std.specs.List.{AllByRecursion};
 ghost use Rattle.cs_disk.specs.Disk.{LeavesOnly, MayLeave, page, seen};
-ghost use Rattle.cs_pair.specs.Findings.{finding_in, passed_over};
-ghost use Rattle.cs_pair.specs.Paired.{disk_below, left_as_shown, moment_of, pairs_of, rules_of, state_shown, versions_of};
-ghost use Rattle.cs_pair.specs.Pairs.{half, is_turned};
+ghost use Rattle.cs_twin.specs.Findings.{finding_in, passed_over};
+ghost use Rattle.cs_twin.specs.Paired.{disk_below, left_as_shown, moment_of, pairs_of, rules_of, state_shown, versions_of};
+ghost use Rattle.cs_twin.specs.Pairs.{half, is_turned};
 
 use crate::mounts::Mounted;
-use cs_chunk::refusal_of_disk;
 use cs_core::Core;
-use cs_deps::Refusal;
-use cs_disk::PageDisk;
+use cs_disk::{PageDisk, refusal_of_disk};
+use cs_refusal::Refusal;
 
 /// Closes an opened store, and writes each page anew that it has twice and of which one is damaged, with what the other holds, and makes that durable. What shows
 /// stays as it is, and the disk comes back: `Core::open` over it opens the store again. What the store had staged and not made persistent ends with it.

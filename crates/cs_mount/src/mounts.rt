@@ -1,29 +1,29 @@
 // Stores over disks in pairs: how they are made and opened.
 ghost use Rattle.std.specs.Prelude.{◌≡◌, ◌≢◌, ◌⊎◌, ◌↔◌, ◌+◌, ◌<◌, ◌≤◌, ℕ, [], Err, IfErr, IfOk, MatchResult, None, OnOk, Some, replicate};
-ghost use Rattle.cs_chunk.specs.Reads.{IsNoAnswer};
+ghost use Rattle.cs_core.specs.cs_chunk.Reads.{IsNoAnswer};
 ghost use Rattle.cs_core.specs.Openings.{IsOpened, IsOpeningRefusal, IsWhyNotOpened};
 ghost use Rattle.cs_core.specs.Started.{IsNewOn, new_stored};
 ghost use Rattle.cs_disk.specs.Disk.{Image, MayLeave, flushed, page, seen};
-ghost use Rattle.cs_extent.specs.State.{shape};
+ghost use Rattle.cs_core.specs.cs_extent.State.{shape};
 ghost use Rattle.cs_frame.specs.Formats.{formats_of};
 ghost use Rattle.cs_frame.specs.Geometries.{IsGeometry, device_pages, section_size};
-ghost use Rattle.cs_core.specs.cs_image.Counts.{HasCount};
-ghost use Rattle.cs_model.specs.Element.{Map};
-ghost use Rattle.cs_model.specs.Geometry.{shape_of};
-ghost use Rattle.cs_model.specs.Recovery.{Recovers};
+ghost use Rattle.cs_core.specs.law_refinement.Counts.{HasCount};
+ghost use Rattle.law_machine.specs.Element.{Map};
+ghost use Rattle.law_machine.specs.Geometry.{shape_of};
+ghost use Rattle.law_machine.specs.Recovery.{Recovers};
 ghost use Rattle.cs_mount.specs.Looks.{IsTaken};
-ghost use Rattle.cs_pair.specs.Paired.{disk_below, left_as_shown, state_shown};
-ghost use Rattle.cs_pair.specs.Pairs.{shown_state};
-ghost use Rattle.cs_pair.specs.Showing.{ShowsOn, findings_on, shown_on};
-ghost use Rattle.cs_pair.specs.Stores.{store_pairs, store_version};
+ghost use Rattle.cs_twin.specs.Paired.{disk_below, left_as_shown, state_shown};
+ghost use Rattle.cs_twin.specs.Pairs.{shown_state};
+ghost use Rattle.cs_mount.specs.Showing.{ShowsOn, findings_on, shown_on};
+ghost use Rattle.cs_mount.specs.StorePairs.{store_pairs, store_version};
 
 use crate::looks::is_taken;
-use cs_chunk::refusal_of_disk;
+use crate::store_pairs::{StoreRules, open_pairs};
 use cs_core::{Core, Limits};
-use cs_deps::Refusal;
-use cs_disk::PageDisk;
+use cs_disk::{PageDisk, refusal_of_disk};
 use cs_frame::Geometry;
-use cs_pair::{Finding, Paired, StoreRules, open_store as open_pairs};
+use cs_refusal::Refusal;
+use cs_twin::{Finding, Paired};
 use std::alloc::Global;
 
 /// A disk over which a store lies: in format 3 its most important pages have two pages each.

@@ -1,22 +1,23 @@
 // Stores that are opened as of an older root.
 ghost use Rattle.std.specs.Prelude.{◌≡◌, ◌≢◌, ◌⊎◌, ◌↔◌, ◌+◌, ◌<◌, ◌≤◌, [], Err, IfErr, IfOk, MatchResult, None, OnOk, Some};
-ghost use Rattle.cs_chunk.specs.Reads.{IsNoAnswer};
+ghost use Rattle.cs_core.specs.cs_chunk.Reads.{IsNoAnswer};
 ghost use Rattle.cs_core.specs.Openings.{IsOpened, IsOpeningRefusal, IsWhyNotOpened};
 ghost use Rattle.cs_disk.specs.Disk.{flushed, page, seen};
 ghost use Rattle.cs_disk.specs.Reads.{OnlyReads};
 ghost use Rattle.cs_mount.specs.Older.{older_on, root_found};
-ghost use Rattle.cs_pair.specs.OlderDisks.{shown_below, state_lowered};
-ghost use Rattle.cs_pair.specs.Paired.{disk_below};
-ghost use Rattle.cs_pair.specs.Showing.{findings_on};
-ghost use Rattle.cs_pair.specs.Stores.{dimensions_on, pages_of};
+ghost use Rattle.cs_mount.specs.OlderDisks.{shown_below, state_lowered};
+ghost use Rattle.cs_twin.specs.Paired.{disk_below};
+ghost use Rattle.cs_mount.specs.Showing.{findings_on};
+ghost use Rattle.cs_mount.specs.StorePairs.{dimensions_on, pages_of};
 
+use crate::as_of::AsOf;
 use crate::mounts::Mounted;
-use cs_chunk::refusal_of_disk;
+use crate::store_pairs::{find_geometry, open_pairs};
 use cs_core::{Core, Limits};
-use cs_deps::Refusal;
-use cs_disk::PageDisk;
+use cs_disk::{PageDisk, refusal_of_disk};
 use cs_frame::Geometry;
-use cs_pair::{AsOf, Finding, find_geometry, open_store as open_pairs};
+use cs_refusal::Refusal;
+use cs_twin::Finding;
 use std::alloc::Global;
 
 /// Where the findings of a store tell of its root.

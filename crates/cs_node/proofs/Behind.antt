@@ -3,10 +3,10 @@ use Rattle.std.proofs.Common.{◌≡◌, subst}
 use Rattle.cs_disk.specs.declared.disk.PageDisk.{Ghosts as PageDisk}
 use Rattle.cs_disk.specs.Disk.{Leaves, page}
 use Rattle.cs_extent.specs.State.{shape}
-use Rattle.cs_model.specs.State.{State}
+use Rattle.law_machine.specs.State.{State}
 use Rattle.cs_core.specs.Meanings.{commands_said}
 use Rattle.cs_core.specs.Views.{IsIn, View}
-use Rattle.cs_refine.specs.Crashes.{IsPrefix}
+use Rattle.cs_core.specs.law_refinement.Crashes.{IsPrefix}
 use Rattle.cs_node.specs.Behind.{IsBehind}
 use Rattle.cs_node.specs.Starts.{Start, shape_at, start_of}
 

@@ -18,10 +18,10 @@ use Rattle.cs_core.specs.contracts.contents.Elements as elements
 use Rattle.cs_core.specs.contracts.cores.Core as core
 use Rattle.cs_core.specs.contracts.events.Event as event
 use Rattle.cs_core.specs.contracts.events.Reply as reply
-use Rattle.cs_core.specs.contracts.stores.Store as store
+use Rattle.cs_core.specs.contracts.parts.Store as store
 use Rattle.cs_deps.specs.contracts.graphs.Graph as graph
 use Rattle.cs_extent.specs.contracts.extents.Extents as extents
-use Rattle.cs_index.specs.contracts.indexes.Index as index
+use Rattle.cs_core.specs.cs_index.contracts.indexes.Index as index
 use Rattle.cs_node.specs.declared.boards.Naming.{Ghosts as Names}
 use Rattle.cs_node.specs.contracts.locked.Locked as locked
 use Rattle.cs_node.specs.contracts.nodes.Node as node

@@ -2,10 +2,10 @@
 use Rattle.std.specs.Prelude.{◌≡◌, ℕ}
 use Rattle.cs_disk.specs.declared.disk.PageDisk.{Ghosts as PageDisk}
 use Rattle.cs_disk.specs.Disk.{Leaves, page}
-use Rattle.cs_model.specs.State.{State}
+use Rattle.law_machine.specs.State.{State}
 use Rattle.cs_core.specs.Meanings.{commands_said}
 use Rattle.cs_core.specs.Views.{IsIn, View}
-use Rattle.cs_refine.specs.Crashes.{IsPrefix}
+use Rattle.cs_core.specs.law_refinement.Crashes.{IsPrefix}
 use Rattle.cs_node.specs.Starts.{Start, shape_at, start_of}
 
 -- A core such as lies behind the lock: it was opened on this start, and where its disk is honest its history led to a state of the machine

@@ -3,8 +3,8 @@ use Rattle.std.specs.Prelude.{ℕ, []}
 use Rattle.cs_disk.specs.Disk.{Image}
 use Rattle.cs_extent.specs.State.{shape}
 use Rattle.cs_frame.specs.Geometries.{section_size}
-use Rattle.cs_model.specs.Device.{Shape}
-use Rattle.cs_model.specs.Geometry.{shape_of}
+use Rattle.law_machine.specs.Device.{Shape}
+use Rattle.law_machine.specs.Geometry.{shape_of}
 use Rattle.cs_core.specs.Views.{View}
 
 -- the image that was on the disk when the core was opened, the format of the store, how many extents it has, of how many pages, in how many sections of the

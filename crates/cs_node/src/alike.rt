@@ -2,7 +2,8 @@
 ghost use Rattle.std.specs.Prelude.{◌≡◌, ◌↔◌, IsTrue};
 
 use cs_core::{Event, Reply};
-use cs_deps::{Element, Refusal};
+use cs_deps::Element;
+use cs_refusal::Refusal;
 
 /// Whether two events are the same.
 pub fn is_same_event(a: &Event, b: &Event) -> bool

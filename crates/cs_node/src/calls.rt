@@ -14,9 +14,9 @@ use crate::nodes::{Settled, Why};
 use crate::purses::Purse;
 use crate::tickets::Ticket;
 use cs_core::{Bytes, Event, Reply};
-use cs_deps::Refusal;
 use cs_disk::PageDisk;
 use cs_frame::ShardId;
+use cs_refusal::Refusal;
 
 impl<D: PageDisk, K: Naming> Engine<D, K> {
     /// Does one event for a purse, which has room for it then, and gives its place and its reply. Refused 9 OutOfMemory and

@@ -12,9 +12,9 @@ use crate::locked::{Lock, Locked};
 use crate::purses::Purse;
 use crate::tickets::{Ack, Ticket};
 use cs_core::{Bytes, Core, Event, Reply};
-use cs_deps::Refusal;
 use cs_disk::PageDisk;
 use cs_frame::ShardId;
+use cs_refusal::Refusal;
 use std::alloc::{AllocError, Global};
 use std::sync::Wait;
 

@@ -3,7 +3,7 @@ ghost use Rattle.std.specs.Prelude.{◌≡◌, ◌≤◌, ℕ, IfErr, IfOk};
 ghost use Rattle.cs_core.specs.Meanings.{commands_said};
 ghost use Rattle.cs_disk.specs.Disk.{Leaves, page};
 ghost use Rattle.cs_core.specs.Views.{kept};
-ghost use Rattle.cs_refine.specs.Crashes.{IsPrefix};
+ghost use Rattle.cs_core.specs.law_refinement.Crashes.{IsPrefix};
 ghost use Rattle.cs_numbers.specs.Numbers.{once_to};
 ghost use Rattle.cs_node.specs.Accounts.{acknowledged_by};
 ghost use Rattle.cs_node.specs.Closes.{Fails, IsClosed};

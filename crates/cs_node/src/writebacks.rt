@@ -9,8 +9,8 @@ use crate::boards::{NamedBoard, Naming};
 use crate::gates::{Gate, Open, Step, step_of};
 use crate::locked::Engine;
 use cs_core::{Core, Event, Reply};
-use cs_deps::Refusal;
 use cs_disk::PageDisk;
+use cs_refusal::Refusal;
 
 /// What is left of the round that is out, None where none is.
 pub fn round_event<D: PageDisk>(core: &Core<D>) -> Option<Event>

@@ -2,12 +2,12 @@
 ghost use Rattle.std.specs.Prelude.{◌≡◌, ◌↔◌, IfErr, IfOk, IfSome, IsOk, MatchBool, MatchOption, codes, option_map};
 ghost use Rattle.cs_frame.specs.Geometries.{IsGeometry};
 ghost use Rattle.cs_options.specs.Asked.{IsMeasurable, TellsFlag, batch_asked, bytes_asked, calls_asked, drops_asked, extents_asked, format_asked, from_asked, id_at, limit_asked, number_at, pages_asked, puts_asked, sections_asked, threads_asked};
-ghost use Rattle.cs_script.specs.RaceNumbers.{IsRaceable};
+ghost use Rattle.cs_words.specs.RaceNumbers.{IsRaceable};
 
 use clap::ArgMatches;
-use cs_deps::Refusal;
 use cs_frame::{Geometry, ShardId};
-use cs_script::Race;
+use cs_refusal::Refusal;
+use cs_words::Race;
 
 /// The number of an option, None where it has none.
 pub fn number_given(options: &ArgMatches, name: &str) -> Option<u64>

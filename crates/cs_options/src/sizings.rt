@@ -4,12 +4,12 @@ ghost use Rattle.cs_frame.specs.Geometries.{IsGeometry};
 ghost use Rattle.cs_options.specs.Asked.{number_at};
 ghost use Rattle.cs_options.specs.Sizings.{IsWished, extents_given, numbers_given, pages_given, sections_given, shards_asked, size_at, sizes_given, sizing_by};
 
-use crate::geometries::Wish;
+use crate::geometry_options::Wish;
 use crate::options::number_given;
 use crate::sizes::size_of;
 use clap::ArgMatches;
-use cs_deps::Refusal;
 use cs_frame::Geometry;
+use cs_refusal::Refusal;
 
 /// The bytes of a new store's device where no size is given: 64 MiB.
 const USUAL_SIZE: u64 = 67_108_864;

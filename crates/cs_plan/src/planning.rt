@@ -10,7 +10,8 @@ ghost use Rattle.cs_plan.specs.Queues.{AreListed};
 
 use crate::chains::shown_last;
 use crate::targets::wanted_rounds;
-use cs_deps::{Dependency, Element, Graph, Plan, Refusal};
+use cs_deps::{Dependency, Element, Graph, Plan};
+use cs_refusal::Refusal;
 use std::alloc::{AllocError, Global};
 
 /// What each graph keeps, which `families` tells beside its answer. It is called for its contract alone.

@@ -3,7 +3,6 @@ ghost use Rattle.std.specs.Prelude.{◌<◌, IfErr};
 ghost use Rattle.cs_race.specs.Races.{IsNoRace};
 
 use crate::traffic::Traffic;
-use cs_deps::Refusal;
 use cs_disk::PageDisk;
 use cs_frame::ShardId;
 use cs_node::the_core::Bytes;
@@ -11,7 +10,8 @@ use cs_node::{
     Dock, Gate, Job, Naming, Node, Open, Pilot, Polled, Purse, Ramp, Reclaimer, Step, Stream,
     Ticket, ferry,
 };
-use cs_script::Race;
+use cs_refusal::Refusal;
+use cs_words::Race;
 use std::alloc::{AllocError, Global};
 use std::sync::{Arc, Wait};
 

@@ -3,18 +3,19 @@
 ghost use Rattle.std.specs.Prelude.{◌≡◌, ◌⊎◌, ◌≤◌, ◌<◌, ℕ, List, [], IfErr, IfOk, OnOk};
 ghost use Rattle.std.specs.Io.KnownBytes.{Appends};
 ghost use Rattle.cs_node.specs.Starts.{start_of};
-ghost use Rattle.cs_deps.specs.declared.refusals.Refusal.{Refusal as Why};
+ghost use Rattle.cs_refusal.specs.declared.refusals.Refusal.{Refusal as Why};
 ghost use Rattle.cs_script.specs.Outputs.{refusal_line};
 ghost use Rattle.cs_race.specs.Races.{IsAnswer, IsNoRace, Races, answer_line, answer_status, counts_lines, missing_line};
 
 use crate::racers::{Returned, racers_of};
-use cs_deps::Refusal;
 use cs_disk::{MemoryDisk, PageDisk};
 use cs_frame::Geometry;
 use cs_node::the_core::Core;
 use cs_node::{Board, Naming, Node, Pilot, Purse, Rest, Unclosed};
+use cs_refusal::Refusal;
 use cs_script::mount::Mounted;
-use cs_script::{Race, new_in_memory, print_acknowledged, print_no_store, print_refusal};
+use cs_script::{new_in_memory, print_acknowledged, print_no_store, print_refusal};
+use cs_words::Race;
 use std::alloc::{AllocError, Global};
 use std::io;
 use std::io::Write;
@@ -84,7 +85,7 @@ fn race_on<D: PageDisk + Send + Drop, K: Naming + Send + Sync, R: Threads + Wait
     match run_on(rt, alloc, node, race) {
         Ok(left) => match close(alloc, left, writer) {
             Ok(status) => status,
-            Err(_) => cs_status::STREAM,
+            Err(_) => cs_words::STREAM,
         },
         Err(refusal) => print_no_store(writer, refusal),
     }
@@ -190,15 +191,15 @@ fn print_answer<W: Write>(writer: &mut W, answer: Result<u64, Unclosed>) -> io::
     match answer {
         Ok(number) => {
             print_acknowledged(writer, number)?;
-            Ok(cs_status::DONE)
+            Ok(cs_words::DONE)
         }
         Err(Unclosed::Missing(number)) => {
             print_missing(writer, number)?;
-            Ok(cs_status::REFUSED)
+            Ok(cs_words::REFUSED)
         }
         Err(Unclosed::OutOfMemory) => {
             print_refusal(writer, Refusal::OutOfMemory)?;
-            Ok(cs_status::REFUSED)
+            Ok(cs_words::REFUSED)
         }
     }
 }

@@ -3,10 +3,10 @@ use Rattle.std.proofs.Common.{◌≡◌, ◌≢◌, ◌∙◌, ◌⊎◌, ◌==�
 use Rattle.std.proofs.lemmas.Bool.{cases_eq, cases_lt}
 use Rattle.std.proofs.lemmas.Option.{same_Some}
 use Rattle.cs_index.specs.Copies.{FirstBehind, IsBehind, NoneBehind}
-use Rattle.cs_model.specs.Apart.{AllCopied, FirstUncopied, IsCopyOf}
-use Rattle.cs_model.specs.Element.{Copy, Entry, Locator as Place}
-use Rattle.cs_model.specs.Index.{live, live_at, lookup}
-use Rattle.cs_model.specs.Lists.{nth, ◌∈◌}
+use Rattle.law_machine.specs.Apart.{AllCopied, FirstUncopied, IsCopyOf}
+use Rattle.law_machine.specs.Element.{Copy, Entry, Locator as Place}
+use Rattle.law_machine.specs.Index.{live, live_at, lookup}
+use Rattle.law_machine.specs.Lists.{nth, ◌∈◌}
 use Rattle.cs_reclaim.specs.Copied.{AllUpTo, AreInOrder, IsBefore, last_of}
 
 -- a chunk comes behind the last one, or it doesn't

@@ -2,13 +2,13 @@
 use Rattle.std.proofs.Common.{◌≡◌, ◌∙◌, ◌==◌, ◌&&◌, ◌||◌, inl, inr, ⊎_elim, ℕ, zero, suc, ◌<◌, ◌≤◌, Bool, List, false, true, not, nat_le, nat_lt, if◌then◌else◌, true≢false, refl, sym, ap, subst, arith}
 use Rattle.std.proofs.lemmas.Bool.{cases_eq}
 use Rattle.std.proofs.lemmas.Bool.Decides.{nat_tests}
-use Rattle.cs_model.proofs.ApartResets.{each_extent, swept_below, swept_stay}
-use Rattle.cs_model.proofs.Carries.{and_left, and_right}
-use Rattle.cs_model.specs.Apart.{any_below, any_copy_on, any_run_on, is_any_swept, is_blank_by, is_held_by, reset_all}
-use Rattle.cs_model.specs.Device.{Shape}
-use Rattle.cs_model.specs.Element.{Copy, Entry, Run}
-use Rattle.cs_model.specs.Extents.{Extents, emptied, forgotten}
-use Rattle.cs_model.specs.Tally.{lives_on}
+use Rattle.law_machine.proofs.ApartResets.{each_extent, swept_below, swept_stay}
+use Rattle.law_machine.proofs.Carries.{and_left, and_right}
+use Rattle.law_machine.specs.Apart.{any_below, any_copy_on, any_run_on, is_any_swept, is_blank_by, is_held_by, reset_all}
+use Rattle.law_machine.specs.Device.{Shape}
+use Rattle.law_machine.specs.Element.{Copy, Entry, Run}
+use Rattle.law_machine.specs.Extents.{Extents, emptied, forgotten}
+use Rattle.law_machine.specs.Tally.{lives_on}
 use Rattle.cs_reclaim.specs.Rooted.{lying_apart}
 
 -- ---- whether an extent is being swept

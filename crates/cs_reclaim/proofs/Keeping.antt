@@ -17,14 +17,14 @@ use Rattle.cs_frame.proofs.FormatLaws.{is_format}
 use Rattle.cs_frame.specs.declared.locators.Locator.{Locator}
 use Rattle.cs_frame.specs.Formats.{as_locator, formats_of, place_of}
 use Rattle.cs_index.specs.State.{State, index_of}
-use Rattle.cs_model.proofs.Filled.{reach_low}
-use Rattle.cs_model.proofs.Places.{goes_inside}
-use Rattle.cs_model.specs.Device.{Shape, is_meant, mark_of}
-use Rattle.cs_model.specs.Element.{Locator as Place}
-use Rattle.cs_model.specs.Extents.{Extents, ForMove, reach}
-use Rattle.cs_model.specs.Formats.{ChunkFrame, Stand}
-use Rattle.cs_model.specs.Index.{live, live_at}
-use Rattle.cs_model.specs.Lists.{nth, replaced}
+use Rattle.law_machine.proofs.Filled.{reach_low}
+use Rattle.law_machine.proofs.Places.{goes_inside}
+use Rattle.law_machine.specs.Device.{Shape, is_meant, mark_of}
+use Rattle.law_machine.specs.Element.{Locator as Place}
+use Rattle.law_machine.specs.Extents.{Extents, ForMove, reach}
+use Rattle.law_machine.specs.Formats.{ChunkFrame, Stand}
+use Rattle.law_machine.specs.Index.{live, live_at}
+use Rattle.law_machine.specs.Lists.{nth, replaced}
 use Rattle.cs_reclaim.specs.Keeps.{AreBelow, IsChunkThere, places_at}
 use Rattle.cs_reclaim.specs.Moves.{IsMoved, chunk_frame}
 

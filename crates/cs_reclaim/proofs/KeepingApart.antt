@@ -19,18 +19,18 @@ use Rattle.cs_index.specs.Copies.{settle_in, settle_table}
 use Rattle.cs_index.specs.Merges.{deletions_go, part}
 use Rattle.cs_index.specs.Staged.{IsPartStagedBy, IsRunAppendedBy, run_frame}
 use Rattle.cs_index.specs.State.{State as IndexState, index_of}
-use Rattle.cs_model.proofs.ApartMoving.{place_is}
-use Rattle.cs_model.proofs.ApartResets.{each_extent}
-use Rattle.cs_model.proofs.Tallies.{lives_none}
-use Rattle.cs_model.specs.Apart.{is_blank_by, is_place, reset_all}
-use Rattle.cs_model.specs.Device.{Shape}
-use Rattle.cs_model.specs.Element.{Copy, Entry, Locator as Place}
-use Rattle.cs_model.specs.Extents.{Extents, ForMerge, ForRun, Purpose as Reason}
-use Rattle.cs_model.specs.Formats.{ChunkFrame, places}
-use Rattle.cs_model.specs.Geometry.{pages_first_in}
-use Rattle.cs_model.specs.Index.{entries_of, live, live_at, lookup}
-use Rattle.cs_model.specs.Lists.{nth, replaced, ◌∈◌}
-use Rattle.cs_model.specs.Merges.{IsRunOf}
+use Rattle.law_machine.proofs.ApartMoving.{place_is}
+use Rattle.law_machine.proofs.ApartResets.{each_extent}
+use Rattle.law_machine.proofs.Tallies.{lives_none}
+use Rattle.law_machine.specs.Apart.{is_blank_by, is_place, reset_all}
+use Rattle.law_machine.specs.Device.{Shape}
+use Rattle.law_machine.specs.Element.{Copy, Entry, Locator as Place}
+use Rattle.law_machine.specs.Extents.{Extents, ForMerge, ForRun, Purpose as Reason}
+use Rattle.law_machine.specs.Formats.{ChunkFrame, places}
+use Rattle.law_machine.specs.Geometry.{pages_first_in}
+use Rattle.law_machine.specs.Index.{entries_of, live, live_at, lookup}
+use Rattle.law_machine.specs.Lists.{nth, replaced, ◌∈◌}
+use Rattle.law_machine.specs.Merges.{IsRunOf}
 use Rattle.cs_reclaim.specs.Copied.{IsCopyMade}
 use Rattle.cs_reclaim.specs.Keeps.{AreBelow, AreCopiesRead, IsChunkThere, IsCopyRead, places_at}
 use Rattle.cs_reclaim.specs.Moves.{chunk_frame}

@@ -2,12 +2,12 @@
 use Rattle.std.proofs.Common.{◌≡◌, ◌∙◌, ◌⊎◌, ◌==◌, inl, inr, ⊎_elim, ℕ, List, Option, None, Some, Result, Ok, Err, Bool, true, false, refl, sym, arith, eq-eqb}
 use Rattle.std.specs.Prelude.{MatchOption, is_some}
 use Rattle.std.proofs.lemmas.Bool.Decides.{nat_tests}
-use Rattle.cs_deps.specs.declared.refusals.Refusal.{Refusal}
-use Rattle.cs_deps.specs.declared.refusals.Refusal.TheVariants.{Full, OutOfMemory, StillLive, WornOut}
+use Rattle.cs_refusal.specs.declared.refusals.Refusal.{Refusal}
+use Rattle.cs_refusal.specs.declared.refusals.Refusal.TheVariants.{Full, OutOfMemory, StillLive, WornOut}
 use Rattle.cs_index.specs.Copies.{FirstBehind, NoneBehind}
 use Rattle.cs_index.specs.Staged.{IsExact, IsWhy}
-use Rattle.cs_model.specs.Apart.{AllCopied}
-use Rattle.cs_model.specs.Element.{Copy, Entry, Locator as Place}
+use Rattle.law_machine.specs.Apart.{AllCopied}
+use Rattle.law_machine.specs.Element.{Copy, Entry, Locator as Place}
 use Rattle.cs_reclaim.specs.Copied.{AllUpTo, AreInOrder, last_of}
 use Rattle.cs_reclaim.proofs.Copying.{found_left, left_there, none_left}
 

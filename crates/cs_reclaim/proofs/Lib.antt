@@ -15,3 +15,4 @@ pub mod Retiring
 pub mod Sweeping
 pub mod SweptStays
 pub mod Marked
+pub use Rattle.cs_chunk.proofs as cs_chunk

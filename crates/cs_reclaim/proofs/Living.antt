@@ -8,9 +8,9 @@ use Rattle.cs_frame.specs.Formats.{place_of}
 use Rattle.cs_frame.specs.Locators.{KeepFormat}
 use Rattle.cs_index.proofs.Living.{nth_in}
 use Rattle.cs_index.specs.State.{IsSet, State}
-use Rattle.cs_model.specs.Element.{Entry, Locator as Place}
-use Rattle.cs_model.specs.Index.{FirstLive, NothingLive, live, live_at}
-use Rattle.cs_model.specs.Lists.{nth, replaced}
+use Rattle.law_machine.specs.Element.{Entry, Locator as Place}
+use Rattle.law_machine.specs.Index.{FirstLive, NothingLive, live, live_at}
+use Rattle.law_machine.specs.Lists.{nth, replaced}
 
 -- something is live where the first of it is
 pub live_there : (index : List Entry) (e id k : ℕ) (l : Place) → FirstLive index e id k l → NothingLive index e → ⊥

@@ -11,11 +11,11 @@ use Rattle.cs_index.proofs.Living.{nth_inside}
 use Rattle.cs_index.proofs.Whole.{short_lookup}
 use Rattle.cs_index.specs.declared.live.LiveChunk.{LiveChunk}
 use Rattle.cs_index.specs.State.{IsWhole, State, id_number, index_of}
-use Rattle.cs_model.specs.Apart.{FirstUncopied}
-use Rattle.cs_model.specs.Element.{Copy, Locator as Place}
-use Rattle.cs_model.specs.Extents.{ForMove}
-use Rattle.cs_model.specs.Index.{live_at, lookup}
-use Rattle.cs_model.specs.Lists.{nth}
+use Rattle.law_machine.specs.Apart.{FirstUncopied}
+use Rattle.law_machine.specs.Element.{Copy, Locator as Place}
+use Rattle.law_machine.specs.Extents.{ForMove}
+use Rattle.law_machine.specs.Index.{live_at, lookup}
+use Rattle.law_machine.specs.Lists.{nth}
 use Rattle.cs_reclaim.specs.Copied.{IsCopyMade}
 use Rattle.cs_reclaim.specs.Moves.{chunk_frame}
 use Rattle.cs_reclaim.proofs.Living.{has_entry}

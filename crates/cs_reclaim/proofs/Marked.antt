@@ -7,11 +7,11 @@ use Rattle.cs_extent.specs.State.{State as ExtentsState, shape}
 use Rattle.cs_frame.specs.declared.locators.Locator.{Locator}
 use Rattle.cs_frame.specs.Formats.{as_locator, formats_of, place_of}
 use Rattle.cs_index.specs.State.{State, index_of}
-use Rattle.cs_model.specs.Device.{Shape, is_meant}
-use Rattle.cs_model.specs.Element.{Locator as Place}
-use Rattle.cs_model.specs.Formats.{ChunkFrame}
-use Rattle.cs_model.specs.Index.{live, live_at, lookup}
-use Rattle.cs_model.specs.Lists.{nth, replaced}
+use Rattle.law_machine.specs.Device.{Shape, is_meant}
+use Rattle.law_machine.specs.Element.{Locator as Place}
+use Rattle.law_machine.specs.Formats.{ChunkFrame}
+use Rattle.law_machine.specs.Index.{live, live_at, lookup}
+use Rattle.law_machine.specs.Lists.{nth, replaced}
 use Rattle.cs_reclaim.specs.Keeps.{places_at}
 use Rattle.cs_reclaim.specs.Moves.{IsMoved}
 

@@ -1,12 +1,12 @@
 -- An extent that is being swept where chunks and runs lie apart: how that begins, and what leaves it so.
 use Rattle.std.proofs.Common.{◌≡◌, ◌≢◌, ◌∙◌, ◌⊎◌, ◌==◌, inl, inr, ⊎_elim, ℕ, ◌+◌, ◌≤◌, Bool, List, Some, false, true, if◌then◌else◌, true≢false, refl, sym, ap, subst, arith, eq-eqb, ne_eqb}
 use Rattle.std.proofs.lemmas.Bool.{cases_lt}
-use Rattle.cs_model.proofs.ApartResets.{each_extent, swept_stay}
-use Rattle.cs_model.proofs.Parts.{with_other}
-use Rattle.cs_model.specs.Apart.{MayNotBegin, is_blank_by, reset_all, swept_aside}
-use Rattle.cs_model.specs.Device.{Shape}
-use Rattle.cs_model.specs.Element.{Copy, Entry, Run}
-use Rattle.cs_model.specs.Extents.{Extents, ForMerge, ForMove, ForPut, ForRun, GoesApart, IsFirst, IsFirstEmpty, MayOpen, Purpose, Takes, marked, noted, of_runs_by, taken_by}
+use Rattle.law_machine.proofs.ApartResets.{each_extent, swept_stay}
+use Rattle.law_machine.proofs.Parts.{with_other}
+use Rattle.law_machine.specs.Apart.{MayNotBegin, is_blank_by, reset_all, swept_aside}
+use Rattle.law_machine.specs.Device.{Shape}
+use Rattle.law_machine.specs.Element.{Copy, Entry, Run}
+use Rattle.law_machine.specs.Extents.{Extents, ForMerge, ForMove, ForPut, ForRun, GoesApart, IsFirst, IsFirstEmpty, MayOpen, Purpose, Takes, marked, noted, of_runs_by, taken_by}
 use Rattle.cs_reclaim.specs.Rooted.{extents_at_rest, lying_apart}
 use Rattle.cs_reclaim.specs.Sweeps.{IsSweptApart}
 use Rattle.cs_reclaim.proofs.Freeing.{chunks_stay, swept_not_blank}

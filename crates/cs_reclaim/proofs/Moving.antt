@@ -4,9 +4,9 @@ use Rattle.std.proofs.lemmas.Option.{same_Some}
 use Rattle.cs_chunk.proofs.Chunkings.{length-spelled}
 use Rattle.cs_chunk.specs.Chunks.{IsMeant}
 use Rattle.cs_chunk.specs.Reads.{IsCaused, IsReadRefusal}
-use Rattle.cs_deps.specs.declared.refusals.Refusal.{Refusal}
-use Rattle.cs_deps.specs.declared.refusals.Refusal.TheVariants.{DeviceFault, Full, Misplaced, OutOfMemory, WornOut}
-use Rattle.cs_deps.specs.Refusals.{number_of}
+use Rattle.cs_refusal.specs.declared.refusals.Refusal.{Refusal}
+use Rattle.cs_refusal.specs.declared.refusals.Refusal.TheVariants.{DeviceFault, Full, Misplaced, OutOfMemory, WornOut}
+use Rattle.cs_refusal.specs.Refusals.{number_of}
 use Rattle.cs_deps.specs.Staging.{Staging}
 use Rattle.cs_deps.specs.State.{State as GraphState}
 use Rattle.cs_extent.specs.Appended.{IsAppended, IsAppendedBy}
@@ -19,12 +19,12 @@ use Rattle.cs_frame.specs.Formats.{as_locator, place_of}
 use Rattle.cs_frame.specs.Frames.{spelled_frame}
 use Rattle.cs_index.specs.Staged.{IsExact, IsWhy}
 use Rattle.cs_index.specs.State.{IsSet, State, id_number, index_of}
-use Rattle.cs_model.specs.Device.{mark_of}
-use Rattle.cs_model.specs.Element.{Entry}
-use Rattle.cs_model.specs.Extents.{ForMove}
-use Rattle.cs_model.specs.Formats.{ChunkFrame}
-use Rattle.cs_model.specs.Index.{FirstLive, live_at}
-use Rattle.cs_model.specs.Lists.{replaced}
+use Rattle.law_machine.specs.Device.{mark_of}
+use Rattle.law_machine.specs.Element.{Entry}
+use Rattle.law_machine.specs.Extents.{ForMove}
+use Rattle.law_machine.specs.Formats.{ChunkFrame}
+use Rattle.law_machine.specs.Index.{FirstLive, live_at}
+use Rattle.law_machine.specs.Lists.{replaced}
 use Rattle.cs_index.specs.declared.live.LiveChunk.{LiveChunk}
 use Rattle.cs_reclaim.specs.Moves.{AnswersMove, AnswersPlaceBy, IsMoveFullBy, IsMoveWornBy, IsMoved, NowhereBy, chunk_frame}
 

@@ -4,9 +4,9 @@ use Rattle.std.specs.Prelude.{take}
 use Rattle.std.proofs.lemmas.Bool.Decides.{nat_tests}
 use Rattle.std.proofs.lemmas.Option.{same_Some}
 use Rattle.cs_index.specs.Copies.{copy_of, newest_copies, numbered}
-use Rattle.cs_index.specs.declared.copies.ChunkCopy.{ChunkCopy}
-use Rattle.cs_model.specs.Apart.{any_copy_on, some_copy}
-use Rattle.cs_model.specs.Element.{Copy}
+use Rattle.cs_index.specs.declared.counted_copies.ChunkCopy.{ChunkCopy}
+use Rattle.law_machine.specs.Apart.{any_copy_on, some_copy}
+use Rattle.law_machine.specs.Element.{Copy}
 use Rattle.cs_reclaim.specs.Copied.{last_of}
 
 -- one more is the newest

@@ -11,11 +11,11 @@ use Rattle.cs_index.specs.Apart.{IsFullApart, IsNewestStagedApart, IsStagedApart
 use Rattle.cs_index.specs.Merges.{deletions_go, part}
 use Rattle.cs_index.specs.Staged.{IsPartStagedBy, IsRunAppendedBy}
 use Rattle.cs_index.specs.State.{State, index_of}
-use Rattle.cs_model.specs.Apart.{is_any_swept, is_blank_by, some_copy}
-use Rattle.cs_model.specs.Device.{Shape}
-use Rattle.cs_model.specs.Element.{Copy, Entry, Locator as Place}
-use Rattle.cs_model.specs.Extents.{Extents, ForMerge, ForRun, Purpose as Reason}
-use Rattle.cs_model.specs.Merges.{IsRunOf}
+use Rattle.law_machine.specs.Apart.{is_any_swept, is_blank_by, some_copy}
+use Rattle.law_machine.specs.Device.{Shape}
+use Rattle.law_machine.specs.Element.{Copy, Entry, Locator as Place}
+use Rattle.law_machine.specs.Extents.{Extents, ForMerge, ForRun, Purpose as Reason}
+use Rattle.law_machine.specs.Merges.{IsRunOf}
 use Rattle.cs_reclaim.specs.Rooted.{copies_at_rest, extents_at_rest, freed_under, lying_apart}
 use Rattle.cs_reclaim.proofs.Freeing.{resets_within}
 

@@ -1,8 +1,8 @@
 -- An extent that was marked, then not, and then again, is as it was.
 use Rattle.std.proofs.Common.{◌≡◌, ◌∙◌, ◌==◌, ℕ, suc, Bool, List, [], ◌∷◌, false, true, if◌then◌else◌, get_or, length, refl, sym, ap, arith}
 use Rattle.std.proofs.lemmas.Bool.Decides.{nat_tests}
-use Rattle.cs_model.specs.Device.{Shape}
-use Rattle.cs_model.specs.Extents.{Extents, marked}
+use Rattle.law_machine.specs.Device.{Shape}
+use Rattle.law_machine.specs.Extents.{Extents, marked}
 use Rattle.cs_extent.specs.State.{IsWhole, State, extents_of, shape}
 
 -- lists of one length with the same members are one

@@ -24,13 +24,13 @@ use Rattle.cs_frame.specs.declared.locators.Locator.{Locator}
 use Rattle.cs_frame.specs.Formats.{as_locator, formats_of}
 use Rattle.cs_index.specs.Staged.{IsRootOver, IsRunAppended, run_frame}
 use Rattle.cs_index.specs.State.{State as IndexState, index_of}
-use Rattle.cs_model.specs.Device.{Shape}
-use Rattle.cs_model.specs.Element.{Entry, Locator as Place}
-use Rattle.cs_model.specs.Extents.{Extents, ForMove, marked}
-use Rattle.cs_model.specs.Formats.{Stand, places}
-use Rattle.cs_model.specs.Geometry.{pages_first_in}
-use Rattle.cs_model.specs.Index.{IsMergedRun, NothingLive, live_at}
-use Rattle.cs_model.specs.Lists.{with, ◌∈◌}
+use Rattle.law_machine.specs.Device.{Shape}
+use Rattle.law_machine.specs.Element.{Entry, Locator as Place}
+use Rattle.law_machine.specs.Extents.{Extents, ForMove, marked}
+use Rattle.law_machine.specs.Formats.{Stand, places}
+use Rattle.law_machine.specs.Geometry.{pages_first_in}
+use Rattle.law_machine.specs.Index.{IsMergedRun, NothingLive, live_at}
+use Rattle.law_machine.specs.Lists.{with, ◌∈◌}
 use Rattle.cs_reclaim.specs.Keeps.{AreBelow, IsChunkThere, places_at}
 use Rattle.cs_reclaim.specs.Moves.{chunk_frame}
 use Rattle.cs_reclaim.specs.Retired.{IsRetired}

@@ -1,11 +1,11 @@
 -- Answers with a refusal alone, and with the sweep beside it.
 use Rattle.std.proofs.Common.{◌≡◌, ◌⊎◌, ℕ, List, Result, Ok, Err, ap, inl, inr, refl, subst, ⊎_elim}
 use Rattle.std.specs.Prelude.{◌↔◌}
-use Rattle.cs_deps.specs.declared.refusals.Refusal.{Refusal}
-use Rattle.cs_deps.specs.declared.refusals.Refusal.TheVariants.{Full, OutOfMemory, StillLive, WornOut}
+use Rattle.cs_refusal.specs.declared.refusals.Refusal.{Refusal}
+use Rattle.cs_refusal.specs.declared.refusals.Refusal.TheVariants.{Full, OutOfMemory, StillLive, WornOut}
 use Rattle.cs_index.specs.Staged.{IsWhy}
-use Rattle.cs_model.specs.Element.{Entry}
-use Rattle.cs_model.specs.Index.{NothingLive}
+use Rattle.law_machine.specs.Element.{Entry}
+use Rattle.law_machine.specs.Index.{NothingLive}
 
 abbrev alone : Result ℕ Refusal → Refusal
 alone (Ok t) = OutOfMemory

@@ -15,11 +15,11 @@ use Rattle.cs_extent.specs.State.{State as ExtentsState, extents_of, shape}
 use Rattle.cs_frame.specs.declared.locators.Locator.{Locator}
 use Rattle.cs_index.specs.Staged.{IsMergeStaged, IsRunAppended}
 use Rattle.cs_index.specs.State.{State, index_of}
-use Rattle.cs_model.specs.Device.{Shape}
-use Rattle.cs_model.specs.Element.{Entry, Locator as Place}
-use Rattle.cs_model.specs.Extents.{Extents, HasRoom, IsFirstEmpty, Placed, Purpose, empties, marked, spare, taken}
-use Rattle.cs_model.specs.Index.{IsMergedRun, live_at}
-use Rattle.cs_model.specs.Lists.{with}
+use Rattle.law_machine.specs.Device.{Shape}
+use Rattle.law_machine.specs.Element.{Entry, Locator as Place}
+use Rattle.law_machine.specs.Extents.{Extents, HasRoom, IsFirstEmpty, Placed, Purpose, empties, marked, spare, taken}
+use Rattle.law_machine.specs.Index.{IsMergedRun, live_at}
+use Rattle.law_machine.specs.Lists.{with}
 use Rattle.cs_reclaim.specs.Sweeps.{IsNotSweepable, IsSwept}
 
 pub begun : (S : Shape) (x : Extents) (e : ℕ) → (IsNotSweepable S x e → ⊥) → IsSwept S (marked x e true) e

@@ -9,10 +9,10 @@ use Rattle.cs_index.specs.Apart.{IsFullApart, IsNewestStagedApart, WritesNewest,
 use Rattle.cs_index.specs.Merges.{deletions_go, part}
 use Rattle.cs_index.specs.Staged.{IsPartStagedBy, IsRunAppendedBy}
 use Rattle.cs_index.specs.State.{State as IndexState, index_of}
-use Rattle.cs_model.specs.Device.{Shape}
-use Rattle.cs_model.specs.Element.{Copy, Entry, Locator as Place}
-use Rattle.cs_model.specs.Extents.{Extents, ForMerge, ForRun, Purpose as Reason}
-use Rattle.cs_model.specs.Merges.{IsRunOf}
+use Rattle.law_machine.specs.Device.{Shape}
+use Rattle.law_machine.specs.Element.{Copy, Entry, Locator as Place}
+use Rattle.law_machine.specs.Extents.{Extents, ForMerge, ForRun, Purpose as Reason}
+use Rattle.law_machine.specs.Merges.{IsRunOf}
 use Rattle.cs_reclaim.specs.Rooted.{IsSweepStaged, extents_at_rest, freed_under}
 use Rattle.cs_reclaim.specs.Sweeps.{IsSweptApart}
 use Rattle.cs_reclaim.proofs.Marking.{freed_apart, rest_apart, taken_apart}

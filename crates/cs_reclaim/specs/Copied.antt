@@ -7,11 +7,11 @@ use Rattle.cs_frame.specs.declared.locators.Locator.{Locator}
 use Rattle.cs_frame.specs.Formats.{place_of}
 use Rattle.cs_index.specs.Copies.{IsBehind}
 use Rattle.cs_index.specs.State.{State, index_of}
-use Rattle.cs_model.specs.Apart.{FirstUncopied, IsCopyOf}
-use Rattle.cs_model.specs.Element.{Copy, Entry, Locator as Place}
-use Rattle.cs_model.specs.Extents.{ForMove}
-use Rattle.cs_model.specs.Index.{live_at}
-use Rattle.cs_model.specs.Lists.{Descends, nth}
+use Rattle.law_machine.specs.Apart.{FirstUncopied, IsCopyOf}
+use Rattle.law_machine.specs.Element.{Copy, Entry, Locator as Place}
+use Rattle.law_machine.specs.Extents.{ForMove}
+use Rattle.law_machine.specs.Index.{live_at}
+use Rattle.law_machine.specs.Lists.{Descends, nth}
 use Rattle.cs_reclaim.specs.Moves.{chunk_frame}
 
 -- a copy is of a chunk before that of another, by identifier and then by chunk

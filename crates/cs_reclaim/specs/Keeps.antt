@@ -6,12 +6,12 @@ use Rattle.cs_extent.specs.State.{State as ExtentsState, extents_of}
 use Rattle.cs_frame.specs.declared.locators.Locator.{Locator}
 use Rattle.cs_frame.specs.Formats.{as_locator, formats_of}
 use Rattle.cs_index.specs.State.{State, index_of}
-use Rattle.cs_model.specs.Device.{Shape}
-use Rattle.cs_model.specs.Element.{Copy}
-use Rattle.cs_model.specs.Extents.{Extents}
-use Rattle.cs_model.specs.Formats.{ChunkFrame}
-use Rattle.cs_model.specs.Index.{live_at}
-use Rattle.cs_model.specs.Lists.{◌∈◌}
+use Rattle.law_machine.specs.Device.{Shape}
+use Rattle.law_machine.specs.Element.{Copy}
+use Rattle.law_machine.specs.Extents.{Extents}
+use Rattle.law_machine.specs.Formats.{ChunkFrame}
+use Rattle.law_machine.specs.Index.{live_at}
+use Rattle.law_machine.specs.Lists.{◌∈◌}
 use Rattle.cs_reclaim.specs.Moves.{chunk_frame}
 
 -- the frames of these chunks at these places are of the generations that their extents have, and below the pointers

@@ -4,3 +4,4 @@ pub mod Moves
 pub mod Retired
 pub mod Rooted
 pub mod Sweeps
+pub use Rattle.cs_chunk.specs as cs_chunk

@@ -1,8 +1,8 @@
 -- What moving a chunk does, and why it is refused.
 use Rattle.std.specs.Prelude.{◌≡◌, ◌⊎◌, ◌≤◌, ℕ, Bool, false, List, Option, None, Result, MatchResult, length}
 use Rattle.cs_chunk.specs.Reads.{IsNoAnswer, IsOfFault}
-use Rattle.cs_deps.specs.declared.refusals.Refusal.{Refusal}
-use Rattle.cs_deps.specs.declared.refusals.Refusal.TheVariants.{Full, WornOut}
+use Rattle.cs_refusal.specs.declared.refusals.Refusal.{Refusal}
+use Rattle.cs_refusal.specs.declared.refusals.Refusal.TheVariants.{Full, WornOut}
 use Rattle.cs_deps.specs.Staging.{Staging}
 use Rattle.cs_deps.specs.State.{State as GraphState}
 use Rattle.cs_extent.specs.Appended.{IsAppended}
@@ -13,11 +13,11 @@ use Rattle.cs_frame.specs.declared.locators.Locator.{Locator}
 use Rattle.cs_frame.specs.Formats.{formats_of, place_of}
 use Rattle.cs_index.specs.Staged.{IsWhy}
 use Rattle.cs_index.specs.State.{IsSet, State, index_of}
-use Rattle.cs_model.specs.Element.{Locator as Place}
-use Rattle.cs_model.specs.Extents.{ForMove, Goes}
-use Rattle.cs_model.specs.Formats.{ChunkFrame}
-use Rattle.cs_model.specs.Index.{FirstLive, live_at}
-use Rattle.cs_model.specs.Lists.{replaced}
+use Rattle.law_machine.specs.Element.{Locator as Place}
+use Rattle.law_machine.specs.Extents.{ForMove, Goes}
+use Rattle.law_machine.specs.Formats.{ChunkFrame}
+use Rattle.law_machine.specs.Index.{FirstLive, live_at}
+use Rattle.law_machine.specs.Lists.{replaced}
 
 -- the pages of the frame of a chunk
 abbrev pub chunk_frame : ExtentsState → (payload : List ℕ) → List (List ℕ)

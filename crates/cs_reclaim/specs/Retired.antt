@@ -6,7 +6,7 @@ use Rattle.cs_extent.specs.Changes.{emptied_in}
 use Rattle.cs_extent.specs.State.{State as ExtentsState, extents_of, shape}
 use Rattle.cs_index.specs.Staged.{IsFull, IsMergeStaged, IsStageWorn, WritesMerged}
 use Rattle.cs_index.specs.State.{State}
-use Rattle.cs_model.specs.Extents.{ForMove, marked}
+use Rattle.law_machine.specs.Extents.{ForMove, marked}
 
 -- Extent e was retired: one run of all that is live and the root over it were staged, and then e was emptied under that
 -- root's version, and is no longer being swept. The device's shape stays.

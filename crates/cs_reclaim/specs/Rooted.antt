@@ -1,16 +1,16 @@
 -- What a Stage and a Retire do where chunks and runs lie apart, and why a Retire is refused.
 use Rattle.std.specs.Prelude.{◌≡◌, ◌≢◌, ◌⊎◌, ◌&&◌, ℕ, Bool, true, false, not, List, [], None, Result, if◌then◌else◌}
-use Rattle.cs_deps.specs.declared.refusals.Refusal.{Refusal}
+use Rattle.cs_refusal.specs.declared.refusals.Refusal.{Refusal}
 use Rattle.cs_deps.specs.State.{State as GraphState}
 use Rattle.cs_extent.specs.State.{IsWhole, State as ExtentsState, extents_of, shape}
 use Rattle.cs_index.specs.Apart.{IsStageFullApart, IsStageWornApart, IsStagedApart}
 use Rattle.cs_index.specs.Copies.{IsSettled}
 use Rattle.cs_index.specs.Staged.{IsExact}
 use Rattle.cs_index.specs.State.{State, index_of}
-use Rattle.cs_model.specs.Apart.{is_any_swept, is_blank_by, reset_all, some_copy}
-use Rattle.cs_model.specs.Device.{Shape}
-use Rattle.cs_model.specs.Element.{Copy}
-use Rattle.cs_model.specs.Extents.{Extents, marked}
+use Rattle.law_machine.specs.Apart.{is_any_swept, is_blank_by, reset_all, some_copy}
+use Rattle.law_machine.specs.Device.{Shape}
+use Rattle.law_machine.specs.Element.{Copy}
+use Rattle.law_machine.specs.Extents.{Extents, marked}
 
 -- a device of this shape on which chunks and runs lie apart
 abbrev pub lying_apart : Shape → Shape

@@ -1,7 +1,7 @@
 -- Sweeps: which extents may be swept, and what a sweep does to them.
 use Rattle.std.specs.Prelude.{◌≡◌, ◌⊎◌, ◌≤◌, ◌<◌, ℕ, true, false, Some}
-use Rattle.cs_model.specs.Device.{Shape}
-use Rattle.cs_model.specs.Extents.{Extents}
+use Rattle.law_machine.specs.Device.{Shape}
+use Rattle.law_machine.specs.Extents.{Extents}
 
 -- an extent that can't be swept: it is open, it isn't there, it is empty, or it is being swept
 abbrev pub IsNotSweepable : Shape → Extents → ℕ → Type 0

@@ -3,8 +3,8 @@ ghost use Rattle.std.specs.Prelude.{◌≡◌, ◌<◌, ◌^◌, ◌&&◌, ◌||
 ghost use Rattle.cs_extent.specs.State.{extents_of, shape};
 ghost use Rattle.cs_index.specs.Copies.{newest_copies};
 ghost use Rattle.cs_index.specs.State.{index_of};
-ghost use Rattle.cs_model.specs.Apart.{any_copy_on, is_any_swept, is_blank_by, is_held_by};
-ghost use Rattle.cs_model.specs.Extents.{emptied, forgotten};
+ghost use Rattle.law_machine.specs.Apart.{any_copy_on, is_any_swept, is_blank_by, is_held_by};
+ghost use Rattle.law_machine.specs.Extents.{emptied, forgotten};
 ghost use Rattle.cs_reclaim.specs.Rooted.{freed_under};
 
 use crate::copies::Copies;

@@ -15,23 +15,24 @@ ghost use Rattle.cs_frame.specs.Formats.{as_locator, place_of};
 ghost use Rattle.cs_index.specs.Copies.{numbered};
 ghost use Rattle.cs_index.specs.Staged.{IsExact};
 ghost use Rattle.cs_index.specs.State.{id_number, index_of};
-ghost use Rattle.cs_model.specs.Apart.{AllCopied, FirstUncopied, MayNotBegin, swept_aside};
-ghost use Rattle.cs_model.specs.Element.{Locator as Place};
-ghost use Rattle.cs_model.specs.Extents.{ForMove, marked};
-ghost use Rattle.cs_model.specs.Formats.{ChunkFrame};
-ghost use Rattle.cs_model.specs.Index.{live_at};
-ghost use Rattle.cs_model.specs.Lists.{◌∈◌};
+ghost use Rattle.law_machine.specs.Apart.{AllCopied, FirstUncopied, MayNotBegin, swept_aside};
+ghost use Rattle.law_machine.specs.Element.{Locator as Place};
+ghost use Rattle.law_machine.specs.Extents.{ForMove, marked};
+ghost use Rattle.law_machine.specs.Formats.{ChunkFrame};
+ghost use Rattle.law_machine.specs.Index.{live_at};
+ghost use Rattle.law_machine.specs.Lists.{◌∈◌};
 ghost use Rattle.cs_reclaim.specs.Copied.{AllUpTo, AreInOrder, IsCopyMade, last_of};
 ghost use Rattle.cs_reclaim.specs.Moves.{AnswersMove, AnswersPlaceBy, IsMoveFullBy, IsMoveWornBy, NowhereBy, chunk_frame};
 ghost use Rattle.cs_reclaim.specs.Sweeps.{IsSweptApart};
 
 use crate::blanks::is_any_swept;
 use cs_chunk::read_frame;
-use cs_deps::{Graph, Refusal};
+use cs_deps::Graph;
 use cs_disk::PageDisk;
 use cs_extent::{Extents, Purpose};
 use cs_frame::{FrameKind, Locator, ShardId, encode_frame};
 use cs_index::{ChunkCopy, Index, LiveChunk};
+use cs_refusal::Refusal;
 use std::alloc::Global;
 use std::marker::Model;
 
@@ -47,7 +48,7 @@ impl Model for Copies {
     ghost use Rattle.std.specs.Prelude.{◌<◌, List};
     ghost use Rattle.std.specs.List.{AllByRecursion};
     ghost use Rattle.cs_index.specs.Copies.{newest_copies};
-    ghost use Rattle.cs_model.specs.Element.{Copy};
+    ghost use Rattle.law_machine.specs.Element.{Copy};
 
     ghost Value = { List Copy };
 

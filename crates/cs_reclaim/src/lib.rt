@@ -6,15 +6,15 @@
 //! Where chunks and runs lie apart a sweep copies what lives on its extent, and the chunks count where they lay until it is retired.
 #![tactic(auto)]
 
-mod apart;
 mod blanks;
 mod copies;
-mod laws;
+mod copy_laws;
 mod roots;
+mod sweep_laws;
 mod sweeps;
 
-pub use apart::{a_sweep_apart_keeps_every_shard, a_swept_extent_stays_apart, copies_stay};
 pub use blanks::{free_blank, is_any_swept};
 pub use copies::Copies;
-pub use laws::{a_sweep_keeps_every_shard, a_swept_extent_stays, moves_keep_marks};
+pub use copy_laws::{a_sweep_apart_keeps_every_shard, a_swept_extent_stays_apart, copies_stay};
+pub use sweep_laws::{a_sweep_keeps_every_shard, a_swept_extent_stays, moves_keep_marks};
 pub use sweeps::{Sweep, is_sweepable};

@@ -6,17 +6,18 @@ ghost use Rattle.cs_index.specs.Apart.{IsStageFullApart, IsStageWornApart};
 ghost use Rattle.cs_index.specs.Copies.{IsSettled};
 ghost use Rattle.cs_index.specs.Staged.{IsExact};
 ghost use Rattle.cs_index.specs.State.{State as IndexState, index_of};
-ghost use Rattle.cs_model.specs.Apart.{AllCopied, some_copy};
-ghost use Rattle.cs_model.specs.Index.{live_at};
+ghost use Rattle.law_machine.specs.Apart.{AllCopied, some_copy};
+ghost use Rattle.law_machine.specs.Index.{live_at};
 ghost use Rattle.cs_reclaim.specs.Copied.{AllUpTo, AreInOrder};
 ghost use Rattle.cs_reclaim.specs.Rooted.{IsRetireExact, IsRetiredApart, IsRootedApart, IsSweepStaged, IsUnmarked, MayStageRoot, copies_at_rest, extents_at_rest, is_left_over};
 ghost use Rattle.cs_reclaim.specs.Sweeps.{IsSweptApart};
 
 use crate::blanks::{both, free_blank, is_any_swept};
 use crate::copies::Copies;
-use cs_deps::{Graph, Refusal};
+use cs_deps::Graph;
 use cs_extent::{Extents, LAST_GENERATION};
 use cs_index::Index;
+use cs_refusal::Refusal;
 
 impl Copies {
     /// Stages the table and as many of the newest runs as a Stage merges as one run, or all as one where that goes nowhere, and the root

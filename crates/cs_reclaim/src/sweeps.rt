@@ -15,21 +15,22 @@ ghost use Rattle.cs_frame.specs.Formats.{as_locator, place_of};
 ghost use Rattle.cs_frame.specs.Locators.{KeepFormat};
 ghost use Rattle.cs_index.specs.Staged.{IsExact, IsWhy};
 ghost use Rattle.cs_index.specs.State.{IsSet, id_number, index_of};
-ghost use Rattle.cs_model.specs.Element.{Locator as Place};
-ghost use Rattle.cs_model.specs.Extents.{ForMove, NoPlace, marked};
-ghost use Rattle.cs_model.specs.Formats.{ChunkFrame};
-ghost use Rattle.cs_model.specs.Index.{FirstLive, NothingLive, live_at, lookup};
-ghost use Rattle.cs_model.specs.Lists.{◌∈◌, nth, replaced};
+ghost use Rattle.law_machine.specs.Element.{Locator as Place};
+ghost use Rattle.law_machine.specs.Extents.{ForMove, NoPlace, marked};
+ghost use Rattle.law_machine.specs.Formats.{ChunkFrame};
+ghost use Rattle.law_machine.specs.Index.{FirstLive, NothingLive, live_at, lookup};
+ghost use Rattle.law_machine.specs.Lists.{◌∈◌, nth, replaced};
 ghost use Rattle.cs_reclaim.specs.Moves.{AnswersMove, AnswersPlace, IsMoveFull, IsMoveWorn, IsMoved, chunk_frame};
 ghost use Rattle.cs_reclaim.specs.Retired.{IsRetireFull, IsRetireWorn, IsRetired};
 ghost use Rattle.cs_reclaim.specs.Sweeps.{IsNotSweepable, IsSwept};
 
 use cs_chunk::read_frame;
-use cs_deps::{Graph, Refusal};
+use cs_deps::Graph;
 use cs_disk::PageDisk;
 use cs_extent::{Extents, LAST_GENERATION, Purpose};
 use cs_frame::{FrameKind, Locator, Places, ShardId, encode_frame};
 use cs_index::{Index, LiveChunk};
+use cs_refusal::Refusal;
 use std::alloc::Global;
 use std::marker::Model;
 

@@ -9,7 +9,7 @@ use Rattle.std.proofs.lemmas.List.Sorted.{Contains-permutation, IsPermutation-sy
 use Rattle.cs_frame.specs.declared.identifiers.ShardId.{ShardId}
 use Rattle.cs_salvage.specs.declared.parts.Part.{Part}
 use Rattle.cs_salvage.specs.declared.parts.Put.{Put}
-use Rattle.cs_salvage.specs.declared.shards.WholeShard.{WholeShard}
+use Rattle.cs_salvage.specs.declared.whole_shards.WholeShard.{WholeShard}
 use Rattle.cs_salvage.specs.Puts.{AreBefore, AreOf, Precedes}
 use Rattle.cs_salvage.specs.Shards.{AreAllOf, AreAmbiguous, AreNewest, ComesBefore, IsAmbiguous, IsWhole, put_of}
 use Rattle.cs_salvage.proofs.Orders.{comes_on, not_before_itself, not_itself, precedes_by}

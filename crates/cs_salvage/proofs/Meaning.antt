@@ -3,8 +3,8 @@ use Rattle.std.proofs.Common.{◌≡◌, ◌≢◌, ◌∙◌, ◌⊎◌, ℕ, z
 use Rattle.std.specs.List.{AllZip}
 use Rattle.std.proofs.lemmas.List.Elements.{All-push}
 use Rattle.cs_frame.proofs.TestLaws.{equal_bytes, same_bytes}
-use Rattle.cs_model.specs.Formats.{Formats}
-use Rattle.cs_model.specs.Index.{joined_bodies}
+use Rattle.law_machine.specs.Formats.{Formats}
+use Rattle.law_machine.specs.Index.{joined_bodies}
 use Rattle.cs_salvage.specs.declared.parts.Part.{Part}
 use Rattle.cs_salvage.specs.Frames.{IsMeant, IsOfFrame, IsPartIn, IsSpelled, TwoWithOneDigest}
 use Rattle.cs_salvage.proofs.Sames.{at_any, no_part}

@@ -8,11 +8,11 @@ use Rattle.cs_frame.specs.Heads.{spelled_head}
 use Rattle.cs_frame.specs.Identifiers.{id_number}
 use Rattle.cs_frame.proofs.FormatLaws.{is_format}
 use Rattle.cs_frame.proofs.HeadTelling.{one_head}
-use Rattle.cs_model.proofs.Payloads.{length_heads, payloads_bytes}
-use Rattle.cs_model.specs.Events.{ArePayloads, with_heads}
-use Rattle.cs_model.specs.Formats.{Formats}
-use Rattle.cs_model.specs.Geometry.{heads_in}
-use Rattle.cs_model.specs.Index.{joined_bodies}
+use Rattle.law_machine.proofs.Payloads.{length_heads, payloads_bytes}
+use Rattle.law_machine.specs.Events.{ArePayloads, with_heads}
+use Rattle.law_machine.specs.Formats.{Formats}
+use Rattle.law_machine.specs.Geometry.{heads_in}
+use Rattle.law_machine.specs.Index.{joined_bodies}
 use Rattle.cs_salvage.specs.declared.parts.Part.{Part}
 use Rattle.cs_salvage.specs.declared.parts.Put.{Put}
 use Rattle.cs_salvage.specs.Parts.{IsPart, formats_in, shape_in}

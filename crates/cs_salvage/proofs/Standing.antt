@@ -18,9 +18,9 @@ use Rattle.cs_frame.proofs.FormatLaws.{is_format}
 use Rattle.cs_frame.proofs.FrameLaws.{at_digest_of, first_front, frame_fault-spelled, header_first, payload_is_read}
 use Rattle.cs_frame.proofs.GeometryLaws.{bounds}
 use Rattle.cs_frame.proofs.Pieces.{length-first_chunks}
-use Rattle.cs_model.specs.Device.{Page, Shape}
-use Rattle.cs_model.specs.Formats.{ChunkFrame, Formats, Stand, pages_from}
-use Rattle.cs_model.specs.Geometry.{heads_in}
+use Rattle.law_machine.specs.Device.{Page, Shape}
+use Rattle.law_machine.specs.Formats.{ChunkFrame, Formats, Stand, pages_from}
+use Rattle.law_machine.specs.Geometry.{heads_in}
 use Rattle.cs_salvage.specs.Frames.{AreReadAs, IsFrontOf, IsPartIn, pages_at}
 use Rattle.cs_salvage.specs.Parts.{BeginsWith, IsChunkAt, IsNumbered, IsPart, NoPartAt, formats_in, shape_in}
 use Rattle.cs_salvage.specs.declared.parts.Part.{Part}

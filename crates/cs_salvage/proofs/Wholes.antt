@@ -7,9 +7,9 @@ use Rattle.cs_disk.specs.Disk.{Image}
 use Rattle.cs_frame.specs.Frames.{page_count}
 use Rattle.cs_frame.specs.Geometries.{Dimensions}
 use Rattle.cs_frame.specs.Identifiers.{id_number}
-use Rattle.cs_model.proofs.Counting.{few_chunks}
-use Rattle.cs_model.specs.Events.{ArePayloads}
-use Rattle.cs_model.specs.Geometry.{heads_in}
+use Rattle.law_machine.proofs.Counting.{few_chunks}
+use Rattle.law_machine.specs.Events.{ArePayloads}
+use Rattle.law_machine.specs.Geometry.{heads_in}
 use Rattle.cs_salvage.specs.declared.parts.Part.{Part}
 use Rattle.cs_salvage.specs.declared.parts.Put.{Put}
 use Rattle.cs_salvage.specs.Parts.{AreParts, IsIdentifier, IsPart, formats_in, shape_in}

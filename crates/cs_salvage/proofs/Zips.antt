@@ -3,8 +3,8 @@ use Rattle.std.proofs.Common.{◌≡◌, ◌∙◌, ℕ, zero, suc, ◌+◌, ◌
 use Rattle.std.specs.List.{AllZip}
 use Rattle.std.proofs.lemmas.List.{append-nil, take_all, take_more}
 use Rattle.std.proofs.Common.{append_assoc}
-use Rattle.cs_model.specs.Formats.{Formats}
-use Rattle.cs_model.specs.Index.{joined_bodies}
+use Rattle.law_machine.specs.Formats.{Formats}
+use Rattle.law_machine.specs.Index.{joined_bodies}
 
 module _ {A B : Type 0} (R : A → B → Type 0) where
   pub zip_push : (xs : List A) (ys : List B) (x : A) (y : B) → AllZip R xs ys → R x y → AllZip R (xs ++ x ∷ []) (ys ++ y ∷ [])

@@ -4,7 +4,7 @@ use Rattle.cs_disk.specs.Disk.{Image, page}
 use Rattle.sha2.specs.Sha256.{sha256}
 use Rattle.cs_frame.specs.Frames.{SpellsFrame, frame_count, page_count}
 use Rattle.cs_frame.specs.Geometries.{Dimensions}
-use Rattle.cs_model.specs.Formats.{pages_from}
+use Rattle.law_machine.specs.Formats.{pages_from}
 use Rattle.cs_salvage.specs.Parts.{BeginsWith, IsNumbered, IsSpellable, formats_in, shape_in}
 use Rattle.cs_salvage.specs.declared.parts.Part.{Part}
 

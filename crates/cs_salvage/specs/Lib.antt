@@ -1,3 +1,9 @@
+pub mod Answers
+pub mod Founds
+pub mod Refusals
+pub mod Rescued
+pub mod Runs
+pub mod Spared
 pub mod Parts
 pub mod Frames
 pub mod Shards

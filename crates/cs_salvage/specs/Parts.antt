@@ -11,9 +11,9 @@ use Rattle.cs_frame.specs.Frames.{page_count}
 use Rattle.cs_frame.specs.Geometries.{Dimensions, section_size}
 use Rattle.cs_frame.specs.Heads.{spelled_head}
 use Rattle.cs_frame.specs.Identifiers.{id_number}
-use Rattle.cs_model.specs.Device.{Shape}
-use Rattle.cs_model.specs.Formats.{ChunkFrame, Formats, Stand}
-use Rattle.cs_model.specs.Geometry.{heads_in, shape_of}
+use Rattle.law_machine.specs.Device.{Shape}
+use Rattle.law_machine.specs.Formats.{ChunkFrame, Formats, Stand}
+use Rattle.law_machine.specs.Geometry.{heads_in, shape_of}
 use Rattle.cs_salvage.specs.declared.parts.Part.{Part}
 
 -- the shape and the formats of a store of these dimensions

@@ -8,7 +8,7 @@ use Rattle.std.specs.Ordering.{nat_cmp, ordering_then}
 use Rattle.cs_salvage.specs.Shards.{Conflict, put_of}
 use Rattle.cs_salvage.specs.declared.parts.Part.{Part}
 use Rattle.cs_salvage.specs.declared.parts.Put.{Put}
-use Rattle.cs_salvage.specs.declared.shards.WholeShard.{WholeShard}
+use Rattle.cs_salvage.specs.declared.whole_shards.WholeShard.{WholeShard}
 use Rattle.cs_frame.specs.declared.identifiers.ShardId.{ShardId}
 
 -- how two puts are ordered: by their identifiers, and of one identifier the newer comes first

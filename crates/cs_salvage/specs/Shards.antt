@@ -10,7 +10,7 @@ use Rattle.cs_frame.specs.Geometries.{Dimensions}
 use Rattle.cs_salvage.specs.Parts.{IsChunkAt, IsPart}
 use Rattle.cs_salvage.specs.declared.parts.Part.{Part}
 use Rattle.cs_salvage.specs.declared.parts.Put.{Put}
-use Rattle.cs_salvage.specs.declared.shards.WholeShard.{WholeShard}
+use Rattle.cs_salvage.specs.declared.whole_shards.WholeShard.{WholeShard}
 
 -- the put that a part is of, by its head
 abbrev pub put_of : Part → Put

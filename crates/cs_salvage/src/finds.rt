@@ -5,8 +5,8 @@ ghost use Rattle.cs_disk.specs.Reads.{OnlyReads};
 ghost use Rattle.cs_salvage.specs.Frames.{IsOfFrame};
 ghost use Rattle.cs_salvage.specs.Parts.{AreParts, ArePartsBefore};
 
-use crate::frames::part_at;
 use crate::parts::Part;
+use crate::salvaged_frames::part_at;
 use cs_disk::{DiskFault, PageDisk};
 use cs_frame::Geometry;
 use std::alloc::Global;

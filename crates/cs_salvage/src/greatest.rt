@@ -4,7 +4,7 @@ ghost use Rattle.cs_disk.specs.Disk.{HasCause, seen};
 ghost use Rattle.cs_disk.specs.Reads.{OnlyReads};
 ghost use Rattle.cs_salvage.specs.Greatest.{IsGreatestOn, IsOfAFrame, IsScannedTo};
 
-use crate::frames::part_at;
+use crate::salvaged_frames::part_at;
 use cs_disk::{DiskFault, PageDisk};
 use cs_frame::Geometry;
 use std::alloc::Global;

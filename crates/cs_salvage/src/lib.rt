@@ -1,21 +1,40 @@
-//! What a damaged device still has of its shards: the frames of chunks that are whole, by the heads that their payloads begin with, and
-//! of each identifier the newest put all of whose parts are there. Only frames are read: no superblock, root or run of the index.
+//! What can be got of a store that can't be opened as usual. Nothing is written to its disk, and nothing is flushed.
+//!
+//! A rescue goes by the index: where a run of it is damaged, where places that entries name are gone, or where the root that is there is older
+//! than one that was persistent. Sections and root are read as cs_core's opening reads them, but whatever the sections record of the root; then
+//! the runs of the root, the newest first, up to one that can't be read. What these runs name is answered; what they don't name may be in one
+//! that is damaged, or older, and is refused by a name of its own.
+//!
+//! A salvage goes by the frames alone, whatever superblock, root and index are: the chunks that are whole, by the heads that their payloads
+//! begin with, and of each identifier the newest put all of whose parts are there.
 #![tactic(auto)]
 
 mod finds;
-mod frames;
+mod founds;
 mod greatest;
-mod laws;
 mod missing;
+mod part_reads;
 mod parts;
-mod reads;
+mod rescue_laws;
+mod rescue_openings;
+mod rescue_refusals;
+mod rescued_runs;
+mod rescues;
+mod salvage_laws;
+mod salvaged_frames;
 mod scans;
-mod shards;
+mod whole_shards;
 
 pub use finds::find_parts;
-pub use laws::{what_a_part_means_is_one, what_stands_is_whole, whole_shards_are_what_was_put};
 pub use missing::{Missing, missing_puts};
+pub use part_reads::read_whole;
 pub use parts::{Part, Put};
-pub use reads::read_whole;
+pub use rescue_laws::{what_is_whole_is_got, what_newer_runs_name_is_right};
+pub use rescue_refusals::RescueRefusal;
+pub use rescued_runs::DamagedRun;
+pub use rescues::Rescue;
+pub use salvage_laws::{
+    what_a_part_means_is_one, what_stands_is_whole, whole_shards_are_what_was_put,
+};
 pub use scans::{Patience, Scanned, scan_commands};
-pub use shards::{WholeShard, ambiguous, newest_whole};
+pub use whole_shards::{WholeShard, ambiguous, newest_whole};

@@ -5,7 +5,7 @@ ghost use Rattle.cs_salvage.specs.Puts.{AreBefore, AreInOrder, AreOf};
 ghost use Rattle.cs_salvage.specs.Shards.{IsWhole};
 
 use crate::parts::{Part, Put};
-use crate::shards::{are_ambiguous, by_puts, end_of_put, whole_of};
+use crate::whole_shards::{are_ambiguous, by_puts, end_of_put, whole_of};
 use cs_frame::ShardId;
 use std::alloc::{AllocError, Global};
 

@@ -2,10 +2,10 @@
 use Rattle.std.proofs.Common.{◌≡◌, ℕ, Bool, List, ◌++◌, length, sym, subst, refl}
 use Rattle.std.specs.Prelude.{Option, ◌↔◌}
 use Rattle.std.specs.Io.KnownBytes.{Appends}
-use Rattle.cs_deps.specs.declared.refusals.Refusal.{Refusal}
+use Rattle.cs_refusal.specs.declared.refusals.Refusal.{Refusal}
 use Rattle.cs_disk.specs.declared.disk.PageDisk.{Ghosts as PageDisk}
 use Rattle.cs_disk.specs.Disk.{crashed}
-use Rattle.cs_core.specs.Views.{View}
+use Rattle.cs_writeback.specs.cs_core.Views.{View}
 use Rattle.cs_script.specs.Crashes.{Crashes, CrashesUnder, IsCrash, IsCrashed, IsNotReopened, Reopens, kept_count}
 use Rattle.cs_script.specs.Lines.{says_crash}
 use Rattle.cs_script.specs.Outputs.{crash_line, open_line, refusal_line}

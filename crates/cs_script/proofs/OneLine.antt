@@ -2,10 +2,10 @@
 use Rattle.std.proofs.Common.{◌≡◌, ◌∙◌, ℕ, Bool, List, sym, ap, subst, refl, inl, inr}
 use Rattle.std.specs.Prelude.{Option, None, Result, Ok, Err, IfOk, IsErrAnd, IsOkAnd, MatchResult, OnOk, IsTrue, ◌↔◌}
 use Rattle.std.specs.Io.KnownBytes.{Appends}
-use Rattle.cs_deps.specs.declared.refusals.Refusal.{Refusal}
+use Rattle.cs_refusal.specs.declared.refusals.Refusal.{Refusal}
 use Rattle.cs_disk.specs.declared.disk.PageDisk.{Ghosts as PageDisk}
-use Rattle.cs_core.specs.Views.{View}
-use Rattle.cs_drive.specs.Histories.{MakesRoom}
+use Rattle.cs_writeback.specs.cs_core.Views.{View}
+use Rattle.cs_writeback.specs.Histories.{MakesRoom}
 use Rattle.cs_script.specs.declared.answers.Answer.{Answer}
 use Rattle.cs_script.specs.declared.answers.Answer.TheVariants.{Given, Refused}
 use Rattle.cs_script.specs.declared.watchers.LineFault.{LineFault}

@@ -6,8 +6,8 @@ use Rattle.std.proofs.lemmas.List.{take_more, map-append, length-map, length-tak
 use Rattle.std.proofs.lemmas.Option.{slice_get-get_or}
 use Rattle.std.specs.Io.KnownBytes.{Appends}
 use Rattle.cs_deps.specs.declared.elements.Element.{Element}
-use Rattle.cs_deps.specs.declared.refusals.Refusal.{Refusal}
-use Rattle.cs_deps.specs.declared.refusals.Refusal.TheVariants.{OutOfMemory}
+use Rattle.cs_refusal.specs.declared.refusals.Refusal.{Refusal}
+use Rattle.cs_refusal.specs.declared.refusals.Refusal.TheVariants.{OutOfMemory}
 use Rattle.cs_deps.specs.Pending.{Pending}
 use Rattle.cs_deps.specs.Staging.{IsKept, Staging}
 use Rattle.cs_deps.specs.State.{everything}
@@ -15,15 +15,15 @@ use Rattle.cs_deps.specs.Turns.{LeadTo}
 use Rattle.cs_deps.proofs.InTurn.{are_queues, everything_is_all, in_turn_is_a_plan}
 use Rattle.cs_disk.specs.declared.disk.PageDisk.{Ghosts as PageDisk}
 use Rattle.cs_plan.specs.Best.{IsBestPlan}
-use Rattle.cs_core.specs.declared.events.Event.TheVariants.{Stage}
-use Rattle.cs_core.specs.declared.events.Reply.{Reply}
-use Rattle.cs_core.specs.Replies.{MayAnswer}
-use Rattle.cs_core.specs.Views.{View}
-use Rattle.cs_drive.specs.Histories.{Goes, IsNoRefusal}
+use Rattle.cs_writeback.specs.cs_core.declared.events.Event.TheVariants.{Stage}
+use Rattle.cs_writeback.specs.cs_core.declared.events.Reply.{Reply}
+use Rattle.cs_writeback.specs.cs_core.Replies.{MayAnswer}
+use Rattle.cs_writeback.specs.cs_core.Views.{View}
+use Rattle.cs_writeback.specs.Histories.{Goes, IsNoRefusal}
 use Rattle.cs_script.specs.Outputs.{round_line, round_lines}
 use Rattle.cs_script.specs.Scripts.{IsPlanRefused, Stages}
-use Rattle.cs_drive.proofs.Asked.{staged_of}
-use Rattle.cs_drive.proofs.Histories.{went_one}
+use Rattle.cs_writeback.proofs.Asked.{staged_of}
+use Rattle.cs_writeback.proofs.Histories.{went_one}
 use Rattle.cs_script.proofs.Appended.{appends_same, appends_then}
 use Rattle.cs_script.proofs.Rounds.{round_lines_more}
 

@@ -1,10 +1,10 @@
 -- Why a sync ended early, as it is printed.
 use Rattle.std.proofs.Common.{ℕ, List, inl, inr}
-use Rattle.cs_deps.specs.declared.refusals.Refusal.{Refusal}
+use Rattle.cs_refusal.specs.declared.refusals.Refusal.{Refusal}
 use Rattle.cs_disk.specs.declared.disk.PageDisk.{Ghosts as PageDisk}
-use Rattle.cs_core.specs.Views.{View}
-use Rattle.cs_drive.specs.Syncs.{MayRefuseSync}
-use Rattle.cs_drive.proofs.DueRefusals.{sync_refuses, want_refuses}
+use Rattle.cs_writeback.specs.cs_core.Views.{View}
+use Rattle.cs_writeback.specs.Syncs.{MayRefuseSync}
+use Rattle.cs_writeback.proofs.DueRefusals.{sync_refuses, want_refuses}
 use Rattle.cs_script.specs.Scripts.{PrintsStop}
 
 module _ {D : Type 0} (disks : PageDisk D) where

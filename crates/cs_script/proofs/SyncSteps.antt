@@ -4,21 +4,21 @@ use Rattle.std.specs.Prelude.{Option, None, Result, Ok, Err, MatchResult, IsErrA
 use Rattle.std.proofs.lemmas.List.{append-nil}
 use Rattle.std.specs.Io.KnownBytes.{Appends}
 use Rattle.cs_deps.specs.declared.elements.Element.{Element}
-use Rattle.cs_deps.specs.declared.refusals.Refusal.{Refusal}
-use Rattle.cs_deps.specs.declared.refusals.Refusal.TheVariants.{OutOfMemory}
+use Rattle.cs_refusal.specs.declared.refusals.Refusal.{Refusal}
+use Rattle.cs_refusal.specs.declared.refusals.Refusal.TheVariants.{OutOfMemory}
 use Rattle.cs_deps.specs.Staging.{IsKept}
 use Rattle.cs_disk.specs.declared.disk.PageDisk.{Ghosts as PageDisk}
-use Rattle.cs_core.specs.declared.events.Event.TheVariants.{Stage}
-use Rattle.cs_core.specs.declared.events.Reply.{Reply}
-use Rattle.cs_core.specs.Replies.{MayAnswer}
-use Rattle.cs_core.specs.Views.{View}
-use Rattle.cs_drive.specs.declared.stops.Stop.{Stop}
-use Rattle.cs_drive.specs.declared.stops.Stop.TheVariants.{Refused, Untold}
-use Rattle.cs_drive.specs.Histories.{Goes, IsNoRefusal, IsStopped, Went}
-use Rattle.cs_drive.specs.Rounds.{Finishes, Turn, events_of_all, rounds_of}
-use Rattle.cs_drive.specs.Syncs.{AreTold, StopsInRounds}
-use Rattle.cs_drive.proofs.SyncSteps.{finishes_none, none_staged, round_refused, stage_refused, written}
-use Rattle.cs_drive.proofs.Turned.{went_turns}
+use Rattle.cs_writeback.specs.cs_core.declared.events.Event.TheVariants.{Stage}
+use Rattle.cs_writeback.specs.cs_core.declared.events.Reply.{Reply}
+use Rattle.cs_writeback.specs.cs_core.Replies.{MayAnswer}
+use Rattle.cs_writeback.specs.cs_core.Views.{View}
+use Rattle.cs_writeback.specs.declared.stops.Stop.{Stop}
+use Rattle.cs_writeback.specs.declared.stops.Stop.TheVariants.{Refused, Untold}
+use Rattle.cs_writeback.specs.Histories.{Goes, IsNoRefusal, IsStopped, Went}
+use Rattle.cs_writeback.specs.Rounds.{Finishes, Turn, events_of_all, rounds_of}
+use Rattle.cs_writeback.specs.Syncs.{AreTold, StopsInRounds}
+use Rattle.cs_writeback.proofs.SyncSteps.{finishes_none, none_staged, round_refused, stage_refused, written}
+use Rattle.cs_writeback.proofs.Turned.{went_turns}
 use Rattle.cs_script.specs.declared.answers.Answer.{Answer}
 use Rattle.cs_script.specs.declared.answers.Answer.TheVariants.{Refused as RefusedAnswer}
 use Rattle.cs_script.specs.Lines.{says_sync}

@@ -3,9 +3,9 @@ use Rattle.std.proofs.Common.{◌≡◌, ◌≢◌, ◌⊎◌, ◌∙◌, ◌+�
 use Rattle.std.specs.Prelude.{Option, Result, Ok, Err}
 use Rattle.std.proofs.lemmas.List.{append-nil}
 use Rattle.std.specs.Io.BufRead.{strip_last, take_through, drop_through, first_piece}
-use Rattle.cs_deps.specs.declared.refusals.Refusal.{Refusal}
+use Rattle.cs_refusal.specs.declared.refusals.Refusal.{Refusal}
 use Rattle.cs_disk.specs.declared.disk.PageDisk.{Ghosts as PageDisk}
-use Rattle.cs_core.specs.Views.{View}
+use Rattle.cs_writeback.specs.cs_core.Views.{View}
 use Rattle.cs_script.specs.Crashes.{CrashesForGood}
 use Rattle.cs_script.specs.Lines.{said_of}
 use Rattle.cs_script.specs.Scripts.{GoesOn, Runs, ended, then_runs, unopened}

@@ -1,13 +1,13 @@
 -- What a line `crash` does, and what it prints.
 use Rattle.std.specs.Prelude.{◌≡◌, ◌⊎◌, ◌++◌, ◌↔◌, ℕ, Bool, List, [], count_by, length}
-use Rattle.cs_chunk.specs.Reads.{IsNoAnswer}
-use Rattle.cs_deps.specs.declared.refusals.Refusal.{Refusal}
-use Rattle.cs_deps.specs.declared.refusals.Refusal.TheVariants.{DeviceFault}
+use Rattle.cs_writeback.specs.cs_chunk.Reads.{IsNoAnswer}
+use Rattle.cs_refusal.specs.declared.refusals.Refusal.{Refusal}
+use Rattle.cs_refusal.specs.declared.refusals.Refusal.TheVariants.{DeviceFault}
 use Rattle.cs_disk.specs.declared.disk.PageDisk.{Ghosts as PageDisk}
 use Rattle.cs_disk.specs.Disk.{Rises, crashed, flushed, page, seen}
-use Rattle.cs_extent.specs.State.{shape}
-use Rattle.cs_core.specs.Openings.{IsOpened, IsOpeningRefusal, IsWhyNotOpened}
-use Rattle.cs_core.specs.Views.{IsFound, View}
+use Rattle.cs_writeback.specs.cs_extent.State.{shape}
+use Rattle.cs_writeback.specs.cs_core.Openings.{IsOpened, IsOpeningRefusal, IsWhyNotOpened}
+use Rattle.cs_writeback.specs.cs_core.Views.{IsFound, View}
 use Rattle.cs_script.specs.Lines.{Said, says_crash}
 use Rattle.cs_script.specs.Outputs.{crash_line, open_line, refusal_line}
 

@@ -2,7 +2,7 @@
 use Rattle.std.specs.Prelude.{ℕ, List, Option}
 use Rattle.std.specs.Io.KnownBytes.{Appends}
 use Rattle.cs_disk.specs.declared.disk.PageDisk.{Ghosts as PageDisk}
-use Rattle.cs_core.specs.Views.{View}
+use Rattle.cs_writeback.specs.cs_core.Views.{View}
 use Rattle.cs_script.specs.declared.crashes.End.{End}
 use Rattle.cs_script.specs.declared.crashes.End.TheVariants.{Broken, Unopened}
 use Rattle.cs_script.specs.Crashes.{CrashesUnder}

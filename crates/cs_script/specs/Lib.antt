@@ -4,7 +4,6 @@ pub mod Crashes
 pub mod Ends
 pub mod Lines
 pub mod Outputs
-pub mod RaceNumbers
 pub mod Scripts
 pub mod Stops
 pub mod Stores

@@ -2,23 +2,23 @@
 use Rattle.std.specs.Prelude.{◌≡◌, ◌≢◌, ◌⊎◌, ◌↔◌, ℕ, Bool, false, IsTrue, List, [], ◌∷◌, ◌++◌, Option, Some, None, length, take}
 use Rattle.std.specs.Io.BufRead.{first_piece, drop_through}
 use Rattle.cs_deps.specs.declared.elements.Element.{Element}
-use Rattle.cs_deps.specs.declared.refusals.Refusal.{Refusal}
-use Rattle.cs_deps.specs.declared.refusals.Refusal.TheVariants as refusal
+use Rattle.cs_refusal.specs.declared.refusals.Refusal.{Refusal}
+use Rattle.cs_refusal.specs.declared.refusals.Refusal.TheVariants as refusal
 use Rattle.cs_deps.specs.Pending.{Pending}
 use Rattle.cs_deps.specs.State.{everything}
 use Rattle.cs_disk.specs.declared.disk.PageDisk.{Ghosts as PageDisk}
 use Rattle.cs_plan.specs.Best.{IsBestPlan}
 use Rattle.cs_check.specs.Written.{HasDocument, IsTextOf}
-use Rattle.cs_core.specs.declared.events.Event.{Event}
-use Rattle.cs_core.specs.declared.events.Event.TheVariants.{Delete, Get, Put, Stage}
-use Rattle.cs_core.specs.declared.events.Reply.{Reply}
-use Rattle.cs_core.specs.declared.events.Reply.TheVariants.{Absent, Accepted, Begun, Ended, Found, Issued, Nothing}
-use Rattle.cs_core.specs.Stored.{Stored}
-use Rattle.cs_core.specs.Views.{View}
-use Rattle.cs_drive.specs.Histories.{IsStopped, MakesRoom, Went}
-use Rattle.cs_drive.specs.Rounds.{Finishes, StopsFirst, rounds_of, step_event}
-use Rattle.cs_drive.specs.Sweeps.{IsSweepRefused, Sweeps}
-use Rattle.cs_drive.specs.Syncs.{IsStageDone, StopsLater, Syncs}
+use Rattle.cs_writeback.specs.cs_core.declared.events.Event.{Event}
+use Rattle.cs_writeback.specs.cs_core.declared.events.Event.TheVariants.{Delete, Get, Put, Stage}
+use Rattle.cs_writeback.specs.cs_core.declared.events.Reply.{Reply}
+use Rattle.cs_writeback.specs.cs_core.declared.events.Reply.TheVariants.{Absent, Accepted, Begun, Ended, Found, Issued, Nothing}
+use Rattle.cs_writeback.specs.cs_core.Stored.{Stored}
+use Rattle.cs_writeback.specs.cs_core.Views.{View}
+use Rattle.cs_writeback.specs.Histories.{IsStopped, MakesRoom, Went}
+use Rattle.cs_writeback.specs.Rounds.{Finishes, StopsFirst, rounds_of, step_event}
+use Rattle.cs_writeback.specs.Sweeps.{IsSweepRefused, Sweeps}
+use Rattle.cs_writeback.specs.Syncs.{IsStageDone, StopsLater, Syncs}
 use Rattle.cs_script.specs.Crashes.{Crashes, CrashesForGood, IsCrash}
 use Rattle.cs_script.specs.declared.answers.Answer.{Answer}
 use Rattle.cs_script.specs.declared.answers.Answer.TheVariants.{Given, Bad, Refused}

@@ -1,11 +1,11 @@
 -- The stores that scripts run over.
 use Rattle.std.specs.Prelude.{◌≡◌, ℕ, List, [], Option, Result, Ok, Err, replicate}
-use Rattle.cs_deps.specs.declared.refusals.Refusal.{Refusal}
+use Rattle.cs_refusal.specs.declared.refusals.Refusal.{Refusal}
 use Rattle.cs_disk.specs.declared.disk.PageDisk.{Ghosts as PageDisk}
 use Rattle.cs_disk.specs.Disk.{State as DiskState}
 use Rattle.cs_frame.specs.Geometries.{device_pages}
-use Rattle.cs_core.specs.Started.{IsNewOn, new_stored}
-use Rattle.cs_core.specs.Views.{View}
+use Rattle.cs_writeback.specs.cs_core.Started.{IsNewOn, new_stored}
+use Rattle.cs_writeback.specs.cs_core.Views.{View}
 use Rattle.cs_script.specs.Outputs.{refusal_line}
 use Rattle.cs_script.specs.Scripts.{Runs}
 use Rattle.cs_script.specs.Watched.{RunsInPart, RunsWatched}

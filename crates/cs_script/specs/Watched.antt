@@ -1,10 +1,10 @@
 -- Scripts with a watcher: what it is told of which line, and where the script ends.
 use Rattle.std.specs.Prelude.{◌≡◌, ◌≢◌, ◌⊎◌, ◌↔◌, ◌+◌, ℕ, zero, suc, Bool, IsTrue, List, [], ◌++◌, Option, Some, None}
 use Rattle.std.specs.Io.BufRead.{first_piece, drop_through, take_through}
-use Rattle.cs_deps.specs.declared.refusals.Refusal.{Refusal}
+use Rattle.cs_refusal.specs.declared.refusals.Refusal.{Refusal}
 use Rattle.cs_disk.specs.declared.disk.PageDisk.{Ghosts as PageDisk}
-use Rattle.cs_core.specs.Views.{View}
-use Rattle.cs_drive.specs.Histories.{MakesRoom}
+use Rattle.cs_writeback.specs.cs_core.Views.{View}
+use Rattle.cs_writeback.specs.Histories.{MakesRoom}
 use Rattle.cs_script.specs.declared.answers.Answer.{Answer}
 use Rattle.cs_script.specs.declared.answers.Answer.TheVariants.{Given, Bad, Refused}
 use Rattle.cs_script.specs.declared.bad_lines.BadLine.{BadLine}

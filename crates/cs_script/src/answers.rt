@@ -5,7 +5,7 @@ ghost use Rattle.cs_script.specs.declared.answers.Answer.TheVariants.{Bad as Bad
 ghost use Rattle.cs_script.specs.Outputs.{bad_line, refusal_line};
 
 use crate::outputs::{print_bad_line, print_refusal};
-use cs_deps::Refusal;
+use cs_refusal::Refusal;
 use std::io;
 use std::io::Write;
 

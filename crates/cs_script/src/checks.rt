@@ -8,7 +8,7 @@ ghost use Rattle.cs_script.specs.Checks.{Checks, IsFaulty, IsOptimal, Reports, S
 use crate::bounded_readers::{BoundedReader, READS};
 use crate::outputs::{print_optimal, print_refusal};
 use cs_check::{CheckFault, Document, Verdict, check, from_document};
-use cs_deps::Refusal;
+use cs_refusal::Refusal;
 use std::alloc::Global;
 use std::io::{Read, Write};
 use std::{io, str};
@@ -25,11 +25,11 @@ pub fn run_check<R: Read + Drop, W: Write>(alloc: Global, reader: R, writer: &mu
     let mut text = Vec::new(alloc);
     let mut reader = BoundedReader::new(reader, READS);
     let Ok(_) = reader.read_to_end(&mut text) else {
-        return cs_status::STREAM;
+        return cs_words::STREAM;
     };
     match answer_check(alloc, &text, writer) {
         Ok(status) => status,
-        Err(_) => cs_status::STREAM,
+        Err(_) => cs_words::STREAM,
     }
 }
 
@@ -50,11 +50,11 @@ fn print_check<W: Write>(writer: &mut W, found: Result<Verdict, CheckFault>) -> 
     match found {
         Ok(verdict) => {
             print_optimal(writer, verdict.flushes)?;
-            Ok(cs_status::DONE)
+            Ok(cs_words::DONE)
         }
         Err(fault) => {
             print_refusal(writer, Refusal::from(fault))?;
-            Ok(cs_status::REFUSED)
+            Ok(cs_words::REFUSED)
         }
     }
 }

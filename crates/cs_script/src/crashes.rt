@@ -8,9 +8,9 @@ ghost use Rattle.cs_script.specs.Outputs.{open_line};
 
 use crate::lines::Line;
 use crate::outputs::{print_crash, print_last, print_open};
-use cs_core::{Core, Limits};
-use cs_deps::Refusal;
 use cs_disk::{CrashDisk, PageDisk};
+use cs_refusal::Refusal;
+use cs_writeback::the_core::{Core, Limits};
 use std::alloc::Global;
 use std::io;
 use std::io::Write;

@@ -7,11 +7,11 @@ ghost use Rattle.cs_script.specs.Scripts.{AnswersSo, Documents, IsDocumentRefuse
 
 use crate::answers::{Answer, given, print_refused};
 use crate::letters::letters_of;
-use crate::plans::plan_all;
+use crate::plan_lines::plan_all;
 use cs_check::to_document;
-use cs_core::Core;
-use cs_deps::Refusal;
 use cs_disk::PageDisk;
+use cs_refusal::Refusal;
+use cs_writeback::the_core::Core;
 use std::alloc::Global;
 use std::io;
 use std::io::Write;

@@ -5,8 +5,9 @@ ghost use Rattle.hex.specs.Hex.{encode_lower};
 ghost use Rattle.cs_script.specs.Outputs.{absent_line, acknowledged_line, bad_line, begin_line, chain_line, crash_line, delete_line, element_name, element_names, end_line, flushes_line, idle_line, issue_line, open_line, optimal_line, put_line, refusal_line, round_line, swept_line, value_line};
 
 use crate::letters::letter_of;
-use cs_deps::{Element, Refusal};
-use cs_drive::Swept;
+use cs_deps::Element;
+use cs_refusal::Refusal;
+use cs_writeback::Swept;
 use std::io;
 use std::io::Write;
 
@@ -86,8 +87,8 @@ pub fn print_no_store<W: Write>(writer: &mut W, refusal: Refusal) -> u8
     ensures { ((result ≡ 3) × Appends (W.contents writer.old) (W.contents writer.new) (refusal_line refusal)) ⊎ (result ≡ 4) }
 {
     match print_last(writer, refusal) {
-        Ok(()) => cs_status::NO_STORE,
-        Err(_) => cs_status::STREAM,
+        Ok(()) => cs_words::NO_STORE,
+        Err(_) => cs_words::STREAM,
     }
 }
 

@@ -14,16 +14,16 @@ use crate::crashes::{End, crash, mask_of};
 use crate::documents::document;
 use crate::lines::Line;
 use crate::outputs::{print_absent, print_delete, print_put, print_value};
-use crate::plans::plan;
+use crate::plan_lines::plan;
 use crate::steps::step;
-use crate::sweeps::sweep;
+use crate::sweep_lines::sweep;
 use crate::syncs::sync;
 use crate::watchers::{LineFault, Onward, Unwatched, Watcher};
-use cs_core::{Bytes, Core, Event, Reply};
-use cs_deps::Refusal;
 use cs_disk::{CrashDisk, PageDisk};
-use cs_drive::{ask, make_room};
 use cs_frame::ShardId;
+use cs_refusal::Refusal;
+use cs_writeback::the_core::{Bytes, Core, Event, Reply};
+use cs_writeback::{ask, make_room};
 use std::alloc::{AllocError, Global};
 use std::io;
 use std::io::{BufRead, BufReader, Read, Write};
@@ -95,7 +95,7 @@ pub fn run_watched<D: CrashDisk + Drop, R: Read + Drop, W: Write, V: Watcher>(
     match BufReader::new(alloc, BoundedReader::new(reader, READS)) {
         Ok(mut reader) => run_lines(alloc, core, &mut reader, writer, watcher),
         Err(_) => Ran {
-            status: cs_status::STREAM,
+            status: cs_words::STREAM,
             core: Some(core),
         },
     }
@@ -117,7 +117,7 @@ fn run_lines<D: CrashDisk + Drop, B: BufRead, W: Write, V: Watcher>(
 {
     let mut going = Going {
         core,
-        status: cs_status::DONE,
+        status: cs_words::DONE,
     };
     for lines in 0..u64::MAX {
         let mut line = Vec::new(alloc);
@@ -128,7 +128,7 @@ fn run_lines<D: CrashDisk + Drop, B: BufRead, W: Write, V: Watcher>(
             },
             Ok(_) => {}
             Err(_) => return Ran {
-                status: cs_status::STREAM,
+                status: cs_words::STREAM,
                 core: Some(going.core),
             },
         }
@@ -145,7 +145,7 @@ fn run_lines<D: CrashDisk + Drop, B: BufRead, W: Write, V: Watcher>(
         }
     }
     Ran {
-        status: cs_status::STREAM,
+        status: cs_words::STREAM,
         core: Some(going.core),
     }
 }
@@ -180,19 +180,19 @@ fn watch_line<D: CrashDisk + Drop, W: Write, V: Watcher>(
         Ok(done) => match hear(watcher, number, text, done.fault) {
             Onward::GoOn => Ok(done.going),
             Onward::Stop => Err(Ran {
-                status: cs_status::BAD_LINE,
+                status: cs_words::BAD_LINE,
                 core: Some(done.going.core),
             }),
         },
         Err(End::Unopened(refusal)) => {
             watcher.met(number, text, LineFault::Refused(refusal));
             Err(Ran {
-                status: cs_status::NO_STORE,
+                status: cs_words::NO_STORE,
                 core: None,
             })
         }
         Err(End::Broken(core)) => Err(Ran {
-            status: cs_status::STREAM,
+            status: cs_words::STREAM,
             core,
         }),
     }
@@ -274,7 +274,7 @@ fn after_line(line: &Line, status: u8) -> u8
     ensures { result ≡ status_after (said_by line.now) status }
 {
     match line {
-        Line::Crash { mask: _ } | Line::Bad => cs_status::BAD_LINE,
+        Line::Crash { mask: _ } | Line::Bad => cs_words::BAD_LINE,
         _ => status,
     }
 }

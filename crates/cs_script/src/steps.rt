@@ -1,15 +1,15 @@
 //! The line `step`. Where the writer fails, it ends with that error.
 ghost use Rattle.std.specs.Prelude.{◌≡◌, ℕ, List, IfOk};
 ghost use Rattle.std.specs.Io.KnownBytes.{Appends};
-ghost use Rattle.cs_drive.specs.Rounds.{step_event};
+ghost use Rattle.cs_writeback.specs.Rounds.{step_event};
 ghost use Rattle.cs_script.specs.Lines.{says_step};
 ghost use Rattle.cs_script.specs.Scripts.{AnswersSo};
 
 use crate::answers::{Answer, given, print_refused};
 use crate::outputs::{print_begin, print_end, print_idle, print_issue};
-use cs_core::{Core, Event, Reply};
 use cs_disk::PageDisk;
-use cs_drive::ask;
+use cs_writeback::ask;
+use cs_writeback::the_core::{Core, Event, Reply};
 use std::io;
 use std::io::Write;
 

@@ -1,7 +1,7 @@
 //! The line `sync`. Where the writer fails, it ends with that error.
 ghost use Rattle.std.specs.Prelude.{◌++◌, ℕ, List, Option, IfErr, IfOk, OnOk};
 ghost use Rattle.std.specs.Io.KnownBytes.{Appends};
-ghost use Rattle.cs_drive.specs.Rounds.{Finishes};
+ghost use Rattle.cs_writeback.specs.Rounds.{Finishes};
 ghost use Rattle.cs_script.specs.Lines.{says_sync};
 ghost use Rattle.cs_script.specs.Outputs.{acknowledged_line, chain_line, end_lines, flushes_line, round_line};
 ghost use Rattle.cs_script.specs.Scripts.{AnswersSo, PrintsSync};
@@ -9,11 +9,11 @@ ghost use Rattle.cs_script.specs.Stops.{StopsAfter, StopsAtFirst};
 
 use crate::answers::{Answer, print_refused};
 use crate::outputs::{print_acknowledged, print_chain, print_end, print_flushes, print_round};
-use crate::plans::plan_all;
-use cs_core::{Core, Event};
+use crate::plan_lines::plan_all;
 use cs_deps::Element;
 use cs_disk::PageDisk;
-use cs_drive::{Observer, Stop, ask, end_round, write_rounds};
+use cs_writeback::the_core::{Core, Event};
+use cs_writeback::{Observer, Stop, ask, end_round, write_rounds};
 use std::io;
 use std::io::Write;
 

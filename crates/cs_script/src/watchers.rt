@@ -5,7 +5,7 @@ ghost use Rattle.cs_script.specs.declared.watchers.Onward.{Onward as Next};
 ghost use Rattle.cs_script.specs.declared.watchers.Onward.TheVariants.{GoOn};
 
 use crate::bad_lines::BadLine;
-use cs_deps::Refusal;
+use cs_refusal::Refusal;
 use thiserror::Error;
 
 /// What is wrong with a line.

@@ -1,24 +1,24 @@
 -- What an abandon does, and what it is refused for.
 use Rattle.std.proofs.Common.{◌≡◌, ◌∙◌, ◌⊎◌, ℕ, ◌∷◌, [], refl, sym, ap, subst, inl, inr}
 use Rattle.std.specs.Prelude.{false}
-use Rattle.cs_deps.specs.declared.refusals.Refusal.{Refusal}
-use Rattle.cs_deps.specs.declared.refusals.Refusal.TheVariants as refusal
+use Rattle.cs_refusal.specs.declared.refusals.Refusal.{Refusal}
+use Rattle.cs_refusal.specs.declared.refusals.Refusal.TheVariants as refusal
 use Rattle.cs_disk.specs.declared.disk.PageDisk.{Ghosts as PageDisk}
 use Rattle.cs_extent.specs.State.{extents_of, shape}
 use Rattle.cs_frame.specs.Formats.{formats_of}
-use Rattle.cs_model.specs.Extents.{Extents, marked}
-use Rattle.cs_model.specs.State as model
-use Rattle.cs_model.specs.State.{State}
-use Rattle.cs_model.specs.Step.{Step}
+use Rattle.law_machine.specs.Extents.{Extents, marked}
+use Rattle.law_machine.specs.State as model
+use Rattle.law_machine.specs.State.{State}
+use Rattle.law_machine.specs.Step.{Step}
 use Rattle.cs_core.specs.declared.events.Event.TheVariants.{Abandon}
 use Rattle.cs_core.specs.declared.events.Reply.{Reply}
 use Rattle.cs_core.specs.declared.events.Reply.TheVariants.{Abandoned}
 use Rattle.cs_core.specs.Replies.{MayRefuse}
 use Rattle.cs_core.specs.Views.{IsIn, View}
-use Rattle.cs_drive.proofs.Asked.{abandoned_of}
-use Rattle.cs_drive.proofs.Histories.{went_one}
-use Rattle.cs_drive.specs.Histories.{Goes, IsNoRefusal, Went}
-use Rattle.cs_drive.specs.Sweeps.{MayRefuseSweep}
+use Rattle.cs_writeback.proofs.Asked.{abandoned_of}
+use Rattle.cs_writeback.proofs.Histories.{went_one}
+use Rattle.cs_writeback.specs.Histories.{Goes, IsNoRefusal, Went}
+use Rattle.cs_writeback.specs.Sweeps.{MayRefuseSweep}
 use Rattle.cs_store.specs.declared.errors.SweepError.{SweepError}
 use Rattle.cs_store.specs.declared.errors.SweepError.TheVariants as sweep
 use Rattle.cs_store.specs.Errors.{sweep_refusal}

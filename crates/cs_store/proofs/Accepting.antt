@@ -2,10 +2,10 @@
 use Rattle.std.proofs.Common.{◌≡◌, ◌∙◌, ◌⊎◌, ℕ, ◌<◌, ◌≤◌, List, [], ◌∷◌, ◌++◌, Option, Some, None, sym, ap, subst, refl, inl, inr}
 use Rattle.std.specs.Prelude.{IfErr, IfOk, Result, Ok, Err, length}
 use Rattle.std.proofs.lemmas.List.{append_assoc}
-use Rattle.cs_deps.specs.declared.refusals.Refusal.{Refusal}
+use Rattle.cs_refusal.specs.declared.refusals.Refusal.{Refusal}
 use Rattle.cs_disk.specs.declared.disk.PageDisk.{Ghosts as PageDisk}
 use Rattle.cs_extent.specs.State.{shape}
-use Rattle.cs_model.specs.State.{Command}
+use Rattle.law_machine.specs.State.{Command}
 use Rattle.cs_core.specs.Checkpoints.{Replaces}
 use Rattle.cs_core.specs.declared.events.Event.{Event}
 use Rattle.cs_core.specs.declared.events.Event.TheVariants.{Abandon, BeginSweep, MoveOne, Retire, Stage}
@@ -14,10 +14,10 @@ use Rattle.cs_core.specs.declared.events.Reply.TheVariants.{Abandoned, NoneLive,
 use Rattle.cs_core.specs.Meanings.{command_said, commands_said}
 use Rattle.cs_core.specs.Stored.{Stored}
 use Rattle.cs_core.specs.Views.{View, kept}
-use Rattle.cs_drive.specs.Histories.{Goes, IsStopped, MakesRoom, Stays, Went}
-use Rattle.cs_drive.specs.Rounds.{Finishes, IsStoppedAtDue, events_of_all, issues, rest_of_round, step_event}
-use Rattle.cs_drive.specs.Sweeps.{Abandons, IsSweepRefused, StopsSweep, Sweeps, moves}
-use Rattle.cs_drive.specs.Syncs.{StopsInTurn, StopsLater, StopsSync, Syncs}
+use Rattle.cs_writeback.specs.Histories.{Goes, IsStopped, MakesRoom, Stays, Went}
+use Rattle.cs_writeback.specs.Rounds.{Finishes, IsStoppedAtDue, events_of_all, issues, rest_of_round, step_event}
+use Rattle.cs_writeback.specs.Sweeps.{Abandons, IsSweepRefused, StopsSweep, Sweeps, moves}
+use Rattle.cs_writeback.specs.Syncs.{StopsInTurn, StopsLater, StopsSync, Syncs}
 use Rattle.cs_store.specs.Events.{Declines, Does}
 use Rattle.cs_store.specs.Maps.{Accepts}
 use Rattle.cs_store.specs.Rooms.{Empties, IsMadeReady, IsNoRoom, StaysFull}

@@ -1,20 +1,20 @@
 -- Room that is made for an event, and the event that is done then.
 use Rattle.std.proofs.Common.{◌≡◌, ◌⊎◌, ℕ, ◌<◌, ◌≤◌, [], length, refl, sym, subst, inl, inr}
 use Rattle.std.specs.Prelude.{IfErr, IfOk, MatchResult, OnOk, Result, Ok, Err}
-use Rattle.cs_deps.specs.declared.refusals.Refusal.{Refusal}
-use Rattle.cs_deps.specs.declared.refusals.Refusal.TheVariants.{OutOfMemory}
+use Rattle.cs_refusal.specs.declared.refusals.Refusal.{Refusal}
+use Rattle.cs_refusal.specs.declared.refusals.Refusal.TheVariants.{OutOfMemory}
 use Rattle.cs_disk.specs.declared.disk.PageDisk.{Ghosts as PageDisk}
-use Rattle.cs_model.specs.State.{State}
+use Rattle.law_machine.specs.State.{State}
 use Rattle.cs_core.specs.declared.events.Event.{Event}
 use Rattle.cs_core.specs.declared.events.Reply.{Reply}
 use Rattle.cs_core.specs.Meanings.{command_said}
 use Rattle.cs_core.specs.Replies.{MayRefuse}
 use Rattle.cs_core.specs.Views.{IsIn, View, kept}
-use Rattle.cs_drive.proofs.Histories.{went_one}
-use Rattle.cs_drive.specs.Histories.{Goes, IsStopped, MakesRoom}
-use Rattle.cs_drive.specs.declared.sweeps.Swept.{Swept}
-use Rattle.cs_drive.specs.Sweeps.{IsSweepRefused, MayRefuseSweep, Sweeps}
-use Rattle.cs_drive.specs.Syncs.{StopsSync, Syncs}
+use Rattle.cs_writeback.proofs.Histories.{went_one}
+use Rattle.cs_writeback.specs.Histories.{Goes, IsStopped, MakesRoom}
+use Rattle.cs_writeback.specs.declared.whole_sweeps.Swept.{Swept}
+use Rattle.cs_writeback.specs.Sweeps.{IsSweepRefused, MayRefuseSweep, Sweeps}
+use Rattle.cs_writeback.specs.Syncs.{StopsSync, Syncs}
 use Rattle.cs_store.specs.Errors.{IsDeleteRefusal}
 use Rattle.cs_store.specs.Events.{Declines, Does, DoesFrom}
 use Rattle.cs_store.specs.Maps.{Accepts}

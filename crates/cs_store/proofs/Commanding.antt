@@ -1,11 +1,11 @@
 -- Puts and deletes: what they do, in the words of their clauses.
 use Rattle.std.proofs.Common.{◌≡◌, ◌∙◌, ℕ, suc, List, [], ◌∷◌, Some, None, sym, ap, subst, inr, arith}
-use Rattle.cs_deps.specs.declared.refusals.Refusal.{Refusal}
+use Rattle.cs_refusal.specs.declared.refusals.Refusal.{Refusal}
 use Rattle.cs_disk.specs.declared.disk.PageDisk.{Ghosts as PageDisk}
 use Rattle.cs_frame.specs.declared.identifiers.ShardId.{ShardId}
 use Rattle.cs_index.specs.State.{id_number}
-use Rattle.cs_model.specs.Element.{Map}
-use Rattle.cs_model.specs.State.{Command, State, changed}
+use Rattle.law_machine.specs.Element.{Map}
+use Rattle.law_machine.specs.State.{Command, State, changed}
 use Rattle.cs_core.specs.declared.events.Event.{Event}
 use Rattle.cs_core.specs.declared.events.Event.TheVariants.{Delete, Put}
 use Rattle.cs_core.specs.declared.events.Reply.{Reply}
@@ -13,7 +13,7 @@ use Rattle.cs_core.specs.declared.events.Reply.TheVariants.{Absent, Accepted}
 use Rattle.cs_core.specs.Meanings.{command_said}
 use Rattle.cs_core.specs.Stored.{Stored}
 use Rattle.cs_core.specs.Views.{IsIn, View}
-use Rattle.cs_drive.specs.Runs.{Ran}
+use Rattle.cs_writeback.specs.Runs.{Ran}
 use Rattle.cs_store.specs.Events.{Declines, DeclinesCopy, Does}
 use Rattle.cs_store.specs.Maps.{Accepts, HasMap}
 use Rattle.cs_store.proofs.Maps.{map_changed, map_kept}

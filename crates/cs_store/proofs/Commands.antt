@@ -1,18 +1,18 @@
 -- Which commands the events of rounds, syncs and sweeps accept: none.
 use Rattle.std.proofs.Common.{◌≡◌, ◌∙◌, ℕ, List, [], ◌∷◌, ◌++◌, sym, ap, ap₂, refl, inl, inr}
 use Rattle.std.proofs.lemmas.List.{append-nil, append_assoc}
-use Rattle.cs_deps.specs.declared.refusals.Refusal.{Refusal}
+use Rattle.cs_refusal.specs.declared.refusals.Refusal.{Refusal}
 use Rattle.cs_frame.specs.declared.identifiers.ShardId.{ShardId}
-use Rattle.cs_model.specs.State.{Command}
+use Rattle.law_machine.specs.State.{Command}
 use Rattle.cs_core.specs.declared.events.Event.{Event}
 use Rattle.cs_core.specs.declared.events.Event.TheVariants.{Delete, End, Put, Stage}
 use Rattle.cs_core.specs.declared.events.Reply.{Reply}
 use Rattle.cs_core.specs.declared.events.Reply.TheVariants.{Ended, Refused}
 use Rattle.cs_core.specs.Meanings.{command_said, commands_said}
 use Rattle.cs_core.specs.Views.{View}
-use Rattle.cs_drive.specs.Histories.{IsRefused}
-use Rattle.cs_drive.specs.Rounds.{IsPart, Members, Turn, events_of, events_of_all, issues, rest_of_round}
-use Rattle.cs_drive.specs.Sweeps.{moves}
+use Rattle.cs_writeback.specs.Histories.{IsRefused}
+use Rattle.cs_writeback.specs.Rounds.{IsPart, Members, Turn, events_of, events_of_all, issues, rest_of_round}
+use Rattle.cs_writeback.specs.Sweeps.{moves}
 
 -- what later events accept comes before what earlier ones did
 pub said_both : (xs ys : List (Event × Reply)) → commands_said (xs ++ ys) ≡ commands_said ys ++ commands_said xs

@@ -5,19 +5,19 @@ use Rattle.cs_extent.specs.State.{IsWhole, shape}
 use Rattle.cs_frame.specs.declared.identifiers.ShardId.{ShardId}
 use Rattle.cs_frame.specs.Formats.{formats_of}
 use Rattle.cs_index.specs.State.{id_number}
-use Rattle.cs_model.specs.Device.{IsShape, Shape}
-use Rattle.cs_model.specs.Element.{Map}
-use Rattle.cs_model.specs.Frames.{IsFormat}
-use Rattle.cs_model.specs.State as model
-use Rattle.cs_model.specs.State.{State, map_now}
-use Rattle.cs_model.specs.Step.{Step}
-use Rattle.cs_refine.proofs.Shapes.{store_format, store_shape}
+use Rattle.law_machine.specs.Device.{IsShape, Shape}
+use Rattle.law_machine.specs.Element.{Map}
+use Rattle.law_machine.specs.Frames.{IsFormat}
+use Rattle.law_machine.specs.State as model
+use Rattle.law_machine.specs.State.{State, map_now}
+use Rattle.law_machine.specs.Step.{Step}
+use Rattle.law_refinement.proofs.Shapes.{store_format, store_shape}
 use Rattle.cs_core.specs.declared.events.Event.TheVariants.{Delete}
 use Rattle.cs_core.specs.declared.events.Reply.{Reply}
 use Rattle.cs_core.specs.declared.events.Reply.TheVariants.{Absent, Accepted}
 use Rattle.cs_core.specs.Meanings.{Says, event_of}
 use Rattle.cs_core.specs.Views.{IsIn, View}
-use Rattle.cs_drive.specs.Histories.{Went}
+use Rattle.cs_writeback.specs.Histories.{Went}
 use Rattle.cs_store.specs.Events.{DoesFrom}
 use Rattle.cs_store.specs.Maps.{HasMap}
 use Rattle.cs_store.proofs.Accepting.{accepts_later, stays_accepts}

@@ -1,20 +1,20 @@
 -- Why a call is refused 41 HistoryFull.
 use Rattle.std.proofs.Common.{◌≡◌, ◌∙◌, ◌⊎◌, ◌<◌, ◌≤◌, List, [], ◌∷◌, drop, length, length-drop, sym, ap, subst, inl, inr, ⊎_elim, arith}
 use Rattle.std.specs.Prelude.{IfErr, Result, Ok, Err}
-use Rattle.cs_deps.specs.declared.refusals.Refusal.{Refusal}
-use Rattle.cs_deps.specs.declared.refusals.Refusal.TheVariants as refusal
+use Rattle.cs_refusal.specs.declared.refusals.Refusal.{Refusal}
+use Rattle.cs_refusal.specs.declared.refusals.Refusal.TheVariants as refusal
 use Rattle.cs_disk.specs.declared.disk.PageDisk.{Ghosts as PageDisk}
-use Rattle.cs_model.specs.Refusal as ground
-use Rattle.cs_model.specs.Refusal.{Refusal as Ground}
-use Rattle.cs_model.specs.State.{State}
-use Rattle.cs_refine.specs.Refusals.{refusal_for}
+use Rattle.law_machine.specs.Refusal as ground
+use Rattle.law_machine.specs.Refusal.{Refusal as Ground}
+use Rattle.law_machine.specs.State.{State}
+use Rattle.law_refinement.specs.Refusals.{refusal_for}
 use Rattle.cs_core.specs.Checkpoints.{IsNotReplaced}
 use Rattle.cs_core.specs.declared.events.Event.{Event}
 use Rattle.cs_core.specs.declared.events.Reply.{Reply}
 use Rattle.cs_core.specs.declared.events.Reply.TheVariants.{Refused}
 use Rattle.cs_core.specs.Views.{IsIn, View, kept}
-use Rattle.cs_drive.specs.Histories.{IsStopped, IsUnrecorded, Stays, Went}
-use Rattle.cs_drive.specs.Syncs.{Syncs}
+use Rattle.cs_writeback.specs.Histories.{IsStopped, IsUnrecorded, Stays, Went}
+use Rattle.cs_writeback.specs.Syncs.{Syncs}
 use Rattle.cs_store.specs.Rooms.{Empties, HasNoRoom, IsMadeReady, IsSweeping, room_refusal}
 use Rattle.cs_store.proofs.Running.{untouched_in}
 

@@ -3,12 +3,12 @@ use Rattle.std.proofs.Common.{◌≡◌, ◌≢◌, ◌∙◌, ℕ, Option, None
 use Rattle.std.specs.Prelude.{◌↔◌, IsTrue, Bool, Vec}
 use Rattle.std.specs.declared.alloc.Global.{Global}
 use Rattle.cs_chunk.specs.Reads.{IsCaused}
-use Rattle.cs_deps.specs.declared.refusals.Refusal.{Refusal}
+use Rattle.cs_refusal.specs.declared.refusals.Refusal.{Refusal}
 use Rattle.cs_disk.specs.Disk.{Rises, State as DiskState}
 use Rattle.cs_extent.specs.State.{IsWhole}
-use Rattle.cs_model.specs.Element.{Content, Map}
-use Rattle.cs_model.specs.State.{State, map_now}
-use Rattle.cs_refine.proofs.Shapes.{store_format, store_shape}
+use Rattle.law_machine.specs.Element.{Content, Map}
+use Rattle.law_machine.specs.State.{State, map_now}
+use Rattle.law_refinement.proofs.Shapes.{store_format, store_shape}
 use Rattle.cs_core.specs.Lookups.{IsReading}
 use Rattle.cs_core.specs.Views.{IsIn, View}
 use Rattle.cs_store.specs.declared.errors.GetError.{GetError}

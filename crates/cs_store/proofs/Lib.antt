@@ -3,7 +3,6 @@ pub mod Commanding
 pub mod Commands
 pub mod Accepting
 pub mod Asking
-pub mod Choosing
 pub mod Deleting
 pub mod Filling
 pub mod Getting

@@ -4,17 +4,17 @@ use Rattle.std.specs.Prelude.{◌↔◌, AllPairs, Contains}
 use Rattle.cs_disk.specs.Disk.{State as DiskState}
 use Rattle.cs_extent.specs.State.{IsWhole, shape}
 use Rattle.cs_frame.specs.Formats.{formats_of}
-use Rattle.cs_image.specs.Counts.{AreThose, HasCount}
+use Rattle.law_refinement.specs.Counts.{AreThose, HasCount}
 use Rattle.cs_index.specs.State.{State as IndexState, index_of}
-use Rattle.cs_model.proofs.Sorted.{sorted_live}
-use Rattle.cs_model.specs.Element.{Entry, Map}
-use Rattle.cs_model.specs.Index.{live_at}
-use Rattle.cs_model.specs.Lists.{◌∈◌}
-use Rattle.cs_model.specs.State.{State, map_now}
-use Rattle.cs_refine.proofs.Indexes.{absent}
+use Rattle.law_machine.proofs.Sorted.{sorted_live}
+use Rattle.law_machine.specs.Element.{Entry, Map}
+use Rattle.law_machine.specs.Index.{live_at}
+use Rattle.law_machine.specs.Lists.{◌∈◌}
+use Rattle.law_machine.specs.State.{State, map_now}
+use Rattle.law_refinement.proofs.Indexes.{absent}
 use Rattle.cs_core.proofs.Living.{all_counted}
 use Rattle.cs_core.specs.Views.{IsIn, View}
-use Rattle.cs_survey.specs.Listings.{AreAll, AreFirst, Rising}
+use Rattle.cs_inspect.specs.Listings.{AreAll, AreFirst, Rising}
 use Rattle.cs_store.specs.Maps.{HasMap}
 use Rattle.cs_store.proofs.Getting.{map_is}
 

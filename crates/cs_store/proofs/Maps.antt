@@ -5,14 +5,14 @@ use Rattle.cs_disk.specs.declared.disk.PageDisk.{Ghosts as PageDisk}
 use Rattle.cs_disk.specs.Disk.{Image, State as DiskState, page}
 use Rattle.cs_extent.specs.State.{shape}
 use Rattle.cs_frame.specs.Formats.{formats_of}
-use Rattle.cs_model.proofs.Kept.{history_on}
-use Rattle.cs_model.proofs.Unique.{one_recovery}
-use Rattle.cs_model.specs.Device.{IsShape, Shape}
-use Rattle.cs_model.specs.Element.{Content, Map}
-use Rattle.cs_model.specs.Frames.{IsFormat}
-use Rattle.cs_model.specs.Open.{opened_state}
-use Rattle.cs_model.specs.Recovery.{Recovers}
-use Rattle.cs_model.specs.State.{Command, State, after_all, changed, content_of, map_now}
+use Rattle.law_machine.proofs.Kept.{history_on}
+use Rattle.law_machine.proofs.Unique.{one_recovery}
+use Rattle.law_machine.specs.Device.{IsShape, Shape}
+use Rattle.law_machine.specs.Element.{Content, Map}
+use Rattle.law_machine.specs.Frames.{IsFormat}
+use Rattle.law_machine.specs.Open.{opened_state}
+use Rattle.law_machine.specs.Recovery.{Recovers}
+use Rattle.law_machine.specs.State.{Command, State, after_all, changed, content_of, map_now}
 use Rattle.cs_core.proofs.Crashes.{commands_reached}
 use Rattle.cs_core.specs.Meanings.{commands_said}
 use Rattle.cs_core.specs.Views.{IsFound, IsIn, View}

@@ -5,11 +5,11 @@ use Rattle.cs_disk.specs.Disk.{Image, Leaves, MayLeave}
 use Rattle.cs_extent.specs.State.{shape}
 use Rattle.cs_core.specs.Meanings.{commands_said}
 use Rattle.cs_core.specs.Views.{IsUntouched, View}
-use Rattle.cs_drive.proofs.Runs.{ran_call}
-use Rattle.cs_drive.specs.Runs.{Ran}
-use Rattle.cs_scrub.proofs.Crashing.{crash_still}
+use Rattle.cs_writeback.proofs.Runs.{ran_call}
+use Rattle.cs_writeback.specs.Runs.{Ran}
+use Rattle.cs_inspect.proofs.Crashing.{crash_still}
+use Rattle.cs_inspect.specs.Choices.{ReadsOn}
 use Rattle.cs_store.specs.Maps.{Accepts}
-use Rattle.cs_store.specs.Reclaims.{ReadsOn}
 use Rattle.cs_store.proofs.Running.{Left}
 
 module _ {D : Type 0} (disks : PageDisk D) (old read : View D) (reads : ReadsOn disks old read) where

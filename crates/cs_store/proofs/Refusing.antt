@@ -1,16 +1,16 @@
 -- Which refusals a call may have, of those that its parts may have.
 use Rattle.std.proofs.Common.{◌⊎◌, ◌≤◌, ℕ, List, inl, inr, subst, sym, arith}
 use Rattle.cs_chunk.specs.Reads.{IsReadRefusal}
-use Rattle.cs_deps.specs.declared.refusals.Refusal.{Refusal}
-use Rattle.cs_deps.specs.declared.refusals.Refusal.TheVariants as refusal
-use Rattle.cs_deps.specs.Refusals.{number_of}
+use Rattle.cs_refusal.specs.declared.refusals.Refusal.{Refusal}
+use Rattle.cs_refusal.specs.declared.refusals.Refusal.TheVariants as refusal
+use Rattle.cs_refusal.specs.Refusals.{number_of}
 use Rattle.cs_frame.specs.declared.identifiers.ShardId.{ShardId}
 use Rattle.cs_core.specs.Checkpoints.{IsNotReplaced}
 use Rattle.cs_core.specs.declared.events.Event.TheVariants.{Delete, Put}
 use Rattle.cs_core.specs.Replies.{MayRefuse}
 use Rattle.cs_core.specs.Views.{View}
-use Rattle.cs_drive.specs.Sweeps.{MayRefuseSweep}
-use Rattle.cs_drive.specs.Syncs.{MayRefuseSync}
+use Rattle.cs_writeback.specs.Sweeps.{MayRefuseSweep}
+use Rattle.cs_writeback.specs.Syncs.{MayRefuseSync}
 use Rattle.cs_store.specs.Errors.{IsDeleteRefusal, IsGetRefusal, IsPutRefusal}
 use Rattle.cs_store.specs.Rooms.{room_refusal}
 

@@ -5,9 +5,9 @@ use Rattle.cs_disk.specs.declared.disk.PageDisk.{Ghosts as PageDisk}
 use Rattle.cs_disk.specs.Disk.{Image, Leaves, LeavesOnly, MayLeave, State as DiskState, page}
 use Rattle.cs_extent.specs.State.{shape}
 use Rattle.cs_frame.specs.Formats.{formats_of}
-use Rattle.cs_model.specs.State.{Command, State}
-use Rattle.cs_refine.specs.Crashes.{IsPrefix}
-use Rattle.cs_refine.specs.Devices.{IsDiskOf}
+use Rattle.law_machine.specs.State.{Command, State}
+use Rattle.law_refinement.specs.Crashes.{IsPrefix}
+use Rattle.law_refinement.specs.Devices.{IsDiskOf}
 use Rattle.cs_core.proofs.Composing.{calls_leave}
 use Rattle.cs_core.proofs.Crashes.{commands_reached, only_before}
 use Rattle.cs_core.proofs.Resting.{at_rest}
@@ -19,7 +19,7 @@ use Rattle.cs_core.specs.Meanings.{commands_said}
 use Rattle.cs_core.specs.States.{IsStateOf}
 use Rattle.cs_core.specs.Stored.{Stored}
 use Rattle.cs_core.specs.Views.{Applies, IsIn, IsReached, IsUntouched, View}
-use Rattle.cs_drive.specs.Runs.{Ran}
+use Rattle.cs_writeback.specs.Runs.{Ran}
 use Rattle.cs_store.specs.Maps.{Accepts}
 
 -- what a crash may leave: the map after some of the commands of the new core, none of those left out that were persistent in the old one

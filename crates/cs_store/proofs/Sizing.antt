@@ -1,11 +1,11 @@
 -- What is told of a shard's size, in the words of its clauses.
 use Rattle.std.proofs.Common.{◌≡◌, ◌∙◌, ℕ, List, Option, Ok, Err, ap, sym, subst}
 use Rattle.cs_chunk.specs.Reads.{IsCaused}
-use Rattle.cs_deps.specs.declared.refusals.Refusal.{Refusal}
+use Rattle.cs_refusal.specs.declared.refusals.Refusal.{Refusal}
 use Rattle.cs_disk.specs.Disk.{Rises}
 use Rattle.cs_extent.specs.State.{State as ExtentsState}
 use Rattle.cs_frame.specs.declared.locators.Locator.{Locator}
-use Rattle.cs_model.specs.Element.{Content}
+use Rattle.law_machine.specs.Element.{Content}
 use Rattle.cs_core.specs.Lookups.{IsSaid, IsSize}
 use Rattle.cs_store.specs.declared.sizes.SizeError.{SizeError}
 use Rattle.cs_store.specs.declared.sizes.SizeError.TheVariants.{DeviceFault}

@@ -1,6 +1,6 @@
 -- Which refusal each error is, and which refusals a call may have.
-use Rattle.cs_deps.specs.declared.refusals.Refusal.{Refusal}
-use Rattle.cs_deps.specs.declared.refusals.Refusal.TheVariants as refusal
+use Rattle.cs_refusal.specs.declared.refusals.Refusal.{Refusal}
+use Rattle.cs_refusal.specs.declared.refusals.Refusal.TheVariants as refusal
 use Rattle.cs_store.specs.declared.errors.PutError.{PutError}
 use Rattle.cs_store.specs.declared.errors.PutError.TheVariants as put
 use Rattle.cs_store.specs.declared.errors.DeleteError.{DeleteError}

@@ -1,13 +1,13 @@
 -- What a call does that asks for one event.
 use Rattle.std.specs.Prelude.{◌≡◌, ◌⊎◌, ◌∷◌, [], true}
-use Rattle.cs_deps.specs.declared.refusals.Refusal.{Refusal}
-use Rattle.cs_deps.specs.declared.refusals.Refusal.TheVariants.{Halted, OutOfMemory}
+use Rattle.cs_refusal.specs.declared.refusals.Refusal.{Refusal}
+use Rattle.cs_refusal.specs.declared.refusals.Refusal.TheVariants.{Halted, OutOfMemory}
 use Rattle.cs_disk.specs.declared.disk.PageDisk.{Ghosts as PageDisk}
-use Rattle.cs_model.specs.State.{State}
+use Rattle.law_machine.specs.State.{State}
 use Rattle.cs_core.specs.declared.events.Event.{Event}
 use Rattle.cs_core.specs.declared.events.Reply.{Reply}
 use Rattle.cs_core.specs.Views.{IsIn, View}
-use Rattle.cs_drive.specs.Histories.{IsStopped, Went}
+use Rattle.cs_writeback.specs.Histories.{IsStopped, Went}
 use Rattle.cs_store.specs.Maps.{Accepts}
 use Rattle.cs_store.specs.Rooms.{IsMadeReady, IsNoRoom}
 

@@ -1,7 +1,7 @@
 -- What a get answers.
 use Rattle.std.specs.Prelude.{Option, Result, Ok, Err, Vec, ℕ}
 use Rattle.std.specs.declared.alloc.Global.{Global}
-use Rattle.cs_model.specs.Element.{Content}
+use Rattle.law_machine.specs.Element.{Content}
 use Rattle.cs_core.specs.Lookups.{IsReading}
 use Rattle.cs_store.specs.declared.errors.GetError.{GetError}
 use Rattle.cs_store.specs.Errors.{get_refusal}

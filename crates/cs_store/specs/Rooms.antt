@@ -1,13 +1,13 @@
 -- Room that is made for an event before it is done.
 use Rattle.std.specs.Prelude.{◌≡◌, ◌⊎◌, ◌<◌, ◌≤◌, ℕ, false, length}
-use Rattle.cs_deps.specs.declared.refusals.Refusal.{Refusal}
-use Rattle.cs_deps.specs.declared.refusals.Refusal.TheVariants.{HistoryFull, Unsettled}
+use Rattle.cs_refusal.specs.declared.refusals.Refusal.{Refusal}
+use Rattle.cs_refusal.specs.declared.refusals.Refusal.TheVariants.{HistoryFull, Unsettled}
 use Rattle.cs_disk.specs.declared.disk.PageDisk.{Ghosts as PageDisk}
 use Rattle.cs_extent.specs.State.{extents_of}
 use Rattle.cs_core.specs.Checkpoints.{IsNotReplaced, Replaces}
 use Rattle.cs_core.specs.Views.{View, kept}
-use Rattle.cs_drive.specs.Histories.{MakesRoom}
-use Rattle.cs_drive.specs.Syncs.{StopsSync, Syncs}
+use Rattle.cs_writeback.specs.Histories.{MakesRoom}
+use Rattle.cs_writeback.specs.Syncs.{StopsSync, Syncs}
 
 -- how it is told that a history isn't replaced after a sync: 41 HistoryFull where the store isn't settled, as an extent is being swept still
 abbrev pub room_refusal : Refusal → Refusal

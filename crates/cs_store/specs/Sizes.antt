@@ -1,10 +1,10 @@
 -- What is told of a shard's size.
 use Rattle.std.specs.Prelude.{ℕ, List, Option, Result, Ok, Err}
-use Rattle.cs_deps.specs.declared.refusals.Refusal.{Refusal}
-use Rattle.cs_deps.specs.declared.refusals.Refusal.TheVariants as refusal
+use Rattle.cs_refusal.specs.declared.refusals.Refusal.{Refusal}
+use Rattle.cs_refusal.specs.declared.refusals.Refusal.TheVariants as refusal
 use Rattle.cs_extent.specs.State.{State as ExtentsState}
 use Rattle.cs_frame.specs.declared.locators.Locator.{Locator}
-use Rattle.cs_model.specs.Element.{Content}
+use Rattle.law_machine.specs.Element.{Content}
 use Rattle.cs_core.specs.Lookups.{IsSaid, IsSize}
 use Rattle.cs_store.specs.declared.sizes.SizeError.{SizeError}
 use Rattle.cs_store.specs.declared.sizes.SizeError.TheVariants as size

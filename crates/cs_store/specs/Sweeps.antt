@@ -1,9 +1,9 @@
 -- A sweep for which room is made first.
 use Rattle.std.specs.Prelude.{◌⊎◌, ℕ}
-use Rattle.cs_deps.specs.declared.refusals.Refusal.{Refusal}
+use Rattle.cs_refusal.specs.declared.refusals.Refusal.{Refusal}
 use Rattle.cs_disk.specs.declared.disk.PageDisk.{Ghosts as PageDisk}
 use Rattle.cs_core.specs.Views.{View}
-use Rattle.cs_drive.specs.Sweeps.{IsSweepRefused, Sweeps}
+use Rattle.cs_writeback.specs.Sweeps.{IsSweepRefused, Sweeps}
 use Rattle.cs_store.specs.Rooms.{IsMadeReady, IsNoRoom}
 
 module _ {D : Type 0} (disks : PageDisk D) where

@@ -3,9 +3,9 @@ ghost use Rattle.std.specs.Prelude.{◌≡◌, ◌≤◌, ◌<◌, ◌^◌, ℕ,
 ghost use Rattle.cs_deps.specs.State.{IsWhole as IsWholeGraph};
 ghost use Rattle.cs_disk.specs.Disk.{Leaves, page};
 ghost use Rattle.cs_extent.specs.State.{IsWhole, shape};
-ghost use Rattle.cs_model.specs.Element.{Map};
-ghost use Rattle.cs_model.specs.State.{State, map_now};
-ghost use Rattle.cs_refine.specs.Crashes.{IsPrefix};
+ghost use Rattle.law_machine.specs.Element.{Map};
+ghost use Rattle.law_machine.specs.State.{State, map_now};
+ghost use Rattle.law_refinement.specs.Crashes.{IsPrefix};
 ghost use Rattle.cs_core.specs.Meanings.{commands_said};
 ghost use Rattle.cs_core.specs.Views.{IsCore, IsIn, kept};
 ghost use Rattle.cs_store.specs.Maps.{HasMap};

@@ -1,7 +1,7 @@
 //! What a store tells of its extents.
 ghost use Rattle.std.specs.Prelude.{◌≡◌, ◌≤◌, ◌↔◌, IfSome, IsTrue, None, Some};
 ghost use Rattle.cs_extent.specs.State.{extents_of, shape};
-ghost use Rattle.cs_model.specs.Extents.{empties};
+ghost use Rattle.law_machine.specs.Extents.{empties};
 
 use crate::stores::Store;
 use cs_disk::PageDisk;

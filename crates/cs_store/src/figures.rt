@@ -6,21 +6,21 @@ ghost use Rattle.cs_core.specs.Views.{kept};
 ghost use Rattle.cs_disk.specs.Disk.{LeavesOnly, Rises, page, seen};
 ghost use Rattle.cs_disk.specs.Reads.{OnlyReads};
 ghost use Rattle.cs_extent.specs.State.{extents_of, shape};
-ghost use Rattle.cs_image.specs.Counts.{HasCount};
+ghost use Rattle.law_refinement.specs.Counts.{HasCount};
 ghost use Rattle.cs_index.specs.State.{index_of};
-ghost use Rattle.cs_model.specs.Element.{Map};
-ghost use Rattle.cs_model.specs.Extents.{empties};
-ghost use Rattle.cs_model.specs.Geometry.{marks_in, weigh_in};
-ghost use Rattle.cs_model.specs.Index.{live_at, named_weight, names};
-ghost use Rattle.cs_refine.specs.Crashes.{IsPrefix};
+ghost use Rattle.law_machine.specs.Element.{Map};
+ghost use Rattle.law_machine.specs.Extents.{empties};
+ghost use Rattle.law_machine.specs.Geometry.{marks_in, weigh_in};
+ghost use Rattle.law_machine.specs.Index.{live_at, named_weight, names};
+ghost use Rattle.law_refinement.specs.Crashes.{IsPrefix};
 ghost use Rattle.cs_store.specs.Maps.{HasMap};
-ghost use Rattle.cs_survey.specs.Chunks.{AreLiveChunks, Chunk};
-ghost use Rattle.cs_survey.specs.Stats.{newest_uses, run_figure};
-ghost use Rattle.cs_survey.specs.Uses.{AreBounded, AreCounted, AreCountedAsRead, AreExtents, heads_of};
+ghost use Rattle.cs_inspect.specs.Chunks.{AreLiveChunks, Chunk};
+ghost use Rattle.cs_inspect.specs.Stats.{newest_uses, run_figure};
+ghost use Rattle.cs_inspect.specs.Uses.{AreBounded, AreCounted, AreCountedAsRead, AreExtents, heads_of};
 
 use crate::stores::Store;
 use cs_disk::PageDisk;
-use cs_survey::Stats;
+use cs_inspect::Stats;
 use std::alloc::AllocError;
 
 /// How full a store is, and how far it has come.

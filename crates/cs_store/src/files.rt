@@ -4,7 +4,7 @@ ghost use Rattle.cs_disk.specs.Files.{file_pages};
 ghost use Rattle.cs_frame.specs.Geometries.{IsGeometry, device_pages, sections_needed};
 ghost use Rattle.cs_core.specs.Openings.{IsOpened};
 ghost use Rattle.cs_core.specs.Started.{new_stored};
-ghost use Rattle.cs_pair.specs.Paired.{disk_below};
+ghost use Rattle.cs_twin.specs.Paired.{disk_below};
 
 use crate::errors::OpenError;
 use crate::options::Options;

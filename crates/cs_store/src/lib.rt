@@ -8,7 +8,6 @@
 mod counts;
 mod deletes;
 mod errors;
-mod events;
 mod extents;
 mod figures;
 mod files;
@@ -20,12 +19,13 @@ mod older_files;
 mod options;
 mod puts;
 mod reclaims;
-mod refusals;
 mod rooms;
 mod scrubs;
 mod sizes;
+mod store_events;
+mod store_refusals;
+mod store_sweeps;
 mod stores;
-mod sweeps;
 mod syncs;
 
 pub use errors::{DeleteError, GetError, OpenError, PutError, SweepError, SyncError};
@@ -38,12 +38,11 @@ pub use stores::Store;
 
 // What callers need of the crates below, so that this one is enough.
 pub use cs_core::Limits;
-pub use cs_deps::Refusal;
 pub use cs_disk::{FileDisk, MemoryDisk, PageDisk};
-pub use cs_drive::Swept;
 pub use cs_frame::{Geometry, Locator, ShardId};
 pub use cs_index::LiveChunk;
+pub use cs_inspect::{Damage, ExtentUse, RunUse, Scrubbed, Stats};
 pub use cs_mount as mount;
 pub use cs_mount::{AsOf, Finding, Mounted};
-pub use cs_scrub::{Damage, Scrubbed};
-pub use cs_survey::{ExtentUse, RunUse, Stats};
+pub use cs_refusal::Refusal;
+pub use cs_writeback::Swept;

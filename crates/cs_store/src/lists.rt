@@ -2,16 +2,16 @@
 ghost use Rattle.std.specs.Prelude.{◌≡◌, ◌≢◌, IfOk, MatchOption, None, [], map};
 ghost use Rattle.cs_frame.specs.Formats.{place_of};
 ghost use Rattle.cs_index.specs.State.{id_number, index_of};
-ghost use Rattle.cs_model.specs.Element.{Map};
-ghost use Rattle.cs_model.specs.Index.{FirstLive, NothingLive, live_at};
+ghost use Rattle.law_machine.specs.Element.{Map};
+ghost use Rattle.law_machine.specs.Index.{FirstLive, NothingLive, live_at};
 ghost use Rattle.cs_store.specs.Maps.{HasMap};
-ghost use Rattle.cs_survey.specs.Listings.{AreAll, AreFirst};
+ghost use Rattle.cs_inspect.specs.Listings.{AreAll, AreFirst};
 
 use crate::stores::Store;
 use cs_disk::PageDisk;
 use cs_frame::ShardId;
 use cs_index::LiveChunk;
-use cs_survey::{first_on, ids, ids_from};
+use cs_inspect::{first_on, ids, ids_from};
 use std::alloc::AllocError;
 
 impl<D: PageDisk> Store<D> {

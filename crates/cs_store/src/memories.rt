@@ -2,7 +2,7 @@
 ghost use Rattle.std.specs.Prelude.{◌↔◌, ◌≡◌, ◌⊎◌, Err, IfErr, IfOk, None, [], replicate};
 ghost use Rattle.cs_frame.specs.Geometries.{IsGeometry, device_pages, sections_needed};
 ghost use Rattle.cs_core.specs.Started.{IsNewOn, new_stored};
-ghost use Rattle.cs_pair.specs.Paired.{state_shown};
+ghost use Rattle.cs_twin.specs.Paired.{state_shown};
 ghost use Rattle.cs_store.specs.Maps.{HasMap};
 
 use crate::errors::OpenError;

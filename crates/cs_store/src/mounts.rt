@@ -7,23 +7,23 @@ ghost use Rattle.cs_disk.specs.Disk.{Image, MayLeave, flushed, page, seen};
 ghost use Rattle.cs_extent.specs.State.{shape};
 ghost use Rattle.cs_frame.specs.Formats.{formats_of};
 ghost use Rattle.cs_frame.specs.Geometries.{IsGeometry, device_pages, section_size};
-ghost use Rattle.cs_image.specs.Counts.{HasCount};
-ghost use Rattle.cs_model.specs.Element.{Map};
-ghost use Rattle.cs_model.specs.Geometry.{shape_of};
-ghost use Rattle.cs_model.specs.Recovery.{Recovers};
+ghost use Rattle.law_refinement.specs.Counts.{HasCount};
+ghost use Rattle.law_machine.specs.Element.{Map};
+ghost use Rattle.law_machine.specs.Geometry.{shape_of};
+ghost use Rattle.law_machine.specs.Recovery.{Recovers};
 ghost use Rattle.cs_mount.specs.Looks.{IsTaken};
-ghost use Rattle.cs_pair.specs.Paired.{disk_below, left_as_shown, state_shown};
-ghost use Rattle.cs_pair.specs.Pairs.{shown_state};
-ghost use Rattle.cs_pair.specs.Showing.{ShowsOn, findings_on, shown_on};
-ghost use Rattle.cs_pair.specs.Stores.{store_pairs, store_version};
+ghost use Rattle.cs_twin.specs.Paired.{disk_below, left_as_shown, state_shown};
+ghost use Rattle.cs_twin.specs.Pairs.{shown_state};
+ghost use Rattle.cs_mount.specs.Showing.{ShowsOn, findings_on, shown_on};
+ghost use Rattle.cs_mount.specs.StorePairs.{store_pairs, store_version};
 ghost use Rattle.cs_store.specs.Maps.{HasMap};
 
 use crate::stores::Store;
 use cs_core::Limits;
-use cs_deps::Refusal;
 use cs_disk::PageDisk;
 use cs_frame::Geometry;
 use cs_mount::{Finding, Mounted, make_store, open_store};
+use cs_refusal::Refusal;
 use std::alloc::Global;
 
 impl<D: PageDisk + Drop> Store<Mounted<D>> {

@@ -3,20 +3,20 @@ ghost use Rattle.std.specs.Prelude.{◌≡◌, ◌≤◌, ◌↔◌, ◌∷◌, 
 ghost use Rattle.cs_disk.specs.Disk.{Leaves, LeavesOnly, page};
 ghost use Rattle.cs_extent.specs.State.{shape};
 ghost use Rattle.cs_index.specs.State.{id_number};
-ghost use Rattle.cs_model.specs.Element.{Map};
-ghost use Rattle.cs_model.specs.State.{changed};
-ghost use Rattle.cs_refine.specs.Crashes.{IsPrefix};
+ghost use Rattle.law_machine.specs.Element.{Map};
+ghost use Rattle.law_machine.specs.State.{changed};
+ghost use Rattle.law_refinement.specs.Crashes.{IsPrefix};
 ghost use Rattle.cs_core.specs.declared.events.Event.TheVariants.{Put};
 ghost use Rattle.cs_core.specs.declared.events.Reply.TheVariants.{Accepted};
 ghost use Rattle.cs_core.specs.Meanings.{commands_said};
-ghost use Rattle.cs_drive.specs.Runs.{Ran};
+ghost use Rattle.cs_writeback.specs.Runs.{Ran};
 ghost use Rattle.cs_store.specs.Errors.{put_refusal};
 ghost use Rattle.cs_store.specs.Events.{DeclinesCopy, Does};
 ghost use Rattle.cs_store.specs.Maps.{Accepts, HasMap};
 ghost use Rattle.cs_store.specs.Rooms.{HasNoRoom};
 
 use crate::errors::PutError;
-use crate::events::ask_ready;
+use crate::store_events::ask_ready;
 use crate::stores::Store;
 use cs_core::{Bytes, Event, Reply};
 use cs_disk::PageDisk;

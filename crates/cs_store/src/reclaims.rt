@@ -1,34 +1,34 @@
-//! Which extent to sweep.
+//! Sweeps of the extents that are worth it.
 ghost use Rattle.std.specs.Prelude.{◌≡◌, ◌≤◌, ◌↔◌, ◌⊎◌, Err, IfErr, IfOk, List, None, Ok, Some, [], true, ℕ};
 ghost use Rattle.cs_chunk.specs.Newest.{AreNewest};
 ghost use Rattle.cs_core.specs.Meanings.{commands_said};
 ghost use Rattle.cs_core.specs.Views.{View};
-ghost use Rattle.cs_deps.specs.declared.refusals.Refusal.TheVariants.{OutOfMemory};
+ghost use Rattle.cs_refusal.specs.declared.refusals.Refusal.TheVariants.{OutOfMemory};
 ghost use Rattle.cs_disk.specs.Disk.{Leaves, LeavesOnly, page, seen};
 ghost use Rattle.cs_extent.specs.State.{shape};
 ghost use Rattle.cs_index.specs.State.{index_of};
-ghost use Rattle.cs_model.specs.Element.{Map};
-ghost use Rattle.cs_model.specs.Index.{names};
-ghost use Rattle.cs_refine.specs.Crashes.{IsPrefix};
-ghost use Rattle.cs_drive.specs.Runs.{Ran};
-ghost use Rattle.cs_drive.specs.Sweeps.{MayRefuseSweep};
+ghost use Rattle.law_machine.specs.Element.{Map};
+ghost use Rattle.law_machine.specs.Index.{names};
+ghost use Rattle.law_refinement.specs.Crashes.{IsPrefix};
+ghost use Rattle.cs_writeback.specs.Runs.{Ran};
+ghost use Rattle.cs_writeback.specs.Sweeps.{MayRefuseSweep};
 ghost use Rattle.cs_store.specs.Errors.{IsDeleteRefusal, sweep_refusal};
 ghost use Rattle.cs_store.specs.Events.{IsHalted};
 ghost use Rattle.cs_store.specs.Maps.{Accepts, HasMap};
-ghost use Rattle.cs_store.specs.Reclaims.{ChoosesApart, ChoosesTogether, DeclinesChosen, GoesBy, ReadsOn, Reclaims, chosen_extent, reclaimed_extent};
+ghost use Rattle.cs_store.specs.Reclaims.{DeclinesChosen, Reclaims, reclaimed_extent};
 ghost use Rattle.cs_store.specs.Sweeps.{DeclinesSweep, SweepsReady};
-ghost use Rattle.cs_survey.specs.Chunks.{AreLiveChunks, Chunk};
-ghost use Rattle.cs_survey.specs.Uses.{heads_of};
+ghost use Rattle.cs_inspect.specs.Choices.{GoesBy, ReadsOn};
+ghost use Rattle.cs_inspect.specs.Chunks.{AreLiveChunks, Chunk};
+ghost use Rattle.cs_inspect.specs.Uses.{heads_of};
 
 use crate::errors::SweepError;
+use crate::store_sweeps::sweep_ready;
 use crate::stores::Store;
-use crate::sweeps::sweep_ready;
 use cs_core::Core;
-use cs_deps::Refusal;
 use cs_disk::PageDisk;
-use cs_frame::{frame_pages, weight_bytes};
-use cs_survey::{ExtentUse, fewest_live, most_garbage, uses};
-use std::alloc::{AllocError, Global};
+use cs_inspect::{Choice, choose_sweep};
+use cs_refusal::Refusal;
+use std::alloc::Global;
 
 /// An extent that was swept.
 #[derive(Clone, Copy, Debug, PartialEq, Eq)]
@@ -43,14 +43,6 @@ pub struct Reclaimed {
     pub root: u64,
 }
 
-/// An extent that is worth sweeping.
-#[derive(Clone, Copy)]
-struct Found {
-    extent: usize,
-    /// How many of its pages no shard has.
-    dead: usize,
-}
-
 impl<D: PageDisk> Store<D> {
     /// Sweeps the extent that is worth it, and says what it freed; None where none is. It sweeps as `sweep` does; a `sync` makes it persistent. To
     /// choose, it reads the first page of each live chunk, and takes memory for a list of them.
@@ -59,7 +51,7 @@ impl<D: PageDisk> Store<D> {
     /// anew. So each call that answers something frees pages, and a loop that ends at None ends.
     ///
     /// In stores of format 3, where chunks and runs lie apart, it is the one with fewest live pages of those that hold chunks, where these and the live
-    /// pages of another one have room on one extent (`fewest_live` of cs_survey). Sweeps of such two give an extent, the first one or the second.
+    /// pages of another one have room on one extent (`fewest_live` of cs_inspect). Sweeps of such two give an extent, the first one or the second.
     ///
     /// Refused as `sweep` is. 33 NotSweepable isn't to come, since only an extent is chosen that can be swept; the contracts leave it open. In stores of
     /// format 3 it comes while an extent is marked still (`abandon`), and after a sweep that was given up until a `sync`.
@@ -120,10 +112,10 @@ fn reclaim_ready<D: PageDisk>(
 {
     // Called for its contract alone: what a crash leaves now.
     core.progress();
-    let Ok(found) = worth_sweeping(alloc, core) else {
+    let Ok(found) = choose_sweep(alloc, core) else {
         return Err(Refusal::OutOfMemory);
     };
-    let Some(Found { extent, dead }) = found else {
+    let Some(Choice { extent, dead }) = found else {
         return Ok(None);
     };
     match sweep_ready(core, extent) {
@@ -135,55 +127,4 @@ fn reclaim_ready<D: PageDisk>(
         })),
         Err(refusal) => Err(refusal),
     }
-}
-
-/// The extent that is worth sweeping, and how many of its pages no shard has.
-fn worth_sweeping<D: PageDisk>(
-    alloc: Global,
-    core: &mut Core<D>,
-) -> Result<Option<Found>, AllocError>
-    ensures chosen { D.honest core.old.disk → (view : ℕ → List ℕ) (chunks : List Chunk) → AreNewest core.old.store.graph (seen (D.state core.old.disk)) view → AreLiveChunks (index_of core.old.store.index) chunks
-        → IfOk result (λ found. GoesBy D.PageDisk (heads_of core.old.store.extents view chunks) (names (index_of core.old.store.index)) core.old core.new (chosen_extent found)) }
-    ensures reads { ReadsOn D.PageDisk core.old core.new }
-{
-    let extents = core.extents();
-    let is_apart = extents.is_apart();
-    let last = extents.last_copied();
-    let pages = extents.extent_pages();
-    let geometry = extents.geometry();
-    // Up to format 2, where chunks and runs may lie on one extent, each entry weighs one. An index names no more there than one run has room for,
-    // which takes all pages of an extent then: more of them can't be dead.
-    let named = core.index().named_count().min(geometry.most_weight());
-    let index_pages = frame_pages(weight_bytes(geometry.format(), named));
-    let uses = uses(alloc, core)?;
-    if is_apart {
-        return Ok(chosen_apart(&uses, last, pages));
-    }
-    Ok(chosen_together(&uses, index_pages))
-}
-
-/// The extent with most garbage, where that is more than so many pages.
-fn chosen_together(uses: &[ExtentUse], index_pages: usize) -> Option<Found>
-    ensures { ChoosesTogether uses.now index_pages (chosen_extent result) }
-{
-    let Some(extent) = most_garbage(uses) else {
-        return None;
-    };
-    let dead = uses[extent].dead();
-    if dead > index_pages {
-        Some(Found { extent, dead })
-    } else {
-        None
-    }
-}
-
-/// The extent with fewest live pages, where chunks and runs lie apart and these and those of another one have room on one of so many pages.
-fn chosen_apart(uses: &[ExtentUse], last: Option<usize>, pages: usize) -> Option<Found>
-    ensures { ChoosesApart uses.now last pages (chosen_extent result) }
-{
-    let Some(extent) = fewest_live(uses, last, pages) else {
-        return None;
-    };
-    let dead = uses[extent].dead();
-    Some(Found { extent, dead })
 }

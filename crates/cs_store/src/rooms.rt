@@ -1,14 +1,14 @@
 //! Room for further events.
 ghost use Rattle.std.specs.Prelude.{◌≡◌, [], IfErr, OnOk};
-ghost use Rattle.cs_drive.specs.Runs.{Ran};
+ghost use Rattle.cs_writeback.specs.Runs.{Ran};
 ghost use Rattle.cs_store.specs.Errors.{IsDeleteRefusal};
 ghost use Rattle.cs_store.specs.Maps.{Accepts};
 ghost use Rattle.cs_store.specs.Rooms.{Empties, IsMadeReady, IsNoRoom, IsSweeping, StaysFull, room_refusal};
 
 use cs_core::Core;
-use cs_deps::Refusal;
 use cs_disk::PageDisk;
-use cs_drive::{make_room, sync};
+use cs_refusal::Refusal;
+use cs_writeback::{make_room, sync};
 
 /// Makes room for an event: takes a checkpoint where at least half as many events are kept as may be and the store is settled; and where as many
 /// are kept as may be all the same, syncs and then takes one. So most calls cost nothing, one in so many goes through the events that are kept,

@@ -5,13 +5,13 @@ ghost use Rattle.cs_core.specs.Meanings.{commands_said};
 ghost use Rattle.cs_disk.specs.Disk.{LeavesOnly, page, seen};
 ghost use Rattle.cs_disk.specs.Reads.{OnlyReads};
 ghost use Rattle.cs_extent.specs.State.{shape};
-ghost use Rattle.cs_refine.specs.Crashes.{IsPrefix};
-ghost use Rattle.cs_scrub.specs.Scrubs.{AreCaused, IsScrubbed, device_faults};
-ghost use Rattle.cs_survey.specs.Failures.{RisesBy};
+ghost use Rattle.law_refinement.specs.Crashes.{IsPrefix};
+ghost use Rattle.cs_inspect.specs.Scrubs.{AreCaused, IsScrubbed, device_faults};
+ghost use Rattle.cs_inspect.specs.Failures.{RisesBy};
 
 use crate::stores::Store;
 use cs_disk::PageDisk;
-use cs_scrub::{Nobody, Scrubbed, scrub};
+use cs_inspect::{Nobody, Scrubbed, scrub};
 use std::alloc::AllocError;
 
 impl<D: PageDisk> Store<D> {

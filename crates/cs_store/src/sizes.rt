@@ -7,27 +7,27 @@ ghost use Rattle.cs_disk.specs.Reads.{OnlyReads};
 ghost use Rattle.cs_extent.specs.State.{shape};
 ghost use Rattle.cs_frame.specs.Formats.{as_locator};
 ghost use Rattle.cs_index.specs.State.{id_number, index_of};
-ghost use Rattle.cs_model.specs.Element.{Map};
-ghost use Rattle.cs_model.specs.Index.{live_at};
-ghost use Rattle.cs_refine.specs.Crashes.{IsPrefix};
+ghost use Rattle.law_machine.specs.Element.{Map};
+ghost use Rattle.law_machine.specs.Index.{live_at};
+ghost use Rattle.law_refinement.specs.Crashes.{IsPrefix};
 ghost use Rattle.cs_core.specs.Meanings.{commands_said};
 ghost use Rattle.cs_store.specs.Maps.{HasMap};
 ghost use Rattle.cs_store.specs.Sizes.{IsSaidByHeaders, IsSized, size_refusal};
 
+use crate::errors::same_name;
 use crate::stores::Store;
-use cs_deps::Refusal;
 use cs_disk::PageDisk;
 use cs_frame::ShardId;
+use cs_refusal::Refusal;
 use thiserror::Error;
 
 /// Why the size of a shard wasn't told.
 #[derive(Clone, Copy, Debug, PartialEq, Eq, Error)]
+#[error("{}", self.refusal())]
 pub enum SizeError {
     /// 1 DeviceFault: a read failed.
-    #[error("the device failed")]
     DeviceFault,
     /// 9 OutOfMemory: memory was asked for and refused.
-    #[error("out of memory")]
     OutOfMemory,
     /// 20 BadMagic: where a chunk should begin there is no frame.
     #[error("there is no frame where a chunk should begin")]
@@ -39,7 +39,6 @@ pub enum SizeError {
     #[error("a chunk's header has another version or kind")]
     BadVersion,
     /// 26 Misplaced: the header is of another frame than the one that the index means, or its digest is damaged; in stores of format 3 alone.
-    #[error("another frame lies there")]
     Misplaced,
 }
 
@@ -48,14 +47,8 @@ impl SizeError {
     pub fn refusal(self) -> Refusal
         ensures { result ≡ size_refusal self }
     {
-        match self {
-            SizeError::DeviceFault => Refusal::DeviceFault,
-            SizeError::OutOfMemory => Refusal::OutOfMemory,
-            SizeError::BadMagic => Refusal::BadMagic,
-            SizeError::BadLength => Refusal::BadLength,
-            SizeError::BadVersion => Refusal::BadVersion,
-            SizeError::Misplaced => Refusal::Misplaced,
-        }
+        same_name!(self, SizeError => Refusal;
+            DeviceFault, OutOfMemory, BadMagic, BadLength, BadVersion, Misplaced)
     }
 
     /// The error that a refusal of the header's tests is.
@@ -63,15 +56,8 @@ impl SizeError {
         requires { IsHeaderRefusal refusal }
         ensures { size_refusal result ≡ refusal }
     {
-        match refusal {
-            Refusal::DeviceFault => SizeError::DeviceFault,
-            Refusal::OutOfMemory => SizeError::OutOfMemory,
-            Refusal::BadMagic => SizeError::BadMagic,
-            Refusal::BadLength => SizeError::BadLength,
-            Refusal::BadVersion => SizeError::BadVersion,
-            Refusal::Misplaced => SizeError::Misplaced,
-            _ => unreachable!(),
-        }
+        same_name!(refusal, Refusal => SizeError;
+            DeviceFault, OutOfMemory, BadMagic, BadLength, BadVersion, Misplaced; no other)
     }
 }
 

@@ -5,19 +5,19 @@ ghost use Rattle.cs_disk.specs.Disk.{LeavesOnly, MayLeave, Rises, flushed, page,
 ghost use Rattle.cs_extent.specs.State.{shape};
 ghost use Rattle.cs_frame.specs.Formats.{formats_of};
 ghost use Rattle.cs_frame.specs.Geometries.{IsGeometry, device_pages, section_size};
-ghost use Rattle.cs_image.specs.Counts.{HasCount};
-ghost use Rattle.cs_model.specs.Element.{Map};
-ghost use Rattle.cs_model.specs.Geometry.{shape_of};
-ghost use Rattle.cs_model.specs.Recovery.{Recovers};
+ghost use Rattle.law_refinement.specs.Counts.{HasCount};
+ghost use Rattle.law_machine.specs.Element.{Map};
+ghost use Rattle.law_machine.specs.Geometry.{shape_of};
+ghost use Rattle.law_machine.specs.Recovery.{Recovers};
 ghost use Rattle.cs_core.specs.Openings.{IsOpened, IsOpeningRefusal, IsWhyNotOpened};
 ghost use Rattle.cs_core.specs.Started.{IsHeadWritten, IsNewOn, new_stored};
 ghost use Rattle.cs_store.specs.Maps.{HasMap};
 
 use cs_core::{Core, Limits};
-use cs_deps::Refusal;
 use cs_disk::PageDisk;
 use cs_frame::Geometry;
 use cs_mount::Finding;
+use cs_refusal::Refusal;
 use std::alloc::Global;
 use std::marker::Model;
 

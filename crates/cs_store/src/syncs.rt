@@ -2,11 +2,11 @@
 ghost use Rattle.std.specs.Prelude.{◌≡◌, ◌≤◌, ◌↔◌, ◌⊎◌, [], Err, IfErr, IfOk, true};
 ghost use Rattle.cs_disk.specs.Disk.{Leaves, LeavesOnly, page};
 ghost use Rattle.cs_extent.specs.State.{shape};
-ghost use Rattle.cs_model.specs.Element.{Map};
-ghost use Rattle.cs_refine.specs.Crashes.{IsPrefix};
+ghost use Rattle.law_machine.specs.Element.{Map};
+ghost use Rattle.law_refinement.specs.Crashes.{IsPrefix};
 ghost use Rattle.cs_core.specs.Meanings.{commands_said};
-ghost use Rattle.cs_drive.specs.Runs.{Ran};
-ghost use Rattle.cs_drive.specs.Syncs.{StopsSync, Syncs};
+ghost use Rattle.cs_writeback.specs.Runs.{Ran};
+ghost use Rattle.cs_writeback.specs.Syncs.{StopsSync, Syncs};
 ghost use Rattle.cs_store.specs.Errors.{sync_refusal};
 ghost use Rattle.cs_store.specs.Events.{IsHalted};
 ghost use Rattle.cs_store.specs.Maps.{Accepts, HasMap};
@@ -14,7 +14,7 @@ ghost use Rattle.cs_store.specs.Maps.{Accepts, HasMap};
 use crate::errors::SyncError;
 use crate::stores::Store;
 use cs_disk::PageDisk;
-use cs_drive::sync;
+use cs_writeback::sync;
 
 impl<D: PageDisk> Store<D> {
     /// Makes all accepted commands persistent, and gives how many they are since the store was opened. It is a write for each element that waits, and

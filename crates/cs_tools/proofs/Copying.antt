@@ -5,10 +5,10 @@ use Rattle.std.specs.List.{AllByRecursion}
 use Rattle.cs_core.specs.Views.{View}
 use Rattle.cs_frame.specs.declared.identifiers.ShardId.{ShardId}
 use Rattle.cs_index.specs.State.{id_number}
-use Rattle.cs_model.specs.Element.{Bytes, Content, Map}
-use Rattle.cs_model.specs.Lists.{◌∈◌}
+use Rattle.law_machine.specs.Element.{Bytes, Content, Map}
+use Rattle.law_machine.specs.Lists.{◌∈◌}
 use Rattle.cs_store.specs.Maps.{HasMap}
-use Rattle.cs_survey.specs.Listings.{AreAll}
+use Rattle.cs_inspect.specs.Listings.{AreAll}
 use Rattle.cs_tools.specs.Copies.{Agree}
 
 -- ---- maps of stores

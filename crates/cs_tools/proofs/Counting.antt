@@ -2,8 +2,8 @@
 use Rattle.std.proofs.Common.{◌≡◌, ◌≢◌, ◌⊎◌, ◌==◌, ◌<◌, ◌≤◌, ◌+◌, ◌-◌, ◌^◌, ℕ, Bool, true, false, zero, suc, List, [], ◌∷◌, None, eqb-true, get_or, length, take, inl, inr, refl, sym, subst, arith}
 use Rattle.std.specs.Prelude.{MatchBool, min}
 use Rattle.std.proofs.lemmas.List.{take_all}
-use Rattle.cs_pair.specs.Findings.{passed_over}
-use Rattle.cs_pair.specs.declared.findings.Finding.{Finding}
+use Rattle.cs_twin.specs.Findings.{passed_over}
+use Rattle.cs_twin.specs.declared.findings.Finding.{Finding}
 use Rattle.cs_tools.specs.Pages.{AreWhole}
 
 -- so many of these were passed over that none were, or some

@@ -10,13 +10,13 @@ use Rattle.cs_disk.specs.Disk.{State as DiskState}
 use Rattle.cs_extent.specs.State.{IsWhole}
 use Rattle.cs_frame.specs.declared.identifiers.ShardId.{ShardId}
 use Rattle.cs_index.specs.State.{State as Index, id_number, index_of}
-use Rattle.cs_model.specs.Element.{Content, Map}
-use Rattle.cs_model.specs.Index.{live_at}
-use Rattle.cs_model.specs.Lists.{◌∈◌}
-use Rattle.cs_model.specs.State.{State, map_now}
+use Rattle.law_machine.specs.Element.{Content, Map}
+use Rattle.law_machine.specs.Index.{live_at}
+use Rattle.law_machine.specs.Lists.{◌∈◌}
+use Rattle.law_machine.specs.State.{State, map_now}
 use Rattle.cs_store.specs.Maps.{HasMap}
 use Rattle.cs_store.proofs.Getting.{map_is}
-use Rattle.cs_survey.specs.Listings.{AreFirst}
+use Rattle.cs_inspect.specs.Listings.{AreFirst}
 use Rattle.cs_tools.specs.Exports.{AreAllFrom, AreReadOf, IsExported, IsScript, IsToldBy, Shard}
 use Rattle.cs_tools.proofs.Exporting.{all_mapped}
 

@@ -2,9 +2,9 @@
 use Rattle.std.proofs.Common.{◌≡◌, ◌∙◌, ◌⊎◌, ℕ, List, Some, None, Ok, Err, refl, sym, subst, inl, inr}
 use Rattle.std.specs.Prelude.{◌↔◌, Option, Result}
 use Rattle.std.specs.Io.KnownBytes.{Appends}
-use Rattle.cs_deps.specs.declared.refusals.Refusal.{Refusal}
-use Rattle.cs_deps.specs.declared.refusals.Refusal.TheVariants as refusal
-use Rattle.cs_model.specs.Element.{Bytes, Content}
+use Rattle.cs_refusal.specs.declared.refusals.Refusal.{Refusal}
+use Rattle.cs_refusal.specs.declared.refusals.Refusal.TheVariants as refusal
+use Rattle.law_machine.specs.Element.{Bytes, Content}
 use Rattle.cs_store.specs.declared.errors.GetError.{GetError}
 use Rattle.cs_store.specs.declared.errors.GetError.TheVariants as get
 use Rattle.cs_store.specs.Errors.{get_refusal}

@@ -3,6 +3,7 @@ pub mod Changing
 pub mod Continued
 pub mod Counting
 pub mod Drawing
+pub mod Emptying
 pub mod Exported
 pub mod Exporting
 pub mod Getting

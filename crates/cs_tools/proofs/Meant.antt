@@ -6,7 +6,7 @@ use Rattle.std.specs.List.{AllByRecursion, AllZip, list_all}
 use Rattle.cs_core.specs.Stored.{Stored}
 use Rattle.cs_frame.specs.declared.identifiers.ShardId.{ShardId}
 use Rattle.cs_index.specs.State.{State as Index, id_number, index_of}
-use Rattle.cs_model.specs.Index.{live_at}
+use Rattle.law_machine.specs.Index.{live_at}
 use Rattle.cs_tools.specs.Exports.{AreAllFrom, IsMeantExport, IsMeantOf, IsScript, Shard, is_whole, piece_lines, shard_line}
 use Rattle.cs_tools.proofs.Exported.{all_members}
 use Rattle.cs_tools.proofs.Exporting.{ArePrinted, IsPrintedUpTo, Widens, all_at, piece_of, piece_printed, shard_printed}

@@ -4,12 +4,12 @@ use Rattle.std.proofs.lemmas.Bool.{cases_lt}
 use Rattle.std.proofs.lemmas.List.{length-take}
 use Rattle.cs_core.specs.declared.events.Event.TheVariants.{Put}
 use Rattle.cs_core.specs.Views.{View}
-use Rattle.cs_deps.specs.declared.refusals.Refusal.{Refusal}
-use Rattle.cs_deps.specs.declared.refusals.Refusal.TheVariants.{TooLarge}
+use Rattle.cs_refusal.specs.declared.refusals.Refusal.{Refusal}
+use Rattle.cs_refusal.specs.declared.refusals.Refusal.TheVariants.{TooLarge}
 use Rattle.cs_disk.specs.declared.disk.PageDisk.{Ghosts as PageDisk}
 use Rattle.cs_extent.specs.State.{shape}
 use Rattle.cs_frame.specs.declared.identifiers.ShardId.{ShardId}
-use Rattle.cs_model.specs.Element.{Map}
+use Rattle.law_machine.specs.Element.{Map}
 use Rattle.cs_store.specs.Events.{DeclinesCopy}
 use Rattle.cs_store.specs.Maps.{HasMap}
 use Rattle.cs_tools.specs.Changes.{DeclinesPut, Puts, PutsInto, most_bytes}

@@ -7,12 +7,12 @@ use Rattle.cs_core.specs.declared.events.Reply.{Reply}
 use Rattle.cs_core.specs.declared.events.Reply.TheVariants.{Abandoned, NoneLive, Retired, Sweeping}
 use Rattle.cs_core.specs.Meanings.{commands_said}
 use Rattle.cs_core.specs.Views.{View}
-use Rattle.cs_deps.specs.declared.refusals.Refusal.{Refusal}
+use Rattle.cs_refusal.specs.declared.refusals.Refusal.{Refusal}
 use Rattle.cs_disk.specs.declared.disk.PageDisk.{Ghosts as PageDisk}
-use Rattle.cs_drive.specs.declared.sweeps.Swept.{Swept}
-use Rattle.cs_drive.specs.Histories.{IsStopped, MakesRoom, Went}
-use Rattle.cs_drive.specs.Sweeps.{Abandons, IsSweepRefused, StopsSweep, Sweeps, moves}
-use Rattle.cs_model.specs.State.{Command}
+use Rattle.cs_writeback.specs.declared.whole_sweeps.Swept.{Swept}
+use Rattle.cs_writeback.specs.Histories.{IsStopped, MakesRoom, Went}
+use Rattle.cs_writeback.specs.Sweeps.{Abandons, IsSweepRefused, StopsSweep, Sweeps, moves}
+use Rattle.law_machine.specs.State.{Command}
 use Rattle.cs_store.specs.Maps.{Accepts}
 use Rattle.cs_store.proofs.Accepting.{accepts_later, accepts_none, went_accepts}
 use Rattle.cs_store.proofs.Commands.{added_quiet, moves_quiet, quiet_both}

@@ -3,10 +3,10 @@ use Rattle.std.proofs.Common.{ℕ, List, Some, None}
 use Rattle.std.specs.Prelude.{Option}
 use Rattle.cs_extent.specs.State.{State as ExtentsState}
 use Rattle.cs_frame.specs.declared.locators.Locator.{Locator}
-use Rattle.cs_rescue.specs.Founds.{Found}
-use Rattle.cs_rescue.specs.Rescued.{IsOfNewest, IsRescued}
-use Rattle.cs_rescue.specs.Runs.{IsEndOf}
-use Rattle.cs_rescue.specs.declared.runs.DamagedRun.{DamagedRun}
+use Rattle.cs_salvage.specs.Founds.{Found}
+use Rattle.cs_salvage.specs.Rescued.{IsOfNewest, IsRescued}
+use Rattle.cs_salvage.specs.Runs.{IsEndOf}
+use Rattle.cs_salvage.specs.declared.rescued_runs.DamagedRun.{DamagedRun}
 
 module _ (honest other : Type 0) (says : other → honest) where
   end_by : (x : ExtentsState) (view : ℕ → List ℕ) (places : List Locator) (left : ℕ) (damaged : Option DamagedRun) → IsEndOf honest x view places left damaged → IsEndOf other x view places left damaged

@@ -7,13 +7,13 @@ use Rattle.cs_core.specs.declared.events.Reply.{Reply}
 use Rattle.cs_core.specs.declared.events.Reply.TheVariants.{Refused}
 use Rattle.cs_core.specs.Stored.{Stored}
 use Rattle.cs_core.specs.Views.{View}
-use Rattle.cs_deps.specs.declared.refusals.Refusal.{Refusal}
+use Rattle.cs_refusal.specs.declared.refusals.Refusal.{Refusal}
 use Rattle.cs_disk.proofs.OnlyRead.{reads_none}
 use Rattle.cs_disk.specs.Reads.{OnlyReads}
 use Rattle.cs_disk.specs.declared.disk.PageDisk.{Ghosts as PageDisk}
-use Rattle.cs_drive.specs.Histories.{IsRefused, IsStopped, Went}
+use Rattle.cs_writeback.specs.Histories.{IsRefused, IsStopped, Went}
 use Rattle.cs_frame.specs.declared.identifiers.ShardId.{ShardId}
-use Rattle.cs_store.specs.Reclaims.{ReadsOn}
+use Rattle.cs_inspect.specs.Choices.{ReadsOn}
 use Rattle.cs_tools.specs.Reclaims.{IsPersistent}
 
 -- what ended well has what holds where it does

@@ -5,7 +5,7 @@ use Rattle.std.specs.Io.KnownBytes.{Appends}
 use Rattle.std.specs.List.{AllByRecursion, AllZip, list_all}
 use Rattle.cs_disk.specs.Disk.{Rises}
 use Rattle.cs_frame.specs.declared.identifiers.ShardId.{ShardId}
-use Rattle.cs_model.specs.Element.{Map}
+use Rattle.law_machine.specs.Element.{Map}
 use Rattle.cs_tools.specs.Exports.{AreReadOf, IsCausedBy, IsReadOf, IsScript, IsToldBy, Shard, is_whole, piece_lines, shard_line}
 use Rattle.cs_tools.proofs.Exporting.{Widens}
 

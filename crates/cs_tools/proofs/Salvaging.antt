@@ -3,9 +3,9 @@ use Rattle.std.proofs.Common.{◌≡◌, ◌≢◌, ◌⊎◌, ◌&&◌, ◌<◌
 use Rattle.std.specs.Prelude.{All, Contains, Err, Ok, Option, Result, min}
 use Rattle.std.specs.Io.KnownBytes.{Appends}
 use Rattle.std.specs.List.{AllByRecursion, AllZip, list_all}
-use Rattle.cs_deps.specs.Refusals.{number_of}
-use Rattle.cs_deps.specs.declared.refusals.Refusal.{Refusal}
-use Rattle.cs_deps.specs.declared.refusals.Refusal.TheVariants as refusal
+use Rattle.cs_refusal.specs.Refusals.{number_of}
+use Rattle.cs_refusal.specs.declared.refusals.Refusal.{Refusal}
+use Rattle.cs_refusal.specs.declared.refusals.Refusal.TheVariants as refusal
 use Rattle.cs_disk.specs.Disk.{HasCause, Image, Rises, State, seen}
 use Rattle.cs_disk.specs.Faults.{disk_fault_number}
 use Rattle.cs_disk.specs.declared.fault.DiskFault.{DiskFault}
@@ -14,7 +14,7 @@ use Rattle.cs_frame.specs.Geometries.{Dimensions}
 use Rattle.cs_salvage.specs.Parts.{AreParts, IsPart}
 use Rattle.cs_salvage.specs.Shards.{AreAllOf}
 use Rattle.cs_salvage.specs.declared.parts.Part.{Part}
-use Rattle.cs_salvage.specs.declared.shards.WholeShard.{WholeShard}
+use Rattle.cs_salvage.specs.declared.whole_shards.WholeShard.{WholeShard}
 use Rattle.cs_tools.specs.Exports.{IsScript, Shard, is_whole, piece_lines, shard_line}
 use Rattle.cs_tools.specs.Salvages.{AreToldOf, IsMeantBy, IsMeantSalvage, IsSalvaged, IsToldOf, IsWrittenOut, MeansSalvage, Salvages, Stands}
 use Rattle.cs_tools.specs.declared.outcomes.Outcome.{Outcome}
@@ -78,7 +78,7 @@ piece_told g x y z old new size shards rest piece left whole read a b c le le' s
 
 -- ---- how an export ends
 
-written_out : (image : Image) (found : Salvaged) (x y : ℕ) (a b : Option (List ℕ)) (whole : Bool)
+pub written_out : (image : Image) (found : Salvaged) (x y : ℕ) (a b : Option (List ℕ)) (whole : Bool)
     → ((shards : List Shard) × AreToldOf found.geometry image x y found.shards.items shards × (whole ≡ list_all is_whole shards) × ((text : List ℕ) × IsScript shards text × Appends a b text)) → IsWrittenOut image found x y a b whole
 written_out image found x y a b whole h = record { shards = h.0; told = h.1; whole_is = h.2; text = h.3.0; script = h.3.1; written = h.3.2 }
 
@@ -89,22 +89,20 @@ EndsBy found whole o =
     ⊎ ((o ≡ Damaged) × ((whole ≡ false) ⊎ (found.shards.items ≡ []) ⊎ (found.missing.items ≢ [])))
 
 pub salvages : (image : Image) (found : Salvaged) (x y : ℕ) (a b : Option (List ℕ)) (whole : Bool) (o : Outcome)
-    → ((shards : List Shard) × AreToldOf found.geometry image x y found.shards.items shards × (whole ≡ list_all is_whole shards) × ((text : List ℕ) × IsScript shards text × Appends a b text))
-    → EndsBy found whole o → Salvages image found x y a b o
+    → IsWrittenOut image found x y a b whole → EndsBy found whole o → Salvages image found x y a b o
 salvages image found x y a b whole o h (inl done) =
-    subst (Salvages image found x y a b) (sym done.0) (subst (IsWrittenOut image found x y a b) done.1 (written_out image found x y a b whole h), done.2, done.3)
-salvages image found x y a b whole o h (inr damaged) = subst (Salvages image found x y a b) (sym damaged.0) (whole, written_out image found x y a b whole h, damaged.1)
+    subst (Salvages image found x y a b) (sym done.0) (subst (IsWrittenOut image found x y a b) done.1 h, done.2, done.3)
+salvages image found x y a b whole o h (inr damaged) = subst (Salvages image found x y a b) (sym damaged.0) (whole, h, damaged.1)
 
 -- whatever the disk did
-means_whole : (found : Salvaged) (a b : Option (List ℕ)) (whole : Bool)
+pub means_whole : (found : Salvaged) (a b : Option (List ℕ)) (whole : Bool)
     → ((shards : List Shard) × AllZip (IsMeantBy found.geometry) found.shards.items shards × (whole ≡ list_all is_whole shards) × ((text : List ℕ) × IsScript shards text × Appends a b text)) → IsMeantSalvage found a b whole
 means_whole found a b whole h = record { shards = h.0; told = h.1; whole_is = h.2; text = h.3.0; script = h.3.1; written = h.3.2 }
 
 pub means_salvage : (found : Salvaged) (a b : Option (List ℕ)) (whole : Bool) (o : Outcome)
-    → ((shards : List Shard) × AllZip (IsMeantBy found.geometry) found.shards.items shards × (whole ≡ list_all is_whole shards) × ((text : List ℕ) × IsScript shards text × Appends a b text))
-    → EndsBy found whole o → MeansSalvage found a b o
-means_salvage found a b whole o h (inl done) = subst (MeansSalvage found a b) (sym done.0) (subst (IsMeantSalvage found a b) done.1 (means_whole found a b whole h))
-means_salvage found a b whole o h (inr damaged) = subst (MeansSalvage found a b) (sym damaged.0) (whole, means_whole found a b whole h)
+    → IsMeantSalvage found a b whole → EndsBy found whole o → MeansSalvage found a b o
+means_salvage found a b whole o h (inl done) = subst (MeansSalvage found a b) (sym done.0) (subst (IsMeantSalvage found a b) done.1 h)
+means_salvage found a b whole o h (inr damaged) = subst (MeansSalvage found a b) (sym damaged.0) (whole, h)
 
 -- ---- one shard or piece more, whatever the disk did
 

@@ -6,8 +6,8 @@ use Rattle.cs_disk.specs.Reads.{OnlyReads}
 use Rattle.cs_disk.specs.declared.disk.PageDisk.{Ghosts as PageDisk}
 use Rattle.cs_frame.specs.declared.identifiers.ShardId.{ShardId}
 use Rattle.cs_index.specs.State.{id_number, index_of}
-use Rattle.cs_model.specs.Index.{live_at}
-use Rattle.cs_model.specs.State.{State}
+use Rattle.law_machine.specs.Index.{live_at}
+use Rattle.law_machine.specs.State.{State}
 
 -- the core is in the same states, and the same shards are there
 module _ {D : Type 0} (disks : PageDisk D) (old new : View D) (same : new ≡ record old { disk = new.disk }) (reads : OnlyReads disks old.disk new.disk) where

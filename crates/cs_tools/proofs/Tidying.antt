@@ -7,24 +7,24 @@ use Rattle.cs_core.specs.declared.events.Reply.{Reply}
 use Rattle.cs_core.specs.declared.events.Reply.TheVariants.{Accepted}
 use Rattle.cs_core.specs.Meanings.{command_said, commands_said}
 use Rattle.cs_core.specs.Views.{IsIn, View}
-use Rattle.cs_deps.specs.declared.refusals.Refusal.{Refusal}
+use Rattle.cs_refusal.specs.declared.refusals.Refusal.{Refusal}
 use Rattle.cs_disk.specs.Reads.{OnlyReads}
 use Rattle.cs_disk.specs.declared.disk.PageDisk.{Ghosts as PageDisk}
 use Rattle.cs_disk.specs.Disk.{Image, Leaves, LeavesOnly, MayLeave, State as DiskState, page}
-use Rattle.cs_drive.proofs.Histories.{went_one}
-use Rattle.cs_drive.proofs.Runs.{ran_call, ran_none, ran_then}
-use Rattle.cs_drive.specs.Histories.{Goes, IsStopped, MakesRoom}
-use Rattle.cs_drive.specs.Runs.{Ran}
-use Rattle.cs_drive.specs.Sweeps.{IsSweepRefused, Sweeps}
-use Rattle.cs_drive.specs.Syncs.{StopsSync, Syncs}
-use Rattle.cs_drive.specs.declared.sweeps.Swept.{Swept}
+use Rattle.cs_writeback.proofs.Histories.{went_one}
+use Rattle.cs_writeback.proofs.Runs.{ran_call, ran_none, ran_then}
+use Rattle.cs_writeback.specs.Histories.{Goes, IsStopped, MakesRoom}
+use Rattle.cs_writeback.specs.Runs.{Ran}
+use Rattle.cs_writeback.specs.Sweeps.{IsSweepRefused, Sweeps}
+use Rattle.cs_writeback.specs.Syncs.{StopsSync, Syncs}
+use Rattle.cs_writeback.specs.declared.whole_sweeps.Swept.{Swept}
 use Rattle.cs_extent.specs.State.{IsWhole, shape}
 use Rattle.cs_frame.specs.declared.identifiers.ShardId.{ShardId}
 use Rattle.cs_index.specs.State.{id_number}
-use Rattle.cs_model.specs.Element.{Bytes, Map}
-use Rattle.cs_model.specs.State.{State, changed, map_now}
-use Rattle.cs_refine.specs.Crashes.{IsPrefix}
-use Rattle.cs_scrub.proofs.Crashing.{crash_still}
+use Rattle.law_machine.specs.Element.{Bytes, Map}
+use Rattle.law_machine.specs.State.{State, changed, map_now}
+use Rattle.cs_core.specs.law_refinement.Crashes.{IsPrefix}
+use Rattle.cs_inspect.proofs.Crashing.{crash_still}
 use Rattle.cs_store.specs.Maps.{Accepts, HasMap}
 use Rattle.cs_store.proofs.Accepting.{went_accepts}
 use Rattle.cs_store.proofs.Asking.{sync_accepts}

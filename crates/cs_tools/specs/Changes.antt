@@ -5,18 +5,18 @@ use Rattle.cs_core.specs.declared.events.Event.TheVariants.{Delete, Put}
 use Rattle.cs_core.specs.declared.events.Reply.TheVariants as reply
 use Rattle.cs_core.specs.Meanings.{commands_said}
 use Rattle.cs_core.specs.Views.{View}
-use Rattle.cs_deps.specs.declared.refusals.Refusal.{Refusal}
-use Rattle.cs_deps.specs.declared.refusals.Refusal.TheVariants.{TooLarge}
+use Rattle.cs_refusal.specs.declared.refusals.Refusal.{Refusal}
+use Rattle.cs_refusal.specs.declared.refusals.Refusal.TheVariants.{TooLarge}
 use Rattle.cs_disk.specs.declared.disk.PageDisk.{Ghosts as PageDisk}
 use Rattle.cs_disk.specs.Disk.{Leaves, LeavesOnly, page}
-use Rattle.cs_drive.specs.Syncs.{StopsSync, Syncs}
+use Rattle.cs_writeback.specs.Syncs.{StopsSync, Syncs}
 use Rattle.cs_extent.specs.State.{shape}
 use Rattle.cs_frame.specs.declared.identifiers.ShardId.{ShardId}
 use Rattle.cs_index.specs.State.{id_number}
-use Rattle.cs_model.specs.Device.{Shape}
-use Rattle.cs_model.specs.Element.{Map}
-use Rattle.cs_model.specs.State.{changed}
-use Rattle.cs_refine.specs.Crashes.{IsPrefix}
+use Rattle.law_machine.specs.Device.{Shape}
+use Rattle.law_machine.specs.Element.{Map}
+use Rattle.law_machine.specs.State.{changed}
+use Rattle.cs_core.specs.law_refinement.Crashes.{IsPrefix}
 use Rattle.cs_store.specs.Events.{Declines, DeclinesCopy, Does, IsHalted}
 use Rattle.cs_store.specs.Maps.{HasMap}
 use Rattle.cs_tools.specs.declared.outcomes.Outcome.{Outcome}

@@ -1,7 +1,7 @@
 -- What a copy of a store is.
 use Rattle.std.specs.Prelude.{◌≡◌, ℕ}
 use Rattle.cs_core.specs.Views.{View}
-use Rattle.cs_model.specs.Element.{Map}
+use Rattle.law_machine.specs.Element.{Map}
 use Rattle.cs_store.specs.Maps.{HasMap}
 use Rattle.cs_tools.specs.declared.outcomes.Outcome.{Outcome}
 use Rattle.cs_tools.specs.declared.outcomes.Outcome.TheVariants.{Absent, Damaged, Done, Failed, MayBeLost, NoStore, Refused, Unopened, Unread}

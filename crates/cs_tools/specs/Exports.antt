@@ -4,15 +4,15 @@ use Rattle.std.specs.Io.KnownBytes.{Appends}
 use Rattle.std.specs.List.{AllByRecursion, AllZip, list_all}
 use Rattle.cs_core.specs.Lookups.{AreMeantBytes, IsReading}
 use Rattle.cs_core.specs.Stored.{Stored}
-use Rattle.cs_deps.specs.declared.refusals.Refusal.{Refusal}
-use Rattle.cs_deps.specs.declared.refusals.Refusal.TheVariants.{DeviceFault, OutOfMemory}
+use Rattle.cs_refusal.specs.declared.refusals.Refusal.{Refusal}
+use Rattle.cs_refusal.specs.declared.refusals.Refusal.TheVariants.{DeviceFault, OutOfMemory}
 use Rattle.cs_disk.specs.Disk.{Rises}
 use Rattle.cs_frame.specs.declared.identifiers.ShardId.{ShardId}
 use Rattle.cs_index.specs.State.{id_number, index_of}
-use Rattle.cs_model.specs.Index.{live_at}
-use Rattle.cs_model.specs.Element.{Bytes, Map}
-use Rattle.cs_model.specs.Lists.{◌∈◌}
-use Rattle.cs_survey.specs.Listings.{Rising}
+use Rattle.law_machine.specs.Index.{live_at}
+use Rattle.law_machine.specs.Element.{Bytes, Map}
+use Rattle.law_machine.specs.Lists.{◌∈◌}
+use Rattle.cs_inspect.specs.Listings.{Rising}
 use Rattle.cs_tools.specs.Outputs.{id_text, payload_text, refusal_text}
 use Rattle.cs_tools.specs.declared.outcomes.Outcome.{Outcome}
 use Rattle.cs_tools.specs.declared.outcomes.Outcome.TheVariants.{Absent, Damaged, Done, Failed, MayBeLost, NoStore, Refused, Unopened, Unread}

@@ -7,7 +7,7 @@ use Rattle.cs_check.specs.Documents.{IsDocument, IsDocumentOf}
 use Rattle.cs_deps.specs.declared.elements.Element.{Element}
 use Rattle.cs_deps.specs.Named.{Named}
 use Rattle.cs_deps.specs.Pending.{Pending}
-use Rattle.cs_graph.specs.Picture.{picture}
+use Rattle.cs_picture.specs.Picture.{picture}
 
 -- the bytes are the UTF-8 text of a document
 abbrev pub IsDocumentText : List ℕ → Type 0

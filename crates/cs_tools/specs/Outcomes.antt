@@ -1,7 +1,7 @@
 -- How commands end.
 use Rattle.std.specs.Prelude.{ℕ, Option, Some, None}
-use Rattle.cs_deps.specs.declared.refusals.Refusal.{Refusal}
-use Rattle.cs_deps.specs.declared.refusals.Refusal.TheVariants.{DeviceFault}
+use Rattle.cs_refusal.specs.declared.refusals.Refusal.{Refusal}
+use Rattle.cs_refusal.specs.declared.refusals.Refusal.TheVariants.{DeviceFault}
 use Rattle.cs_disk.specs.declared.fault.SystemFault.{SystemFault}
 use Rattle.cs_disk.specs.declared.fault.SystemFault.TheVariants.{Folder, InUse, NoRoom, NotAllowed, NotThere, ReadOnly}
 use Rattle.cs_disk.specs.declared.fault.SystemFault.TheVariants as fault

@@ -1,8 +1,8 @@
 -- Pages that a store has twice and of which one isn't whole.
 use Rattle.std.specs.Prelude.{◌≡◌, Bool, true, false, List, [], None}
 use Rattle.std.specs.List.{AllByRecursion}
-use Rattle.cs_pair.specs.declared.findings.Finding.{Finding}
-use Rattle.cs_pair.specs.Findings.{passed_over}
+use Rattle.cs_twin.specs.declared.findings.Finding.{Finding}
+use Rattle.cs_twin.specs.Findings.{passed_over}
 
 -- none of the pages of these pairs is passed over for its damage
 abbrev pub AreWhole : List Finding → Type 0

@@ -1,15 +1,18 @@
--- What the command `reclaim` leaves as it is.
-use Rattle.std.specs.Prelude.{◌≡◌, ◌⊎◌, ◌↔◌}
-use Rattle.cs_deps.specs.declared.refusals.Refusal.{Refusal}
+-- What the command `reclaim` does, and what it leaves as it is.
+use Rattle.std.specs.Prelude.{◌≡◌, ◌⊎◌, ◌↔◌, ◌*◌, ◌≤◌, ℕ, zero, suc, None, Some}
+use Rattle.cs_refusal.specs.declared.refusals.Refusal.{Refusal}
 use Rattle.cs_disk.specs.declared.disk.PageDisk.{Ghosts as PageDisk}
 use Rattle.cs_core.specs.Views.{View}
-use Rattle.cs_drive.specs.Runs.{Ran}
-use Rattle.cs_drive.specs.Sweeps.{MayRefuseSweep}
-use Rattle.cs_drive.specs.Syncs.{MayRefuseSync}
-use Rattle.cs_model.specs.Element.{Map}
+use Rattle.cs_writeback.specs.Histories.{MakesRoom}
+use Rattle.cs_writeback.specs.Runs.{Ran}
+use Rattle.cs_writeback.specs.Sweeps.{MayRefuseSweep, Sweeps}
+use Rattle.cs_writeback.specs.Syncs.{MayRefuseSync, Syncs}
+use Rattle.cs_extent.specs.State.{shape}
+use Rattle.law_machine.specs.Element.{Map}
 use Rattle.cs_store.specs.Maps.{HasMap}
-use Rattle.cs_tools.specs.declared.reclaims.Stop.{Stop}
-use Rattle.cs_tools.specs.declared.reclaims.Stop.TheVariants.{Failed, Refused}
+use Rattle.cs_inspect.specs.Choices.{Chooses, ReadsOn}
+use Rattle.cs_tools.specs.declared.reclaim_command.Stop.{Stop}
+use Rattle.cs_tools.specs.declared.reclaim_command.Stop.TheVariants.{Failed, Refused}
 
 -- all commands that were accepted are persistent
 abbrev pub IsPersistent : {D : Type 0} → View D → Type 0
@@ -30,3 +33,27 @@ module _ {D : Type 0} (disks : PageDisk D) where
     pub ran : Ran disks old new
     pub honest : disks.honest old.disk ↔ disks.honest new.disk
     pub map : disks.honest old.disk → (m : Map) → HasMap old m → HasMap new m
+
+  -- An extent is emptied: room is made in the history, the extent is swept, and then all is synced.
+  pub record Empties (extent : ℕ) (old new : View D) : Type 0 where
+    pub room : View D
+    pub made : MakesRoom old room
+    pub swept : View D
+    pub moved : ℕ
+    pub root : ℕ
+    pub sweeps : Sweeps disks extent room swept moved root
+    pub syncs : Syncs disks swept new
+
+  -- an extent is chosen by what was read, and it is emptied
+  abbrev pub EmptiesChosen : (old new : View D) → Type 0
+  EmptiesChosen old new = (read : View D) × (extent : ℕ) × (dead : ℕ) × ReadsOn disks old read × Chooses disks old read (Some (extent, dead)) × Empties extent read new
+
+  -- that so many times, one after another
+  abbrev pub EmptiesTimes : ℕ → (old new : View D) → Type 0
+  EmptiesTimes zero old new = new ≡ old
+  EmptiesTimes (suc n) old new = (mid : View D) × EmptiesTimes n old mid × EmptiesChosen mid new
+
+  -- that until none is chosen, or until two were chosen for each extent
+  abbrev pub EmptiesAll : (old new : View D) → Type 0
+  EmptiesAll old new = (n : ℕ) × (n ≤ 2 * (shape old.store.extents).extents) × (last : View D) × EmptiesTimes n old last
+      × ((ReadsOn disks last new × Chooses disks last new None) ⊎ ((n ≡ 2 * (shape old.store.extents).extents) × (new ≡ last)))

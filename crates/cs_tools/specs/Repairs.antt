@@ -1,7 +1,7 @@
 -- What is told of a repair that stops.
 use Rattle.std.specs.Prelude.{◌==◌, ◌&&◌, ℕ, Bool, List, ◌∷◌, ◌++◌, [], codes}
-use Rattle.cs_pair.specs.declared.findings.Finding.{Finding}
-use Rattle.cs_pair.specs.Findings.{is_halved}
+use Rattle.cs_twin.specs.declared.findings.Finding.{Finding}
+use Rattle.cs_twin.specs.Findings.{is_halved}
 use Rattle.cs_tools.specs.Stats.{member, number_text}
 use Rattle.cs_tools.specs.declared.outputs.Style.{Style}
 use Rattle.cs_tools.specs.declared.outputs.Style.TheVariants.{Json, Text}

@@ -1,8 +1,8 @@
 -- What `get` answers of a store that is read for what can be got of it.
 use Rattle.std.specs.Prelude.{◌≡◌, ℕ, List, Option}
 use Rattle.std.specs.Io.KnownBytes.{Appends}
-use Rattle.cs_rescue.specs.Answers.{AreMeantBytes, AreReadBytes, IsAbsent, IsUnknown, IsWhyNoChunks, places_of}
-use Rattle.cs_rescue.specs.Founds.{Found}
+use Rattle.cs_salvage.specs.Answers.{AreMeantBytes, AreReadBytes, IsAbsent, IsUnknown, IsWhyNoChunks, places_of}
+use Rattle.cs_salvage.specs.Founds.{Found}
 use Rattle.cs_tools.specs.Outcomes.{status_of}
 use Rattle.cs_tools.specs.declared.outcomes.Outcome.TheVariants.{Absent, Damaged, Done, Failed, MayBeLost, NoStore, Refused, Unopened, Unread}
 use Rattle.cs_tools.specs.declared.rescues.Got.{Got}

@@ -2,16 +2,16 @@
 use Rattle.std.specs.Prelude.{◌≡◌, ◌≢◌, ◌⊎◌, ℕ, Bool, true, false, List, [], Option, Ok, Err}
 use Rattle.std.specs.Io.KnownBytes.{Appends}
 use Rattle.std.specs.List.{AllZip, list_all}
-use Rattle.cs_deps.specs.declared.refusals.Refusal.TheVariants.{DeviceFault, OutOfMemory}
+use Rattle.cs_refusal.specs.declared.refusals.Refusal.TheVariants.{DeviceFault, OutOfMemory}
 use Rattle.cs_disk.specs.Disk.{Image, Rises}
 use Rattle.cs_frame.specs.Geometries.{Dimensions}
-use Rattle.cs_model.specs.Index.{joined_bodies}
+use Rattle.law_machine.specs.Index.{joined_bodies}
 use Rattle.cs_salvage.specs.Frames.{IsMeant}
 use Rattle.cs_salvage.specs.Missing.{AreMissing}
 use Rattle.cs_salvage.specs.Parts.{AreParts, IsPart, formats_in}
 use Rattle.cs_salvage.specs.Shards.{AreNewest}
 use Rattle.cs_salvage.specs.declared.parts.Part.{Part}
-use Rattle.cs_salvage.specs.declared.shards.WholeShard.{WholeShard}
+use Rattle.cs_salvage.specs.declared.whole_shards.WholeShard.{WholeShard}
 use Rattle.cs_tools.specs.Exports.{IsScript, Shard, is_whole}
 use Rattle.cs_tools.specs.declared.outcomes.Outcome.{Outcome}
 use Rattle.cs_tools.specs.declared.outcomes.Outcome.TheVariants.{Absent, Damaged, Done, Failed, MayBeLost, NoStore, Refused, Unopened, Unread}

@@ -1,12 +1,12 @@
 -- How the command `scrub` ends.
 use Rattle.std.specs.Prelude.{◌≡◌, ◌≢◌, ◌⊎◌, ℕ, List, []}
-use Rattle.cs_deps.specs.declared.refusals.Refusal.TheVariants.{OutOfMemory}
+use Rattle.cs_refusal.specs.declared.refusals.Refusal.TheVariants.{OutOfMemory}
 use Rattle.cs_extent.specs.State.{State as ExtentsState}
 use Rattle.cs_index.specs.State.{State as Index}
-use Rattle.cs_pair.specs.declared.findings.Finding.{Finding}
-use Rattle.cs_scrub.specs.Scrubs.{AreCaused, IsScrubbed, device_faults}
-use Rattle.cs_survey.specs.Failures.{RisesBy}
-use Rattle.cs_scrub.specs.declared.damages.Scrubbed.{Scrubbed}
+use Rattle.cs_twin.specs.declared.findings.Finding.{Finding}
+use Rattle.cs_inspect.specs.Scrubs.{AreCaused, IsScrubbed, device_faults}
+use Rattle.cs_inspect.specs.Failures.{RisesBy}
+use Rattle.cs_inspect.specs.declared.damages.Scrubbed.{Scrubbed}
 use Rattle.cs_tools.specs.Pages.{AreWhole}
 use Rattle.cs_tools.specs.declared.outcomes.Outcome.{Outcome}
 use Rattle.cs_tools.specs.declared.outcomes.Outcome.TheVariants.{Absent, Damaged, Done, Failed, MayBeLost, NoStore, Refused, Unopened, Unread}

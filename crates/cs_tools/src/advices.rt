@@ -5,8 +5,9 @@ ghost use Rattle.cs_tools.specs.declared.advices.Todo.TheVariants.{Make};
 ghost use Rattle.cs_tools.specs.declared.knowns.Content.TheVariants.{Empty};
 
 use crate::knowns::{Content, Known};
-use cs_deps::Refusal;
 use cs_disk::SystemFault;
+use cs_frame::Format;
+use cs_refusal::Refusal;
 
 /// What to do about a refusal.
 #[derive(Clone, Copy, Debug, PartialEq, Eq)]
@@ -156,11 +157,11 @@ fn advice_of_content(refusal: Refusal, content: Content) -> Todo
 }
 
 /// What to do about a page of a store of this format.
-fn advice_of_store(refusal: Refusal, format: u8) -> &'static str
+fn advice_of_store(refusal: Refusal, format: Format) -> &'static str
     ensures some { 0 < length result.now }
     ensures words { says_make result.now ≡ false }
 {
-    let other = if format == 3 { NOT_WHOLE } else { OLDER };
+    let other = if format.has_twins() { NOT_WHOLE } else { OLDER };
     advice_of_damage(refusal, other)
 }
 

@@ -1,17 +1,17 @@
 //! The command `bench`.
 ghost use Rattle.std.specs.Prelude.{◌≡◌, ◌⊎◌};
-ghost use Rattle.cs_deps.specs.declared.refusals.Refusal.{Refusal as Why};
+ghost use Rattle.cs_refusal.specs.declared.refusals.Refusal.{Refusal as Why};
 ghost use Rattle.cs_tools.specs.declared.outcomes.Outcome.TheVariants.{Done, Failed, Refused};
 
 use crate::outcomes::Outcome;
 use crate::outputs::Style;
 use crate::timings::{Timings, nanos_since};
 use cs_core::{Bytes, Core, Event, Reply};
-use cs_deps::Refusal;
 use cs_disk::PageDisk;
-use cs_drive::{ask, make_room, sync};
 use cs_frame::ShardId;
-use cs_scrub::Progress;
+use cs_inspect::Progress;
+use cs_refusal::Refusal;
+use cs_writeback::{ask, make_room, sync};
 use std::alloc::Global;
 use std::io;
 use std::io::Write;

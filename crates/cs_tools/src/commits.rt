@@ -1,6 +1,6 @@
 //! Makes persistent what a command did.
 ghost use Rattle.std.specs.Prelude.{◌≡◌, ◌↔◌};
-ghost use Rattle.cs_model.specs.Element.{Map};
+ghost use Rattle.law_machine.specs.Element.{Map};
 ghost use Rattle.cs_store.specs.Maps.{HasMap};
 ghost use Rattle.cs_tools.specs.Changes.{Commits, LeavesPrefixAt, LeavesPrefixBetween};
 ghost use Rattle.cs_tools.specs.declared.outcomes.Outcome.TheVariants.{Done};

@@ -5,9 +5,9 @@ ghost use Rattle.cs_tools.specs.declared.knowns.Content.TheVariants.{Empty, Leng
 
 use cs_disk::{PageDisk, SystemFault};
 use cs_frame::{
-    FormatFault, Superblock, decode_root, decode_section, decode_superblock, device_pages,
+    Format, FormatFault, Superblock, decode_root, decode_section, decode_superblock, device_pages,
 };
-use cs_store::mount::look;
+use cs_mount::look;
 use std::alloc::Global;
 
 /// The page of the root.
@@ -26,7 +26,7 @@ pub enum Content {
     /// No store is recognised.
     Foreign,
     /// A superblock names a store of this format and of the device's pages.
-    Store { format: u8 },
+    Store { format: Format },
     /// A superblock names a store of `wanted` pages, and the device has `pages`.
     Length { pages: u64, wanted: u64 },
     /// A store of format 3, and neither page of this pair is whole.
@@ -66,7 +66,7 @@ impl Known {
 /// The store that a superblock names.
 #[derive(Clone, Copy)]
 struct Named {
-    format: u8,
+    format: Format,
     pages: u64,
     sections: u8,
 }
@@ -94,7 +94,7 @@ fn named_in(alloc: Global, number: u64, bytes: &[u8; 4096]) -> Option<Named> {
     let read = if number == 0 {
         decode_superblock(alloc, bytes)
     } else {
-        decode_section(alloc, bytes, 3)
+        decode_section(alloc, bytes, Format::three())
     };
     match read {
         Ok(superblock) => match named_by(&superblock) {
@@ -144,7 +144,8 @@ fn find_named<D: PageDisk>(alloc: Global, disk: &mut D) -> Option<Named>
 
 /// Whether the bytes of page 1 are a root, of any format.
 fn is_root(alloc: Global, bytes: &[u8; 4096]) -> bool {
-    decode_root(alloc, bytes, 2).is_ok() || decode_root(alloc, bytes, 3).is_ok()
+    decode_root(alloc, bytes, Format::two()).is_ok()
+        || decode_root(alloc, bytes, Format::three()).is_ok()
 }
 
 /// What a device holds on which no page is a superblock.
@@ -170,7 +171,9 @@ fn content_of_pairs<D: PageDisk>(alloc: Global, disk: &mut D) -> Content
     ensures disk { OnlyReads D.PageDisk disk.old disk.new }
 {
     let Ok(findings) = look(alloc, disk) else {
-        return Content::Store { format: 3 };
+        return Content::Store {
+            format: Format::three(),
+        };
     };
     for finding in &findings {
         if finding.held().version == 0 {
@@ -180,7 +183,9 @@ fn content_of_pairs<D: PageDisk>(alloc: Global, disk: &mut D) -> Content
             };
         }
     }
-    Content::Store { format: 3 }
+    Content::Store {
+        format: Format::three(),
+    }
 }
 
 /// Whether a page of a store of format 2 is whole: its root, or a section of its superblock.
@@ -190,8 +195,8 @@ fn is_whole<D: PageDisk>(alloc: Global, disk: &mut D, number: u64) -> bool
 {
     let mut buffer = [0; 4096];
     match disk.read(number, &mut buffer) {
-        Ok(()) if number == ROOT => decode_root(alloc, &buffer, 2).is_ok(),
-        Ok(()) => decode_section(alloc, &buffer, 2).is_ok(),
+        Ok(()) if number == ROOT => decode_root(alloc, &buffer, Format::two()).is_ok(),
+        Ok(()) => decode_section(alloc, &buffer, Format::two()).is_ok(),
         Err(_) => false,
     }
 }
@@ -218,7 +223,9 @@ fn content_of_sections<D: PageDisk>(alloc: Global, disk: &mut D, sections: u8) -
     let pages = disk.pages();
     let first = pages.saturating_add(1).saturating_sub(u64::from(sections));
     if pages > ROOT && is_whole(alloc, disk, ROOT) && are_sections(alloc, disk, first) {
-        Content::Store { format: 2 }
+        Content::Store {
+            format: Format::two(),
+        }
     } else {
         Content::Broken
     }
@@ -238,7 +245,7 @@ fn content_of<D: PageDisk>(alloc: Global, disk: &mut D) -> Content
             pages,
             wanted: named.pages,
         },
-        Some(named) if named.format == 3 => content_of_pairs(alloc, disk),
+        Some(named) if named.format.has_twins() => content_of_pairs(alloc, disk),
         Some(named) => content_of_sections(alloc, disk, named.sections),
     }
 }

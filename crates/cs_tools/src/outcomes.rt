@@ -2,8 +2,8 @@
 ghost use Rattle.std.specs.Prelude.{◌≡◌, ◌≤◌};
 ghost use Rattle.cs_tools.specs.Outcomes.{status_of, status_of_fault};
 
-use cs_deps::Refusal;
 use cs_disk::{FileFault, SystemFault};
+use cs_refusal::Refusal;
 
 /// How a command ended.
 #[derive(Clone, Copy, Debug, PartialEq, Eq)]
@@ -45,12 +45,12 @@ impl Outcome {
         ensures most { result ≤ 7 }
     {
         match self {
-            Outcome::Done => cs_status::DONE,
-            Outcome::Absent => cs_status::ABSENT,
-            Outcome::Refused(_) => cs_status::REFUSED,
-            Outcome::NoStore(_) => cs_status::NO_STORE,
-            Outcome::Failed => cs_status::STREAM,
-            Outcome::Unread(_) | Outcome::Damaged | Outcome::MayBeLost => cs_status::DAMAGED,
+            Outcome::Done => cs_words::DONE,
+            Outcome::Absent => cs_words::ABSENT,
+            Outcome::Refused(_) => cs_words::REFUSED,
+            Outcome::NoStore(_) => cs_words::NO_STORE,
+            Outcome::Failed => cs_words::STREAM,
+            Outcome::Unread(_) | Outcome::Damaged | Outcome::MayBeLost => cs_words::DAMAGED,
             Outcome::Unopened(fault) => status_of_fault(fault),
         }
     }
@@ -62,11 +62,11 @@ fn status_of_fault(fault: SystemFault) -> u8
     ensures most { result ≤ 7 }
 {
     match fault {
-        SystemFault::InUse => cs_status::IN_USE,
+        SystemFault::InUse => cs_words::IN_USE,
         SystemFault::NotThere
         | SystemFault::NotAllowed
         | SystemFault::Folder
-        | SystemFault::ReadOnly => cs_status::NOT_THERE,
-        SystemFault::NoRoom | SystemFault::Failed => cs_status::NO_STORE,
+        | SystemFault::ReadOnly => cs_words::NOT_THERE,
+        SystemFault::NoRoom | SystemFault::Failed => cs_words::NO_STORE,
     }
 }

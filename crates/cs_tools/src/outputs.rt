@@ -4,8 +4,8 @@ ghost use Rattle.std.specs.Io.KnownBytes.{Appends};
 ghost use Rattle.hex.specs.Hex.{encode_lower};
 ghost use Rattle.cs_tools.specs.Outputs.{id_text, payload_text, refusal_text};
 
-use cs_deps::Refusal;
 use cs_frame::ShardId;
+use cs_refusal::Refusal;
 use std::io;
 use std::io::Write;
 use uuid::Uuid;

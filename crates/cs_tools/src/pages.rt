@@ -1,13 +1,22 @@
 //! Pages that a store has twice and of which one isn't whole.
 ghost use Rattle.std.specs.Prelude.{◌≡◌, ◌≢◌, ◌==◌, ◌⊎◌, MatchBool, None, OnOk};
-ghost use Rattle.cs_pair.specs.Findings.{passed_over};
+ghost use Rattle.cs_twin.specs.Findings.{passed_over};
 ghost use Rattle.cs_tools.specs.Pages.{AreWhole, left_damaged};
 ghost use Rattle.cs_tools.specs.Stats.{GoesOn};
 
 use crate::outputs::Style;
-use cs_store::mount::Finding;
+use cs_mount::Finding;
 use std::io;
 use std::io::Write;
+
+/// What was found of the pages that a store has twice.
+#[derive(Clone, Copy)]
+pub struct FoundPages<'a> {
+    /// Of each pair.
+    pub findings: &'a [Finding],
+    /// Whether those pages that weren't whole were written anew since.
+    pub mended: bool,
+}
 
 /// 1 where a page of the pair was passed over for its damage, else 0.
 fn passed_over_of(finding: Finding) -> usize

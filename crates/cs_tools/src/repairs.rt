@@ -13,7 +13,7 @@ use crate::pages::print_pages;
 use crate::stats::print_number;
 use cs_core::Core;
 use cs_disk::PageDisk;
-use cs_store::mount::Finding;
+use cs_mount::Finding;
 use std::io;
 use std::io::Write;
 

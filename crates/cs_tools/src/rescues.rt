@@ -3,37 +3,35 @@ ghost use Rattle.std.specs.Prelude.{◌≡◌, ◌≢◌, ◌⊎◌, ◌↔◌, 
 ghost use Rattle.std.specs.Io.KnownBytes.{Appends};
 ghost use Rattle.cs_chunk.specs.Reads.{IsNoAnswer};
 ghost use Rattle.cs_core.specs.Openings.{IsOpeningRefusal};
-ghost use Rattle.cs_deps.specs.declared.refusals.Refusal.{Refusal as Why};
-ghost use Rattle.cs_disk.specs.Disk.{flushed, page, seen};
+ghost use Rattle.cs_refusal.specs.declared.refusals.Refusal.{Refusal as Why};
+ghost use Rattle.cs_disk.specs.Disk.{Rises, flushed, page, seen};
 ghost use Rattle.cs_disk.specs.Reads.{OnlyReads};
 ghost use Rattle.cs_frame.specs.declared.identifiers.ShardId.{ShardId as Id};
 ghost use Rattle.cs_index.specs.State.{id_number, index_of};
-ghost use Rattle.cs_model.specs.Index.{live_at};
-ghost use Rattle.cs_pair.specs.Paired.{disk_below, state_shown};
-ghost use Rattle.cs_pair.specs.Showing.{findings_on, shown_on};
-ghost use Rattle.cs_rescue.specs.Answers.{IsAbsent, IsUnknown};
-ghost use Rattle.cs_rescue.specs.Rescued.{IsRescued, IsWhyNotRescued};
-ghost use Rattle.cs_survey.specs.Listings.{AreFirst};
+ghost use Rattle.law_machine.specs.Index.{live_at};
+ghost use Rattle.cs_twin.specs.Paired.{disk_below, state_shown};
+ghost use Rattle.cs_mount.specs.Showing.{findings_on, shown_on};
+ghost use Rattle.cs_salvage.specs.Answers.{IsAbsent, IsUnknown};
+ghost use Rattle.cs_salvage.specs.Rescued.{IsRescued, IsWhyNotRescued};
+ghost use Rattle.cs_inspect.specs.Listings.{AreFirst};
 ghost use Rattle.cs_tools.specs.Outputs.{id_line};
 ghost use Rattle.cs_tools.specs.Rescues.{Rescues, status_of_got};
-ghost use Rattle.cs_tools.specs.declared.outcomes.Outcome.TheVariants.{Absent, Damaged, Done, Failed, Refused};
+ghost use Rattle.cs_tools.specs.declared.outcomes.Outcome.TheVariants.{Absent, Damaged, Done, Failed, Refused, Unread};
 ghost use Rattle.cs_tools.specs.declared.rescues.Got.TheVariants.{Ended, RunLost};
 
 use crate::advices::Todo;
-use crate::gets::write_out;
+use crate::get_command::write_out;
 use crate::knowns::Known;
-use crate::lists::print_ids;
+use crate::list_command::print_ids;
 use crate::outcomes::Outcome;
 use crate::outputs::Style;
 use crate::tellings::{Reason, explain, tell_reason};
-use cs_chunk::refusal_of_disk;
-use cs_deps::Refusal;
-use cs_disk::PageDisk;
+use cs_disk::{PageDisk, refusal_of_disk};
 use cs_frame::ShardId;
-use cs_pair::open_store;
-use cs_rescue::{Rescue, RescueRefusal};
-use cs_store::mount::{Finding, Mounted};
-use cs_survey::ids_from;
+use cs_inspect::ids_from;
+use cs_mount::{Finding, Mounted, open_pairs};
+use cs_refusal::Refusal;
+use cs_salvage::{Rescue, RescueRefusal};
 use std::alloc::Global;
 use std::io::Write;
 
@@ -76,7 +74,7 @@ pub fn open_rescue<D: PageDisk + Drop>(
     if disk.pages() < 10 {
         return Err((Refusal::NotAStore, disk));
     }
-    match open_store(alloc, disk) {
+    match open_pairs(alloc, disk) {
         Ok((paired, found)) => match Rescue::open(alloc, paired) {
             Ok(rescue) => Ok((rescue, found)),
             Err((refusal, paired)) => Err((refusal, paired.into_disk())),
@@ -96,6 +94,8 @@ pub fn get_rescued<D: PageDisk, W: Write>(
     // Whatever the disk does.
     ensures absent { (result ≡ Ended Absent) ↔ IsAbsent rescue.old.found (id_number id) }
     ensures run_lost { (result ≡ RunLost) ↔ IsUnknown rescue.old.found (id_number id) }
+    // 1 is told only where the disk's count of failures rose, or stood at its end.
+    ensures cause { result ≡ Ended (Unread Refusal.DeviceFault) → Rises (D.failure_count rescue.old.disk) (D.failure_count rescue.new.disk) }
     ensures same { rescue.new.found ≡ rescue.old.found }
     ensures disk { OnlyReads D.PageDisk rescue.old.disk rescue.new.disk }
 {
@@ -144,7 +144,7 @@ pub fn explain_got<R: Eprint>(rt: &R, got: Got, known: &Known, style: Style) -> 
         Got::Ended(outcome) => explain(rt, outcome, known, style),
         Got::RunLost => {
             tell_reason(rt, &reason_of_run(), style);
-            cs_status::DAMAGED
+            cs_words::DAMAGED
         }
     }
 }

@@ -1,26 +1,25 @@
 //! The command `export` over the frames of a device alone.
-ghost use Rattle.std.specs.Prelude.{◌≡◌, ◌≢◌, ◌⊎◌, ◌+◌, ◌*◌, ◌<◌, ◌≤◌, ℕ, Err, IfErr, IfOk, List, [], None, Some, true, false};
+ghost use Rattle.std.specs.Prelude.{◌≡◌, ◌≢◌, ◌⊎◌, ◌+◌, ◌*◌, ◌<◌, ◌≤◌, Err, IfErr, IfOk, List, [], None, Some, true, false};
 ghost use Rattle.std.specs.Io.KnownBytes.{Appends};
 ghost use Rattle.std.specs.List.{AllByRecursion, AllZip, list_all};
 ghost use Rattle.cs_chunk.specs.Reads.{IsCaused};
 ghost use Rattle.cs_disk.specs.Disk.{seen};
 ghost use Rattle.cs_disk.specs.Reads.{OnlyReads};
-ghost use Rattle.cs_pair.specs.Stores.{dimensions_on};
+ghost use Rattle.cs_mount.specs.StorePairs.{dimensions_on};
 ghost use Rattle.cs_salvage.specs.Missing.{AreMissing};
 ghost use Rattle.cs_salvage.specs.Shards.{AreNewest};
-ghost use Rattle.cs_tools.specs.Exports.{IsScript, Shard, is_whole, piece_lines, shard_line};
-ghost use Rattle.cs_tools.specs.Salvages.{AreToldOf, IsMeantBy, IsSalvaged, IsToldOf, MeansSalvage, Salvages, Stands};
+ghost use Rattle.cs_tools.specs.Exports.{Shard, is_whole, piece_lines, shard_line};
+ghost use Rattle.cs_tools.specs.Salvages.{AreToldOf, IsMeantBy, IsMeantSalvage, IsSalvaged, IsToldOf, IsWrittenOut, MeansSalvage, Salvages, Stands};
 ghost use Rattle.cs_tools.specs.declared.outcomes.Outcome.TheVariants.{Damaged, Done, Failed};
 
 use crate::exports::{LINES, print_put, print_remark};
 use crate::outcomes::Outcome;
-use cs_chunk::refusal_of_disk;
-use cs_deps::Refusal;
-use cs_disk::PageDisk;
+use cs_disk::{PageDisk, refusal_of_disk};
 use cs_frame::Geometry;
-use cs_pair::find_geometry;
+use cs_inspect::Progress;
+use cs_mount::find_geometry;
+use cs_refusal::Refusal;
 use cs_salvage::{Missing, Part, WholeShard, find_parts, missing_puts, newest_whole, read_whole};
-use cs_scrub::Progress;
 use std::alloc::{AllocError, Global};
 use std::io;
 use std::io::Write;
@@ -122,10 +121,8 @@ fn print_shards<D: PageDisk, P: Progress, W: Write>(
 ) -> io::Result<bool>
     requires { 2 + found.now.geometry.extents * found.now.geometry.pages ≤ D.page_count disk.old }
     ensures script { D.honest disk.old → AllByRecursion (Stands found.now.geometry (seen (D.state disk.old))) found.now.shards.items
-        → IfOk result (λ whole. (shards : List Shard) × AreToldOf found.now.geometry (seen (D.state disk.old)) (D.failure_count disk.old) (D.failure_count disk.new) found.now.shards.items shards
-        × (whole ≡ list_all is_whole shards) × ((text : List ℕ) × IsScript shards text × Appends (W.contents writer.old) (W.contents writer.new) text)) }
-    ensures meant { IfOk result (λ whole. (shards : List Shard) × AllZip (IsMeantBy found.now.geometry) found.now.shards.items shards × (whole ≡ list_all is_whole shards)
-        × ((text : List ℕ) × IsScript shards text × Appends (W.contents writer.old) (W.contents writer.new) text)) }
+        → IfOk result (IsWrittenOut (seen (D.state disk.old)) found.now (D.failure_count disk.old) (D.failure_count disk.new) (W.contents writer.old) (W.contents writer.new)) }
+    ensures meant { IfOk result (IsMeantSalvage found.now (W.contents writer.old) (W.contents writer.new)) }
     ensures disk { OnlyReads D.PageDisk disk.old disk.new }
 {
     let mut whole = true;

@@ -3,13 +3,12 @@ ghost use Rattle.std.specs.Prelude.{◌≡◌, ◌⊎◌, ◌<◌, ◌≤◌, Er
 ghost use Rattle.cs_chunk.specs.Reads.{IsCaused};
 ghost use Rattle.cs_disk.specs.Disk.{seen};
 ghost use Rattle.cs_disk.specs.Reads.{OnlyReads};
-ghost use Rattle.cs_pair.specs.Stores.{dimensions_on};
+ghost use Rattle.cs_mount.specs.StorePairs.{dimensions_on};
 ghost use Rattle.cs_salvage.specs.Greatest.{IsOfAFrame, IsScanOf};
 
-use cs_chunk::refusal_of_disk;
-use cs_deps::Refusal;
-use cs_disk::PageDisk;
-use cs_pair::find_geometry;
+use cs_disk::{PageDisk, refusal_of_disk};
+use cs_mount::find_geometry;
+use cs_refusal::Refusal;
 use cs_salvage::{Patience, Scanned, scan_commands};
 use std::alloc::Global;
 

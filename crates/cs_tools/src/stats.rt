@@ -3,7 +3,7 @@ ghost use Rattle.std.specs.Prelude.{◌≡◌, ◌⊎◌, ◌↔◌, ◌<◌, Is
 ghost use Rattle.std.specs.Io.KnownBytes.{Appends};
 ghost use Rattle.cs_disk.specs.Reads.{OnlyReads};
 ghost use Rattle.cs_extent.specs.State.{shape};
-ghost use Rattle.cs_model.specs.Device.{Shape};
+ghost use Rattle.law_machine.specs.Device.{Shape};
 ghost use Rattle.cs_tools.specs.Stats.{BeginsWith, GoesOn, geometry_text, number_text};
 ghost use Rattle.cs_tools.specs.declared.outcomes.Outcome.TheVariants.{Done, Failed, Refused};
 ghost use Rattle.cs_tools.specs.declared.outputs.Style.TheVariants.{Json, Text};
@@ -11,10 +11,10 @@ ghost use Rattle.cs_tools.specs.declared.outputs.Style.TheVariants.{Json, Text};
 use crate::outcomes::Outcome;
 use crate::outputs::Style;
 use cs_core::Core;
-use cs_deps::Refusal;
 use cs_disk::PageDisk;
 use cs_frame::Geometry;
-use cs_survey::{ExtentUse, Quota, RunUse, Stats};
+use cs_inspect::{ExtentUse, Quota, RunUse, Stats};
+use cs_refusal::Refusal;
 use std::alloc::Global;
 use std::io;
 use std::io::Write;
@@ -78,7 +78,7 @@ pub fn stat<D: PageDisk, W: Write>(
         events: core.history().len(),
         limit: core.limit(),
         quota: Quota::of(core.extents()),
-        by_names: geometry.format() < 3,
+        by_names: !geometry.format().has_marks(),
     };
     match Stats::of(alloc, core) {
         Ok(stats) => report(geometry, kept, &stats, style, writer),
@@ -152,7 +152,7 @@ fn print_geometry<W: Write>(writer: &mut W, geometry: Geometry) -> io::Result<()
     let extents = u64::from(geometry.extents());
     let pages = u64::from(geometry.pages());
     let sections = u64::from(geometry.sections());
-    let format = u64::from(geometry.format());
+    let format = u64::from(geometry.format().number());
     print_number(writer, "geometry extents ", extents)?;
     print_number(writer, " pages ", pages)?;
     print_number(writer, " sections ", sections)?;
@@ -361,7 +361,7 @@ fn print_geometry_members<W: Write>(writer: &mut W, geometry: Geometry) -> io::R
     let extents = u64::from(geometry.extents());
     let pages = u64::from(geometry.pages());
     let sections = u64::from(geometry.sections());
-    let format = u64::from(geometry.format());
+    let format = u64::from(geometry.format().number());
     print_number(writer, "{\"extents\":", extents)?;
     print_number(writer, ",\"pages\":", pages)?;
     print_number(writer, ",\"sections\":", sections)?;

@@ -1,7 +1,7 @@
 //! What is told on standard error of how a command ended.
 ghost use Rattle.std.specs.Prelude.{◌≡◌, ◌≤◌, IfSome, OnOk};
 ghost use Rattle.std.specs.Io.KnownBytes.{Appends};
-ghost use Rattle.cs_deps.specs.Refusals.{name_of, number_of};
+ghost use Rattle.cs_refusal.specs.Refusals.{name_of, number_of};
 ghost use Rattle.cs_tools.specs.Outcomes.{refusal_in, status_of};
 ghost use Rattle.cs_tools.specs.Stats.{BeginsWith, GoesOn};
 ghost use Rattle.cs_tools.specs.Tellings.{head_text};
@@ -10,8 +10,8 @@ use crate::advices::{Todo, advice, advice_of_system, meaning, system_text};
 use crate::knowns::Known;
 use crate::outcomes::Outcome;
 use crate::outputs::Style;
-use cs_deps::Refusal;
 use cs_disk::SystemFault;
+use cs_refusal::Refusal;
 use std::io;
 use std::io::Write;
 

@@ -7,7 +7,7 @@ use Rattle.cs_frame.specs.Formats.{formats_of}
 use Rattle.cs_frame.specs.Frames.{spelled_frame}
 use Rattle.cs_frame.specs.Heads.{head_in}
 use Rattle.cs_frame.specs.Identifiers.{id_number}
-use Rattle.cs_model.specs.Events.{with_heads}
+use Rattle.law_machine.specs.Events.{with_heads}
 use Rattle.cs_chunk.proofs.chunks.encode_chunks.Goals as goal
 
 pub loop-number-init : goal.loop-number-init

@@ -5,7 +5,7 @@ use Rattle.cs_extent.specs.State.{shape}
 use Rattle.cs_frame.specs.Formats.{formats_of}
 use Rattle.cs_frame.specs.Frames.{spelled_frame}
 use Rattle.cs_frame.specs.Identifiers.{id_number}
-use Rattle.cs_model.specs.Events.{with_heads}
+use Rattle.law_machine.specs.Events.{with_heads}
 use Rattle.cs_chunk.proofs.chunks.encode_chunks.Given as goal
 
 abbrev pub invariant-loop-number : goal.invariant-loop-number

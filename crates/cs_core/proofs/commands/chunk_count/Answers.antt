@@ -1,7 +1,7 @@
 use Rattle.std.proofs.Common.{◌≡◌, ◌∙◌, ◌*◌, ◌<◌, ℕ, ap, arith, subst, sym}
 use Rattle.cs_extent.specs.State.{shape}
-use Rattle.cs_model.specs.Geometry.{chunk_bytes_in}
-use Rattle.cs_refine.proofs.Shapes.{store_shape}
+use Rattle.law_machine.specs.Geometry.{chunk_bytes_in}
+use Rattle.law_refinement.proofs.Shapes.{store_shape}
 use Rattle.std.specs.Int.{div_ceil}
 use Rattle.cs_core.proofs.Loading.{no_heavier}
 use Rattle.cs_core.proofs.PieceCounts.{few_enough, piece_count}

@@ -1,12 +1,12 @@
 use Rattle.std.proofs.Common.{◌≡◌, ◌<◌, ℕ, List, arith, length, refl, subst, sym}
 use Rattle.cs_extent.specs.State.{shape}
 use Rattle.cs_index.specs.State.{State as IndexState, id_number, index_of}
-use Rattle.cs_model.proofs.Chunks.{chunked_there}
-use Rattle.cs_model.specs.Device.{Shape}
-use Rattle.cs_model.specs.Events.{Chunked}
-use Rattle.cs_model.specs.Geometry.{weigh_in}
-use Rattle.cs_model.specs.Index.{weight_with}
-use Rattle.cs_refine.proofs.Shapes.{store_shape}
+use Rattle.law_machine.proofs.Chunks.{chunked_there}
+use Rattle.law_machine.specs.Device.{Shape}
+use Rattle.law_machine.specs.Events.{Chunked}
+use Rattle.law_machine.specs.Geometry.{weigh_in}
+use Rattle.law_machine.specs.Index.{weight_with}
+use Rattle.law_refinement.proofs.Shapes.{store_shape}
 use Rattle.cs_core.specs.Stored.{IsTooHeavy}
 use Rattle.cs_core.proofs.commands.test_put.Goals as goal
 

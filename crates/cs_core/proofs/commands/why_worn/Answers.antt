@@ -1,11 +1,11 @@
 use Rattle.std.proofs.Common.{◌≡◌, ℕ, Bool, true, false, List, subst}
 use Rattle.std.specs.Prelude.{MatchBool}
-use Rattle.cs_deps.specs.declared.refusals.Refusal.TheVariants.{Full, WornOut}
+use Rattle.cs_refusal.specs.declared.refusals.Refusal.TheVariants.{Full, WornOut}
 use Rattle.cs_extent.specs.State.{State as ExtentsState, extents_of, shape}
 use Rattle.cs_frame.specs.Formats.{formats_of}
-use Rattle.cs_model.specs.Append.{chunk_frames, page_counts}
-use Rattle.cs_model.specs.Events.{ArePayloads}
-use Rattle.cs_model.specs.Extents.{FitsBy, ForPut}
+use Rattle.law_machine.specs.Append.{chunk_frames, page_counts}
+use Rattle.law_machine.specs.Events.{ArePayloads}
+use Rattle.law_machine.specs.Extents.{FitsBy, ForPut}
 use Rattle.cs_core.specs.Stored.{IsWhyWorn}
 use Rattle.cs_core.proofs.Loading.{failed, passed}
 use Rattle.cs_core.proofs.commands.why_worn.Goals as goal

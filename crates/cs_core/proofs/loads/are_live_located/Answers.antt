@@ -4,7 +4,7 @@ use Rattle.cs_index.proofs.Merged.{IsSmall}
 use Rattle.cs_index.proofs.Numbers.{small_number}
 use Rattle.cs_index.specs.Read.{Reading}
 use Rattle.cs_index.specs.State.{IsNext, id_number, index_of}
-use Rattle.cs_model.specs.Element.{Entry}
+use Rattle.law_machine.specs.Element.{Entry}
 use Rattle.cs_index.proofs.Living.{is_id}
 use Rattle.cs_core.proofs.Living.{AreLocatedTo, located_all, located_less, located_more}
 use Rattle.cs_core.proofs.loads.are_live_located.Goals as goal

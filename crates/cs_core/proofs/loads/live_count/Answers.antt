@@ -5,7 +5,7 @@ use Rattle.cs_index.proofs.Numbers.{small_number}
 use Rattle.cs_index.specs.Read.{Reading}
 use Rattle.cs_index.specs.Sorted.{IsMergedTo}
 use Rattle.cs_index.specs.State.{IsNext, id_number, index_of}
-use Rattle.cs_model.specs.Element.{Entry, Locator as Place}
+use Rattle.law_machine.specs.Element.{Entry, Locator as Place}
 use Rattle.cs_index.proofs.Living.{is_id}
 use Rattle.cs_core.proofs.Living.{all_read, counted_more, few_so_far}
 use Rattle.cs_core.proofs.loads.live_count.Goals as goal

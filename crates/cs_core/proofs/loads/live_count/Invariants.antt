@@ -2,7 +2,7 @@ use Rattle.std.proofs.Common.{◌≡◌, List, length}
 use Rattle.cs_index.proofs.Merged.{IsSmall, ids_left}
 use Rattle.cs_index.specs.Sorted.{IsMergedTo}
 use Rattle.cs_index.specs.State.{index_of}
-use Rattle.cs_model.specs.Element.{Entry}
+use Rattle.law_machine.specs.Element.{Entry}
 use Rattle.cs_core.proofs.loads.live_count.Given as goal
 
 abbrev pub invariant-loop-id : goal.invariant-loop-id

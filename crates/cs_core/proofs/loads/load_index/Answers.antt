@@ -1,8 +1,8 @@
 use Rattle.std.proofs.Common.{◌∙◌, ◌<◌, sym}
 use Rattle.cs_extent.specs.State.{shape}
-use Rattle.cs_image.specs.Reads.{AreLocated, AreVisibleLocated}
+use Rattle.law_refinement.specs.ImageReads.{AreLocated, AreVisibleLocated}
 use Rattle.cs_index.specs.State.{newest_first}
-use Rattle.cs_model.specs.Index.{entries_of, named_weight}
+use Rattle.law_machine.specs.Index.{entries_of, named_weight}
 use Rattle.cs_core.specs.Openings.{AreLocatedBy}
 use Rattle.cs_core.proofs.Readying.{hidden_gone, hidden_stand, located_visible, located_whole, ok_by, why_by}
 use Rattle.cs_core.proofs.loads.load_index.Goals as goal

@@ -1,14 +1,14 @@
 use Rattle.std.proofs.Common.{◌≡◌, ◌∙◌, ◌^◌, ◌<◌, ◌≤◌, ℕ, Err, Ok, ap, arith, inl, inr, map, subst, sym, ⊎_elim}
 use Rattle.std.specs.List.{AllByRecursion}
-use Rattle.cs_deps.specs.declared.refusals.Refusal.TheVariants.{NotAStore}
+use Rattle.cs_refusal.specs.declared.refusals.Refusal.TheVariants.{NotAStore}
 use Rattle.cs_frame.proofs.GeometryLaws.{bounds}
 use Rattle.cs_frame.specs.Locators.{KeepFormat}
 use Rattle.cs_frame.specs.Runs.{IsRun}
-use Rattle.cs_image.specs.Openings.{index_at}
+use Rattle.law_refinement.specs.Images.{index_at}
 use Rattle.cs_index.proofs.Weights.{most_few}
 use Rattle.cs_index.specs.State.{newest_first}
-use Rattle.cs_model.specs.Geometry.{most_weight_in, weigh_in}
-use Rattle.cs_model.specs.Index.{entries_of, named_weight}
+use Rattle.law_machine.specs.Geometry.{most_weight_in, weigh_in}
+use Rattle.law_machine.specs.Index.{entries_of, named_weight}
 use Rattle.cs_core.proofs.Loading.{no_heavier}
 use Rattle.cs_core.proofs.loads.load_runs.Goals as goal
 

@@ -1,8 +1,8 @@
 use Rattle.std.proofs.Common.{refl, subst, sym}
 use Rattle.cs_extent.specs.State.{IsWhole, State as ExtentsState}
-use Rattle.cs_image.specs.Openings.{index_at}
+use Rattle.law_refinement.specs.Images.{index_at}
 use Rattle.cs_index.specs.State.{newest_first}
-use Rattle.cs_model.specs.Geometry.{most_weight_in}
+use Rattle.law_machine.specs.Geometry.{most_weight_in}
 use Rattle.cs_core.specs.Openings.{AreExtentsOpened, AreLocatedBy}
 use Rattle.cs_core.specs.Stored.{IsKept}
 use Rattle.cs_core.proofs.Loading.{are_opened, is_loaded, kept_opened, live_in, loaded_as}

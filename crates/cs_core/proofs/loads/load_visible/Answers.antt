@@ -1,7 +1,7 @@
 use Rattle.std.proofs.Common.{◌<◌, inl, inr, ⊎_elim}
 use Rattle.cs_extent.specs.State.{shape}
 use Rattle.cs_index.specs.State.{newest_first}
-use Rattle.cs_model.specs.Index.{entries_of, named_weight}
+use Rattle.law_machine.specs.Index.{entries_of, named_weight}
 use Rattle.cs_core.proofs.Readying.{live_hidden, live_visible}
 use Rattle.cs_core.proofs.loads.load_visible.Goals as goal
 

@@ -1,6 +1,6 @@
 use Rattle.std.proofs.Common.{List, inl, inr, subst, ⊎_elim}
-use Rattle.cs_image.specs.Reads.{AreLocated}
-use Rattle.cs_index.specs.declared.runs.StoredRun.{StoredRun}
+use Rattle.law_refinement.specs.ImageReads.{AreLocated}
+use Rattle.cs_index.specs.declared.stored_runs.StoredRun.{StoredRun}
 use Rattle.cs_core.proofs.loads.load_whole.Goals as goal
 
 pub returns-in-Ok-clause-located : goal.returns-in-Ok-clause-located

@@ -1,8 +1,8 @@
 use Rattle.std.proofs.Common.{◌<◌, ◌∙◌, ap, arith, subst, sym}
 use Rattle.cs_extent.specs.State.{shape}
 use Rattle.cs_index.proofs.Newest.{all_get}
-use Rattle.cs_index.specs.declared.runs.StoredRun.{StoredRun}
-use Rattle.cs_model.specs.Device.{Shape}
+use Rattle.cs_index.specs.declared.stored_runs.StoredRun.{StoredRun}
+use Rattle.law_machine.specs.Device.{Shape}
 use Rattle.cs_core.proofs.Readying.{noted_all, noted_more}
 use Rattle.cs_core.proofs.loads.note_runs.Goals as goal
 

@@ -1,7 +1,7 @@
 use Rattle.std.proofs.Common.{◌≡◌, ◌||◌, take}
 use Rattle.cs_extent.specs.State.{extents_of, shape}
 use Rattle.cs_index.specs.State.{newest_first}
-use Rattle.cs_model.specs.Apart.{any_run_on}
+use Rattle.law_machine.specs.Apart.{any_run_on}
 use Rattle.cs_core.proofs.loads.note_runs.Given as goal
 
 abbrev pub invariant-loop-k : goal.invariant-loop-k

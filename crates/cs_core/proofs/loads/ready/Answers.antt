@@ -2,8 +2,8 @@ use Rattle.std.proofs.Common.{◌≡◌, ◌∙◌, ◌||◌, ◌<◌, List, sub
 use Rattle.std.specs.List.{AllByRecursion}
 use Rattle.cs_extent.specs.State.{extents_of, shape}
 use Rattle.cs_index.proofs.Newest.{all_oldest}
-use Rattle.cs_model.specs.Apart.{any_run_on}
-use Rattle.cs_model.specs.Element.{Run}
+use Rattle.law_machine.specs.Apart.{any_run_on}
+use Rattle.law_machine.specs.Element.{Run}
 use Rattle.cs_core.proofs.Readying.{are_noted, opened_apart, opened_together}
 use Rattle.cs_core.proofs.loads.ready.Goals as goal
 

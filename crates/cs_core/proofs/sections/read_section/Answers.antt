@@ -1,6 +1,6 @@
 use Rattle.std.proofs.Common.{◌⊎◌, ℕ, subst}
 use Rattle.cs_chunk.specs.Reads.{IsNoAnswer}
-use Rattle.cs_deps.specs.declared.refusals.Refusal.TheVariants.{NotAStore}
+use Rattle.cs_refusal.specs.declared.refusals.Refusal.TheVariants.{NotAStore}
 use Rattle.cs_disk.specs.Disk.{page, seen}
 use Rattle.cs_frame.specs.Superblocks.{SpellsSuperblock}
 use Rattle.cs_core.specs.Openings.{IsWhyNoSection}

@@ -9,7 +9,7 @@ pub returns-clause-format : goal.returns-clause-format
 returns-clause-format c =
     let at : slice_get c.args.sections.now 0 ≡ Some c.index-sections-0.result = slice_get_read c.args.sections.now (length c.args.sections.now) 0 c.index-sections-0.result refl c.requires.some c.index-sections-0.is in
     let first = c.requires.each 0 c.index-sections-0.result at in
-    c.in-Ok.ensures.format ∙ c.from-format.ensures ∙ first.of_format
+    c.in-Ok.ensures.format ∙ c.from-format.ensures ∙ c.number.ensures.number ∙ first.of_format
 
 pub returns-clause-extents : goal.returns-clause-extents
 returns-clause-extents c =
@@ -28,7 +28,7 @@ unreachable-requires c =
     let at : slice_get c.args.sections.now 0 ≡ Some c.index-sections-0.result = slice_get_read c.args.sections.now (length c.args.sections.now) 0 c.index-sections-0.result refl c.requires.some c.index-sections-0.is in
     let geometry = (c.requires.each 0 c.index-sections-0.result at).is.geometry in
     let same : IsGeometry c.from-format.result c.from-extents.result c.from-pages.result c.from-sections.result =
-    subst (λ (n : ℕ). IsGeometry n c.from-extents.result c.from-pages.result c.from-sections.result) (sym c.from-format.ensures)
+    subst (λ (n : ℕ). IsGeometry n c.from-extents.result c.from-pages.result c.from-sections.result) (sym (c.from-format.ensures ∙ c.number.ensures.number))
     (subst (λ (n : ℕ). IsGeometry c.index-sections-0.result.format n c.from-pages.result c.from-sections.result) (sym c.from-extents.ensures)
     (subst (λ (n : ℕ). IsGeometry c.index-sections-0.result.format c.index-sections-0.result.extent_count n c.from-sections.result) (sym c.from-pages.ensures)
     (subst (λ (n : ℕ). IsGeometry c.index-sections-0.result.format c.index-sections-0.result.extent_count c.index-sections-0.result.pages n) (sym c.from-sections.ensures) geometry))) in

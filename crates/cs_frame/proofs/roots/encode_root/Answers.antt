@@ -8,7 +8,7 @@ use Rattle.std.proofs.Common.{subst, List}
 use Rattle.cs_frame.specs.declared.locators.Locator.{Locator}
 use Rattle.cs_frame.proofs.Fields.{wrote}
 use Rattle.cs_frame.proofs.RootLaws.{fits_page, length-root_fields}
-use Rattle.cs_model.specs.Geometry.{marks_in}
+use Rattle.law_machine.specs.Geometry.{marks_in}
 use Rattle.cs_frame.proofs.roots.encode_root.Goals as goal
 
 pub seal-requires : goal.seal-requires

@@ -3,7 +3,7 @@ use Rattle.cs_frame.specs.declared.locators.Locator.{Locator}
 use Rattle.cs_frame.specs.Formats.{place_of}
 use Rattle.cs_index.specs.Held.{one_on}
 use Rattle.cs_index.proofs.Tallies.{room_for_one, places_more}
-use Rattle.cs_model.specs.Tally.{places_on}
+use Rattle.law_machine.specs.Tally.{places_on}
 use Rattle.cs_index.proofs.counts.add_places.Goals as goal
 
 -- a place that stands for none

@@ -1,7 +1,7 @@
 use Rattle.std.proofs.Common.{◌≡◌, ◌+◌, ◌<◌, ℕ, length, map, take}
 use Rattle.std.specs.Prelude.{slice_index}
 use Rattle.cs_frame.specs.Formats.{place_of}
-use Rattle.cs_model.specs.Tally.{places_on}
+use Rattle.law_machine.specs.Tally.{places_on}
 use Rattle.cs_index.proofs.counts.add_places.Given as goal
 
 abbrev pub invariant-loop-k : goal.invariant-loop-k

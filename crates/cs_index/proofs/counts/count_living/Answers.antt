@@ -1,8 +1,8 @@
 use Rattle.std.proofs.Common.{◌≡◌, ◌+◌, ◌≤◌, ◌∙◌, ◌++◌, [], arith, ap, length, length-append, map, refl, subst, sym, List, Option, None, Some, ℕ, true}
 use Rattle.std.proofs.lemmas.List.{length-map}
 use Rattle.cs_frame.specs.Formats.{place_of}
-use Rattle.cs_model.specs.Element.{Entry, Locator as Place}
-use Rattle.cs_model.specs.Index.{entries_of, names}
+use Rattle.law_machine.specs.Element.{Entry, Locator as Place}
+use Rattle.law_machine.specs.Index.{entries_of, names}
 use Rattle.cs_index.specs.Read.{Reading}
 use Rattle.cs_index.specs.Sorted.{IsMergedTo, live_entry}
 use Rattle.cs_index.specs.State.{IsNext, id_number, named_entry, newest_first}

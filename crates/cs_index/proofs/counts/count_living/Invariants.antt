@@ -1,7 +1,7 @@
 use Rattle.std.proofs.Common.{◌≡◌, ◌++◌, List, length, map}
 use Rattle.std.specs.List.{AllByRecursion}
-use Rattle.cs_model.specs.Element.{Entry}
-use Rattle.cs_model.specs.Index.{entries_of}
+use Rattle.law_machine.specs.Element.{Entry}
+use Rattle.law_machine.specs.Index.{entries_of}
 use Rattle.cs_index.specs.Held.{AreCounts}
 use Rattle.cs_index.specs.Sorted.{IsMergedTo}
 use Rattle.cs_index.specs.State.{IsShort, named_entry, newest_first}

@@ -1,9 +1,9 @@
 use Rattle.std.proofs.Common.{◌≡◌, ◌+◌, ◌≤◌, ◌∙◌, ◌++◌, [], ◌∷◌, arith, ap, false, length, length-append, map, refl, subst, sym, List, Option, None, Some, ℕ}
 use Rattle.std.proofs.lemmas.List.{length-map}
 use Rattle.cs_frame.specs.Formats.{place_of}
-use Rattle.cs_model.specs.Element.{Entry}
-use Rattle.cs_model.specs.Geometry.{weigh_in}
-use Rattle.cs_model.specs.Index.{entries_of, names}
+use Rattle.law_machine.specs.Element.{Entry}
+use Rattle.law_machine.specs.Geometry.{weigh_in}
+use Rattle.law_machine.specs.Index.{entries_of, names}
 use Rattle.cs_index.specs.Read.{Reading}
 use Rattle.cs_index.specs.Sorted.{IsRunTo}
 use Rattle.cs_index.specs.State.{IsNext, id_number, named_entry, newest_first}

@@ -1,7 +1,7 @@
 use Rattle.std.proofs.Common.{◌≡◌, ◌*◌, ◌≤◌, ◌++◌, false, List, length, map}
-use Rattle.cs_model.specs.Element.{Entry}
-use Rattle.cs_model.specs.Geometry.{weigh_in}
-use Rattle.cs_model.specs.Index.{entries_of, run_weight}
+use Rattle.law_machine.specs.Element.{Entry}
+use Rattle.law_machine.specs.Geometry.{weigh_in}
+use Rattle.law_machine.specs.Index.{entries_of, run_weight}
 use Rattle.cs_index.specs.Sorted.{IsRunTo}
 use Rattle.cs_index.specs.State.{named_entry, newest_first}
 use Rattle.cs_index.proofs.Merged.{IsSmall, ids_left}

@@ -1,5 +1,5 @@
 use Rattle.std.proofs.Common.{◌∙◌, sym}
-use Rattle.cs_model.specs.Index.{entries_of}
+use Rattle.law_machine.specs.Index.{entries_of}
 use Rattle.cs_index.specs.State.{id_number, named_entry, newest_first}
 use Rattle.std.proofs.Common.{map}
 use Rattle.cs_frame.specs.Formats.{place_of}

@@ -1,8 +1,8 @@
 use Rattle.std.proofs.Common.{◌≡◌, ◌∙◌, ◌++◌, arith, length, map}
 use Rattle.std.proofs.lemmas.List.{length-map}
 use Rattle.cs_frame.specs.Formats.{place_of}
-use Rattle.cs_model.specs.Element.{Entry}
-use Rattle.cs_model.specs.Index.{entries_of}
+use Rattle.law_machine.specs.Element.{Entry}
+use Rattle.law_machine.specs.Index.{entries_of}
 use Rattle.cs_index.specs.State.{id_number, named_entry, newest_first}
 use Rattle.cs_index.proofs.Tallies.{counts_with, recount_room, short_index}
 use Rattle.cs_index.proofs.counts.recount.Goals as goal

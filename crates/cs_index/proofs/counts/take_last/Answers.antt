@@ -1,8 +1,8 @@
 use Rattle.std.proofs.Common.{◌≡◌, ◌++◌, [], ap, arith, map, sym, List}
 use Rattle.cs_frame.specs.Formats.{place_of}
-use Rattle.cs_model.specs.Element.{Entry}
-use Rattle.cs_model.specs.Index.{entries_of, live, live_at}
-use Rattle.cs_model.specs.Tally.{places_on}
+use Rattle.law_machine.specs.Element.{Entry}
+use Rattle.law_machine.specs.Index.{entries_of, live, live_at}
+use Rattle.law_machine.specs.Tally.{places_on}
 use Rattle.cs_index.specs.State.{id_number, named_entry, newest_first}
 use Rattle.cs_index.proofs.Tallies.{lives_at_least}
 use Rattle.cs_index.proofs.counts.take_last.Goals as goal

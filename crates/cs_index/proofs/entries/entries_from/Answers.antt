@@ -1,7 +1,7 @@
 use Rattle.std.proofs.Common.{◌≡◌, ℕ, zero, suc, List, [], ◌∷◌, None, arith, get_or, map, refl, subst, sym}
 use Rattle.std.specs.List.{AllByRecursion}
 use Rattle.std.specs.Prelude.{replicate}
-use Rattle.cs_model.specs.Element.{Entry}
+use Rattle.law_machine.specs.Element.{Entry}
 use Rattle.cs_index.specs.Sorted.{IsStart}
 use Rattle.cs_index.specs.State.{IsAfter, named_entry}
 use Rattle.cs_index.proofs.entries.entries_from.Goals as goal

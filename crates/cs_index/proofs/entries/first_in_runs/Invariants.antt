@@ -1,6 +1,6 @@
 use Rattle.std.proofs.Common.{ℕ, Option, take}
 use Rattle.std.specs.Prelude.{option_copied, option_map}
-use Rattle.cs_model.specs.Index.{entries_of}
+use Rattle.law_machine.specs.Index.{entries_of}
 use Rattle.cs_index.specs.Read.{AreStarts}
 use Rattle.cs_index.specs.State.{IsNext, named_entry, newest_first}
 use Rattle.cs_index.proofs.entries.first_in_runs.Given as goal

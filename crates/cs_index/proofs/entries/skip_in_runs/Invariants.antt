@@ -1,6 +1,6 @@
 use Rattle.std.proofs.Common.{◌≡◌, ◌<◌, ◌≤◌, ℕ, Some, length, map}
 use Rattle.std.specs.Prelude.{slice_get, slice_index}
-use Rattle.cs_index.specs.declared.runs.StoredRun.{StoredRun}
+use Rattle.cs_index.specs.declared.stored_runs.StoredRun.{StoredRun}
 use Rattle.cs_index.specs.Sorted.{IsPlace, IsStart}
 use Rattle.cs_index.specs.State.{id_number, named_entry}
 use Rattle.cs_index.proofs.entries.skip_in_runs.Given as goal

@@ -1,6 +1,6 @@
 use Rattle.std.proofs.Common.{◌≡◌, ◌∙◌, ◌<◌, ap, arith, get_or, length, refl}
 use Rattle.std.proofs.lemmas.List.{length-set}
-use Rattle.cs_index.specs.declared.runs.StoredRun.{StoredRun}
+use Rattle.cs_index.specs.declared.stored_runs.StoredRun.{StoredRun}
 use Rattle.cs_index.specs.State.{id_number}
 use Rattle.cs_index.proofs.Merging.{moved_on}
 use Rattle.cs_index.proofs.Newest.{ascending_at}

@@ -1,7 +1,7 @@
 use Rattle.std.proofs.Common.{◌<◌, List, arith, length, map, refl, slice_index_or, subst, sym}
 use Rattle.cs_frame.specs.Formats.{place_of}
-use Rattle.cs_model.specs.Element.{Entry}
-use Rattle.cs_model.specs.Index.{FirstLive, NothingLive}
+use Rattle.law_machine.specs.Element.{Entry}
+use Rattle.law_machine.specs.Index.{FirstLive, NothingLive}
 use Rattle.cs_index.specs.State.{id_number}
 use Rattle.cs_index.proofs.Merged.{IsSmall}
 use Rattle.cs_index.proofs.Numbers.{small_number}

@@ -1,7 +1,7 @@
 use Rattle.std.proofs.Common.{◌<◌, List, None, Some, Option, ℕ, arith, length, map, refl, subst, sym}
 use Rattle.std.specs.Prelude.{option_map}
 use Rattle.cs_frame.specs.Formats.{place_of}
-use Rattle.cs_model.specs.Element.{Entry}
+use Rattle.law_machine.specs.Element.{Entry}
 use Rattle.cs_index.specs.State.{IsAfter, IsNext, id_number}
 use Rattle.cs_index.proofs.Merged.{IsSmall}
 use Rattle.cs_index.proofs.Numbers.{small_number}

@@ -1,8 +1,8 @@
 use Rattle.std.proofs.Common.{◌≡◌, ◌∙◌, ◌++◌, arith, ap, map, subst, sym, Bool, List, Option, None, Some, ℕ}
 use Rattle.std.specs.List.{AllByRecursion}
 use Rattle.std.proofs.lemmas.List.{length-map}
-use Rattle.cs_model.specs.Element.{Entry, Locator as Place}
-use Rattle.cs_model.specs.Index.{entries_of}
+use Rattle.law_machine.specs.Element.{Entry, Locator as Place}
+use Rattle.law_machine.specs.Index.{entries_of}
 use Rattle.cs_index.specs.Read.{Reading}
 use Rattle.cs_index.specs.Sorted.{IsRunTo, kept_entry}
 use Rattle.cs_frame.specs.Formats.{place_of}

@@ -1,6 +1,6 @@
 use Rattle.std.proofs.Common.{◌≡◌, ◌++◌, map}
 use Rattle.std.specs.List.{AllByRecursion}
-use Rattle.cs_model.specs.Index.{entries_of}
+use Rattle.law_machine.specs.Index.{entries_of}
 use Rattle.cs_index.specs.Sorted.{IsRunTo}
 use Rattle.cs_index.specs.State.{IsId, IsShort, named_entry, newest_first}
 use Rattle.cs_index.proofs.Merged.{IsSmall, ids_left}

@@ -1,7 +1,7 @@
 use Rattle.std.proofs.Common.{arith}
 use Rattle.cs_extent.proofs.Placing.{below_next}
 use Rattle.cs_extent.specs.State.{extents_of, shape}
-use Rattle.cs_model.specs.Extents.{ForRun, Takes}
+use Rattle.law_machine.specs.Extents.{ForRun, Takes}
 use Rattle.cs_index.proofs.places.first_taking_run.Goals as goal
 
 pub loop-e-preserved : goal.loop-e-preserved

@@ -1,6 +1,6 @@
 use Rattle.std.proofs.Common.{ℕ, ◌<◌}
 use Rattle.cs_extent.specs.State.{extents_of, shape}
-use Rattle.cs_model.specs.Extents.{ForRun, Takes}
+use Rattle.law_machine.specs.Extents.{ForRun, Takes}
 use Rattle.cs_index.proofs.places.first_taking_run.Given as goal
 
 abbrev pub invariant-loop-e : goal.invariant-loop-e

@@ -1,7 +1,7 @@
 use Rattle.std.proofs.Common.{arith, length, map, sym, ◌∙◌, ℕ}
 use Rattle.std.proofs.lemmas.Bool.{eqb-false}
 use Rattle.cs_extent.specs.State.{extents_of, shape}
-use Rattle.cs_model.specs.Extents.{ForRun, GoesApart}
+use Rattle.law_machine.specs.Extents.{ForRun, GoesApart}
 use Rattle.cs_index.specs.Staged.{run_frame}
 use Rattle.cs_index.specs.State.{named_entry}
 use Rattle.cs_index.proofs.Chosen.{goes_where}

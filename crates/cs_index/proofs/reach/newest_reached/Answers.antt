@@ -1,8 +1,8 @@
 use Rattle.std.proofs.Common.{◌≡◌, ◌+◌, ◌-◌, ◌<◌, ◌^◌, ◌∙◌, ap, arith, get_or, length, take, List, ℕ}
 use Rattle.std.proofs.Math.Seq.{take-length}
-use Rattle.cs_index.specs.declared.runs.StoredRun.{StoredRun}
+use Rattle.cs_index.specs.declared.stored_runs.StoredRun.{StoredRun}
 use Rattle.cs_index.specs.State.{newest_first}
-use Rattle.cs_model.specs.Merges.{reaching, sizes}
+use Rattle.law_machine.specs.Merges.{reaching, sizes}
 use Rattle.cs_index.proofs.Newest.{all_get}
 use Rattle.cs_index.proofs.Sizes.{reaches_all, reaches_no_further, reaches_on}
 use Rattle.cs_index.proofs.reach.newest_reached.Goals as goal

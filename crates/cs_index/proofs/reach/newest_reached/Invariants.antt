@@ -1,7 +1,7 @@
 use Rattle.std.proofs.Common.{◌≡◌, ◌+◌, ◌-◌, ◌*◌, ◌^◌, ◌≤◌, length, take}
 use Rattle.cs_index.specs.State.{newest_first}
-use Rattle.cs_model.specs.Device.{Shape}
-use Rattle.cs_model.specs.Merges.{reaching, sizes}
+use Rattle.law_machine.specs.Device.{Shape}
+use Rattle.law_machine.specs.Merges.{reaching, sizes}
 use Rattle.cs_index.proofs.reach.newest_reached.Given as goal
 
 abbrev pub invariant-loop-k : goal.invariant-loop-k

@@ -9,7 +9,7 @@ use Rattle.cs_extent.specs.Worn.{IsFrameWornBy}
 use Rattle.cs_frame.proofs.RootLaws.{most_runs}
 use Rattle.cs_frame.specs.declared.locators.Locator.{Locator}
 use Rattle.cs_frame.specs.Locators.{KeepFormat}
-use Rattle.cs_model.specs.Extents.{GoesApart}
+use Rattle.law_machine.specs.Extents.{GoesApart}
 use Rattle.cs_index.specs.Staged.{IsExact, IsRootWorn, run_frame}
 use Rattle.cs_index.proofs.Chosen.{written_apart}
 use Rattle.cs_index.proofs.Exact.{why_same}

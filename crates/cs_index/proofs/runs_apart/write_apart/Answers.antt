@@ -2,7 +2,7 @@ use Rattle.std.proofs.Common.{◌≡◌, ◌∙◌, [], ◌∷◌, ◌++◌, Lis
 use Rattle.cs_extent.specs.Purposes.{reason_of}
 use Rattle.cs_extent.specs.State.{extents_of, shape}
 use Rattle.cs_extent.specs.Worn.{IsFrameWornBy}
-use Rattle.cs_model.specs.Extents.{GoesApart}
+use Rattle.law_machine.specs.Extents.{GoesApart}
 use Rattle.cs_frame.specs.declared.locators.Locator.{Locator}
 use Rattle.cs_frame.specs.Geometries.{IsKnown}
 use Rattle.cs_frame.specs.Locators.{KeepFormat}

@@ -3,7 +3,7 @@ use Rattle.std.proofs.lemmas.Bool.{false≢true}
 use Rattle.cs_extent.specs.Purposes.{reason_of}
 use Rattle.cs_extent.specs.State.{extents_of, shape}
 use Rattle.cs_frame.proofs.RootLaws.{most_runs}
-use Rattle.cs_model.specs.Extents.{NoPlace, Placed}
+use Rattle.law_machine.specs.Extents.{NoPlace, Placed}
 use Rattle.cs_index.specs.Staged.{run_frame}
 use Rattle.cs_index.specs.State.{named_entry}
 use Rattle.cs_frame.proofs.GeometryLaws.{bounds}

@@ -1,7 +1,7 @@
 use Rattle.std.proofs.Common.{MatchBool, subst, ℕ}
 use Rattle.cs_extent.specs.Purposes.{reason_of}
 use Rattle.cs_extent.specs.State.{extents_of, shape}
-use Rattle.cs_model.specs.Extents.{NoPlace, Placed}
+use Rattle.law_machine.specs.Extents.{NoPlace, Placed}
 use Rattle.cs_index.proofs.stagings.run_fits.Goals as goal
 
 pub returns : goal.returns

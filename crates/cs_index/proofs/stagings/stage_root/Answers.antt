@@ -1,6 +1,6 @@
 use Rattle.std.proofs.Common.{◌≡◌, ◌∙◌, ◌⊎◌, ◌+◌, ap, subst, Err, ⊎_elim, ℕ}
-use Rattle.cs_deps.specs.declared.refusals.Refusal.{Refusal}
-use Rattle.cs_deps.specs.declared.refusals.Refusal.TheVariants.{UnknownNeed, OwnFamily, WornOut, OutOfMemory}
+use Rattle.cs_refusal.specs.declared.refusals.Refusal.{Refusal}
+use Rattle.cs_refusal.specs.declared.refusals.Refusal.TheVariants.{UnknownNeed, OwnFamily, WornOut, OutOfMemory}
 use Rattle.cs_frame.specs.Roots.{SpellsRoot}
 use Rattle.cs_index.proofs.Rooted.{not_own_family, root_families, root_number, root_rises, within_needs}
 use Rattle.cs_index.proofs.stagings.stage_root.Goals as goal

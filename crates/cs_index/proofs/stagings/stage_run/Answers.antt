@@ -1,6 +1,6 @@
 use Rattle.std.proofs.Common.{◌≡◌, ◌∙◌, ap, inl, length, map, subst, sym, ℕ, List, MatchResult}
 use Rattle.std.proofs.lemmas.Result.{IfOk-weaker, err_from_is_err_and}
-use Rattle.cs_deps.specs.declared.refusals.Refusal.TheVariants.{WornOut}
+use Rattle.cs_refusal.specs.declared.refusals.Refusal.TheVariants.{WornOut}
 use Rattle.cs_deps.specs.Staging.{Staging}
 use Rattle.cs_deps.specs.State.{State as GraphState}
 use Rattle.cs_extent.specs.Purposes.{reason_of}
@@ -8,7 +8,7 @@ use Rattle.cs_extent.specs.State.{extents_of, shape}
 use Rattle.cs_extent.specs.Worn.{IsFrameWorn}
 use Rattle.cs_frame.specs.declared.locators.Locator.{Locator}
 use Rattle.cs_frame.specs.Locators.{KeepFormat}
-use Rattle.cs_model.specs.Extents.{NoPlace, Placed}
+use Rattle.law_machine.specs.Extents.{NoPlace, Placed}
 use Rattle.cs_index.specs.Staged.{IsRootWorn, run_frame}
 use Rattle.cs_index.proofs.Exact.{why_same, written_why}
 use Rattle.cs_index.specs.State.{named_entry}

@@ -1,7 +1,7 @@
 use Rattle.std.proofs.Common.{◌≡◌, ◌∙◌, ◌<◌, Some, map, get_or, ap, sym, arith, length, List}
 use Rattle.std.proofs.lemmas.List.{length-map}
 use Rattle.cs_frame.specs.declared.locators.Locator.{Locator}
-use Rattle.cs_model.specs.Element.{Entry}
+use Rattle.law_machine.specs.Element.{Entry}
 use Rattle.cs_frame.specs.Formats.{place_of}
 use Rattle.cs_index.specs.State.{id_number, named_entry}
 use Rattle.cs_index.proofs.Sorted.{inside_at, lookup_found, lookup_missed, one_at, read_at}

@@ -1,7 +1,7 @@
 use Rattle.std.proofs.Common.{◌≡◌, ◌+◌, ◌-◌, ◌/◌, ◌<◌, ℕ, Some, arith, map, get_or, sym, ◌∙◌}
 use Rattle.std.specs.Prelude.{slice_get}
 use Rattle.std.proofs.lemmas.Bool.{ltb-true, ltb-false}
-use Rattle.cs_model.specs.Element.{Entry}
+use Rattle.law_machine.specs.Element.{Entry}
 use Rattle.cs_index.specs.State.{id_number, named_entry}
 use Rattle.cs_index.proofs.Sorted.{read_at, place_up, place_down}
 use Rattle.cs_index.proofs.tables.place.Goals as goal

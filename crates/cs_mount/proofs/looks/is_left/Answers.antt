@@ -3,8 +3,8 @@ use Rattle.std.specs.List.{list_any}
 use Rattle.cs_disk.proofs.OnlyRead.{reads_on}
 use Rattle.cs_disk.specs.Disk.{State, seen}
 use Rattle.cs_mount.specs.Looks.{is_whole}
-use Rattle.cs_pair.specs.Findings.{finding_in}
-use Rattle.cs_pair.specs.Stores.{store_version}
+use Rattle.cs_twin.specs.Findings.{finding_in}
+use Rattle.cs_mount.specs.StorePairs.{store_version}
 use Rattle.cs_mount.proofs.Looking.{pairs_left}
 use Rattle.cs_mount.proofs.looks.is_left.Goals as goal
 

@@ -1,5 +1,5 @@
 use Rattle.cs_disk.proofs.OnlyRead.{reads_on}
-use Rattle.cs_pair.specs.Stores.{store_version}
+use Rattle.cs_mount.specs.StorePairs.{store_version}
 use Rattle.cs_mount.proofs.Looking.{left_behind}
 use Rattle.cs_mount.proofs.looks.is_taken.Goals as goal
 

@@ -3,13 +3,13 @@ use Rattle.cs_core.specs.Started.{IsNewOn}
 use Rattle.cs_disk.specs.Disk.{State, flushed, seen}
 use Rattle.cs_disk.proofs.Images.{length-applied}
 use Rattle.cs_frame.specs.Geometries.{device_pages}
-use Rattle.cs_pair.specs.declared.pairs.Pair.{Pair}
-use Rattle.cs_pair.specs.declared.stores.StoreRules.{StoreRules}
-use Rattle.cs_pair.specs.Kept.{IsOfStore}
-use Rattle.cs_pair.specs.Paired.{state_shown}
-use Rattle.cs_pair.specs.Stores.{store_pairs, store_version}
-use Rattle.cs_pair.proofs.Blank.{new_shows}
-use Rattle.cs_pair.proofs.Mounting.{shown_behind}
+use Rattle.cs_twin.specs.declared.pairs.Pair.{Pair}
+use Rattle.cs_mount.specs.declared.store_pairs.StoreRules.{StoreRules}
+use Rattle.cs_mount.specs.OfStores.{IsOfStore}
+use Rattle.cs_twin.specs.Paired.{state_shown}
+use Rattle.cs_mount.specs.StorePairs.{store_pairs, store_version}
+use Rattle.cs_mount.proofs.Blank.{new_shows}
+use Rattle.cs_mount.proofs.Mounting.{shown_behind}
 use Rattle.cs_mount.specs.Looks.{IsTaken}
 use Rattle.cs_mount.proofs.Looking.{free, free_fits, never_occupied, no_fault_is_occupied}
 use Rattle.cs_mount.proofs.mounts.make_store.Goals as goal

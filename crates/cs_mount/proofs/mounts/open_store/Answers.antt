@@ -1,15 +1,15 @@
 use Rattle.std.proofs.Common.{ap, inr, subst, sym, ⊎_elim, ◌∙◌, ◌≡◌, ◌⊎◌}
-use Rattle.cs_chunk.specs.Reads.{IsNoAnswer}
+use Rattle.cs_core.specs.cs_chunk.Reads.{IsNoAnswer}
 use Rattle.cs_core.specs.Openings.{IsWhyNotOpened}
 use Rattle.cs_disk.specs.Disk.{Image, flushed, page, seen}
 use Rattle.cs_frame.specs.Formats.{formats_of}
 use Rattle.cs_frame.specs.Geometries.{section_size}
-use Rattle.cs_model.specs.Geometry.{shape_of}
-use Rattle.cs_model.specs.Recovery.{Recovers}
-use Rattle.cs_pair.specs.Paired.{left_as_shown, moment_of, state_shown}
-use Rattle.cs_pair.specs.Showing.{shown_on}
-use Rattle.cs_pair.specs.Stores.{dimensions_on, pairs_where, store_version}
-use Rattle.cs_pair.proofs.Mounting.{shows_later}
+use Rattle.law_machine.specs.Geometry.{shape_of}
+use Rattle.law_machine.specs.Recovery.{Recovers}
+use Rattle.cs_twin.specs.Paired.{left_as_shown, moment_of, state_shown}
+use Rattle.cs_mount.specs.Showing.{shown_on}
+use Rattle.cs_mount.specs.StorePairs.{dimensions_on, pairs_where, store_version}
+use Rattle.cs_mount.proofs.Mounting.{shows_later}
 use Rattle.cs_mount.proofs.Opened.{opened_by}
 use Rattle.cs_mount.proofs.mounts.open_store.Goals as goal
 

@@ -2,8 +2,8 @@ use Rattle.std.proofs.Common.{ap, arith, inl, inr, subst, sym, ⊎_elim, ◌∙�
 use Rattle.cs_core.specs.Openings.{IsWhyNotOpened}
 use Rattle.cs_disk.specs.Disk.{Image, flushed, page, seen}
 use Rattle.cs_mount.specs.Older.{older_on}
-use Rattle.cs_pair.specs.OlderDisks.{shown_below}
-use Rattle.cs_pair.specs.Paired.{disk_below}
+use Rattle.cs_mount.specs.OlderDisks.{shown_below}
+use Rattle.cs_twin.specs.Paired.{disk_below}
 use Rattle.cs_mount.proofs.Aged.{aged_by, dimensions_by, findings_by, some_there}
 use Rattle.cs_mount.proofs.Opened.{opened_by}
 use Rattle.cs_mount.proofs.older.open_older_store.Goals as goal

@@ -1,5 +1,5 @@
 use Rattle.std.proofs.Common.{ap, refl, ◌∙◌}
-use Rattle.cs_pair.specs.Paired.{disk_below, state_shown}
+use Rattle.cs_twin.specs.Paired.{disk_below, state_shown}
 use Rattle.cs_mount.specs.Older.{root_found}
 use Rattle.cs_mount.proofs.Aged.{aged_behind}
 use Rattle.cs_mount.proofs.older.show_older.Goals as goal

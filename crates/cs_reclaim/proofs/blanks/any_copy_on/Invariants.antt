@@ -1,6 +1,6 @@
 use Rattle.std.proofs.Common.{◌≡◌, take}
 use Rattle.cs_index.specs.Copies.{newest_copies}
-use Rattle.cs_model.specs.Apart.{any_copy_on}
+use Rattle.law_machine.specs.Apart.{any_copy_on}
 use Rattle.cs_reclaim.proofs.blanks.any_copy_on.Given as goal
 
 abbrev pub invariant-loop-k : goal.invariant-loop-k

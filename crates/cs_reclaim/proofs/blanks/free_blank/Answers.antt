@@ -1,8 +1,8 @@
 use Rattle.std.proofs.Common.{◌≡◌, ◌∙◌, ℕ, add-one, ap, arith, subst, sym}
 use Rattle.cs_extent.specs.State.{extents_of, shape}
 use Rattle.cs_index.specs.State.{index_of}
-use Rattle.cs_model.specs.Apart.{is_any_swept, is_blank_by, reset_all}
-use Rattle.cs_model.specs.Device.{Shape}
+use Rattle.law_machine.specs.Apart.{is_any_swept, is_blank_by, reset_all}
+use Rattle.law_machine.specs.Device.{Shape}
 use Rattle.cs_reclaim.specs.Rooted.{lying_apart}
 use Rattle.cs_reclaim.proofs.Freeing.{any_stays, next_by}
 use Rattle.cs_reclaim.proofs.blanks.free_blank.Goals as goal

@@ -1,7 +1,7 @@
 use Rattle.std.proofs.Common.{◌≡◌}
 use Rattle.cs_extent.specs.State.{extents_of, shape}
 use Rattle.cs_index.specs.State.{index_of}
-use Rattle.cs_model.specs.Apart.{is_blank_by, reset_all}
+use Rattle.law_machine.specs.Apart.{is_blank_by, reset_all}
 use Rattle.cs_reclaim.specs.Rooted.{lying_apart}
 use Rattle.cs_reclaim.proofs.blanks.free_blank.Given as goal
 

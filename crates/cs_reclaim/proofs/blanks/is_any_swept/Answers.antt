@@ -1,7 +1,7 @@
 use Rattle.std.proofs.Common.{◌≡◌, ◌∙◌, ℕ, add-one, arith, false, subst, sym}
 use Rattle.cs_extent.specs.State.{extents_of, shape}
-use Rattle.cs_model.proofs.ApartResets.{swept_below}
-use Rattle.cs_model.specs.Apart.{any_below}
+use Rattle.law_machine.proofs.ApartResets.{swept_below}
+use Rattle.law_machine.specs.Apart.{any_below}
 use Rattle.cs_reclaim.proofs.Freeing.{none_fewer, none_more}
 use Rattle.cs_reclaim.proofs.blanks.is_any_swept.Goals as goal
 

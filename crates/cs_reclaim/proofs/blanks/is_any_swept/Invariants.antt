@@ -1,6 +1,6 @@
 use Rattle.std.proofs.Common.{◌≡◌, false}
 use Rattle.cs_extent.specs.State.{extents_of}
-use Rattle.cs_model.specs.Apart.{any_below}
+use Rattle.law_machine.specs.Apart.{any_below}
 use Rattle.cs_reclaim.proofs.blanks.is_any_swept.Given as goal
 
 abbrev pub invariant-loop-e : goal.invariant-loop-e

@@ -3,7 +3,7 @@ use Rattle.cs_extent.specs.Appended.{IsAppendedBy}
 use Rattle.cs_extent.specs.State.{extents_of, shape}
 use Rattle.cs_extent.specs.Worn.{IsFrameWornBy}
 use Rattle.cs_index.specs.Staged.{IsExact}
-use Rattle.cs_model.specs.Extents.{ForMove, GoesApart}
+use Rattle.law_machine.specs.Extents.{ForMove, GoesApart}
 use Rattle.cs_reclaim.specs.Moves.{NowhereBy}
 use Rattle.cs_reclaim.proofs.Moving.{append_why_of}
 use Rattle.cs_reclaim.proofs.copies.append_copied.Goals as goal

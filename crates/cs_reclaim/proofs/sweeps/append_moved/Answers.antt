@@ -2,7 +2,7 @@ use Rattle.std.proofs.Common.{length, subst}
 use Rattle.cs_extent.specs.State.{extents_of, shape}
 use Rattle.cs_extent.specs.Worn.{IsFrameWorn}
 use Rattle.cs_index.specs.Staged.{IsExact}
-use Rattle.cs_model.specs.Extents.{ForMove, NoPlace, Placed}
+use Rattle.law_machine.specs.Extents.{ForMove, NoPlace, Placed}
 use Rattle.cs_reclaim.proofs.Moving.{append_why}
 use Rattle.cs_reclaim.proofs.sweeps.append_moved.Goals as goal
 

@@ -6,9 +6,9 @@ use Rattle.cs_frame.specs.Locators.{KeepFormat}
 use Rattle.cs_index.proofs.Living.{nth_inside}
 use Rattle.cs_index.proofs.Marks.{placed_keeps}
 use Rattle.cs_index.specs.State.{State, id_number, index_of}
-use Rattle.cs_model.specs.Element.{Locator as Place}
-use Rattle.cs_model.specs.Index.{live_at, lookup}
-use Rattle.cs_model.specs.Lists.{replaced}
+use Rattle.law_machine.specs.Element.{Locator as Place}
+use Rattle.law_machine.specs.Index.{live_at, lookup}
+use Rattle.law_machine.specs.Lists.{replaced}
 use Rattle.cs_reclaim.proofs.Living.{has_entry, replaced_keeps, replaced_map, set_from}
 use Rattle.cs_reclaim.proofs.sweeps.move_to.Goals as goal
 

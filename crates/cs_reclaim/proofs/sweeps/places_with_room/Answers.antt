@@ -2,7 +2,7 @@ use Rattle.std.proofs.Common.{◌≡◌, IfOk, map, subst}
 use Rattle.cs_frame.specs.Formats.{place_of}
 use Rattle.cs_frame.specs.Locators.{KeepFormat}
 use Rattle.cs_index.specs.State.{State, id_number, index_of}
-use Rattle.cs_model.specs.Index.{live_at}
+use Rattle.law_machine.specs.Index.{live_at}
 use Rattle.cs_reclaim.proofs.sweeps.places_with_room.Goals as goal
 
 pub returns-clause-places : goal.returns-clause-places

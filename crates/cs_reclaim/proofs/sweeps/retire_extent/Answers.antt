@@ -4,8 +4,8 @@ use Rattle.cs_extent.specs.State.{extents_of, shape}
 use Rattle.cs_frame.specs.Formats.{place_of}
 use Rattle.cs_index.proofs.Exact.{why_same}
 use Rattle.cs_index.specs.State.{id_number, index_of}
-use Rattle.cs_model.specs.Extents.{ForMove}
-use Rattle.cs_model.specs.Index.{NothingLive}
+use Rattle.law_machine.specs.Extents.{ForMove}
+use Rattle.law_machine.specs.Index.{NothingLive}
 use Rattle.cs_index.specs.declared.live.LiveChunk.{LiveChunk}
 use Rattle.cs_reclaim.proofs.Living.{alive, dead}
 use Rattle.cs_reclaim.proofs.Retiring.{why_alive, why_refusals, why_retired}

@@ -1,6 +1,6 @@
 use Rattle.std.proofs.Common.{◌∙◌, subst}
-use Rattle.cs_extent.specs.State.{shape}
-use Rattle.cs_core.specs.Views.{IsFound}
+use Rattle.cs_writeback.specs.cs_extent.State.{shape}
+use Rattle.cs_writeback.specs.cs_core.Views.{IsFound}
 use Rattle.cs_script.proofs.crashes.reopen.Goals as goal
 
 pub returns-in-Ok-clause-opened : goal.returns-in-Ok-clause-opened

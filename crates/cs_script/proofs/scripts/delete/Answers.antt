@@ -1,11 +1,11 @@
 use Rattle.std.proofs.Common.{inl, inr, refl}
-use Rattle.cs_core.specs.declared.events.Event.TheVariants.{Delete}
-use Rattle.cs_core.specs.declared.events.Reply.TheVariants.{Absent, Accepted}
+use Rattle.cs_writeback.specs.cs_core.declared.events.Event.TheVariants.{Delete}
+use Rattle.cs_writeback.specs.cs_core.declared.events.Reply.TheVariants.{Absent, Accepted}
 use Rattle.cs_script.specs.Lines.{says_delete}
 use Rattle.cs_script.specs.Outputs.{absent_line, delete_line}
 use Rattle.cs_script.specs.Scripts.{AnswersSo}
 use Rattle.cs_script.proofs.OneLine.{is_given, is_refused}
-use Rattle.cs_drive.proofs.Histories.{went_as}
+use Rattle.cs_writeback.proofs.Histories.{went_as}
 use Rattle.cs_script.proofs.scripts.delete.Goals as goal
 
 pub returns-in-Ok-Accepted : goal.returns-in-Ok-Accepted

@@ -1,11 +1,11 @@
 use Rattle.std.proofs.Common.{ap, inl, inr, refl}
-use Rattle.cs_core.specs.declared.events.Event.TheVariants.{Get}
-use Rattle.cs_core.specs.declared.events.Reply.TheVariants.{Absent, Found}
+use Rattle.cs_writeback.specs.cs_core.declared.events.Event.TheVariants.{Get}
+use Rattle.cs_writeback.specs.cs_core.declared.events.Reply.TheVariants.{Absent, Found}
 use Rattle.cs_script.specs.Lines.{says_get}
 use Rattle.cs_script.specs.Outputs.{absent_line, value_line}
 use Rattle.cs_script.specs.Scripts.{AnswersSo}
 use Rattle.cs_script.proofs.OneLine.{is_given, is_refused}
-use Rattle.cs_drive.proofs.Histories.{went_as}
+use Rattle.cs_writeback.proofs.Histories.{went_as}
 use Rattle.cs_script.proofs.scripts.get.Goals as goal
 
 pub returns-in-Ok-Found : goal.returns-in-Ok-Found

@@ -1,12 +1,12 @@
 use Rattle.std.proofs.Common.{[], ℕ, List, inl, refl, subst}
 use Rattle.std.specs.Prelude.{IfOk}
 use Rattle.std.specs.Io.KnownBytes.{Appends}
-use Rattle.cs_core.specs.declared.events.Event.TheVariants.{Put}
-use Rattle.cs_deps.specs.declared.refusals.Refusal.TheVariants.{OutOfMemory}
+use Rattle.cs_writeback.specs.cs_core.declared.events.Event.TheVariants.{Put}
+use Rattle.cs_refusal.specs.declared.refusals.Refusal.TheVariants.{OutOfMemory}
 use Rattle.cs_script.specs.Lines.{says_put}
 use Rattle.cs_script.specs.Scripts.{AnswersSo}
 use Rattle.cs_script.proofs.OneLine.{is_refused}
-use Rattle.cs_drive.proofs.Histories.{stays_same, stopped_unrecorded}
+use Rattle.cs_writeback.proofs.Histories.{stays_same, stopped_unrecorded}
 use Rattle.cs_script.proofs.scripts.put.Goals as goal
 
 pub returns-in-Ok : goal.returns-in-Ok

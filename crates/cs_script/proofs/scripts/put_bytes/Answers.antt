@@ -1,11 +1,11 @@
 use Rattle.std.proofs.Common.{refl}
-use Rattle.cs_core.specs.declared.events.Event.TheVariants.{Put}
-use Rattle.cs_core.specs.declared.events.Reply.TheVariants.{Accepted}
+use Rattle.cs_writeback.specs.cs_core.declared.events.Event.TheVariants.{Put}
+use Rattle.cs_writeback.specs.cs_core.declared.events.Reply.TheVariants.{Accepted}
 use Rattle.cs_script.specs.Lines.{says_put}
 use Rattle.cs_script.specs.Outputs.{put_line}
 use Rattle.cs_script.specs.Scripts.{AnswersSo}
 use Rattle.cs_script.proofs.OneLine.{is_given, is_refused}
-use Rattle.cs_drive.proofs.Histories.{stopped_as, went_as}
+use Rattle.cs_writeback.proofs.Histories.{stopped_as, went_as}
 use Rattle.cs_script.proofs.scripts.put_bytes.Goals as goal
 
 pub returns-in-Ok-Accepted : goal.returns-in-Ok-Accepted

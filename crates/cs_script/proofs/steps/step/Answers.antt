@@ -1,11 +1,11 @@
 use Rattle.std.proofs.Common.{ap, refl}
-use Rattle.cs_core.specs.declared.events.Reply.TheVariants.{Begun, Ended, Issued, Nothing}
+use Rattle.cs_writeback.specs.cs_core.declared.events.Reply.TheVariants.{Begun, Ended, Issued, Nothing}
 use Rattle.cs_script.specs.Lines.{says_step}
 use Rattle.cs_script.specs.Outputs.{begin_line, end_line, idle_line, issue_line}
-use Rattle.cs_drive.specs.Rounds.{step_event}
+use Rattle.cs_writeback.specs.Rounds.{step_event}
 use Rattle.cs_script.specs.Scripts.{AnswersSo}
 use Rattle.cs_script.proofs.OneLine.{is_given, is_refused}
-use Rattle.cs_drive.proofs.Histories.{stopped_as, went_as}
+use Rattle.cs_writeback.proofs.Histories.{stopped_as, went_as}
 use Rattle.cs_script.proofs.steps.step.Goals as goal
 
 pub returns-in-Ok-Issued : goal.returns-in-Ok-Issued

@@ -1,6 +1,6 @@
 use Rattle.std.proofs.Common.{inr, subst, sym}
-use Rattle.cs_drive.proofs.MadeRoom.{checkpoint_ran}
-use Rattle.cs_drive.proofs.Runs.{ran_then}
+use Rattle.cs_writeback.proofs.MadeRoom.{checkpoint_ran}
+use Rattle.cs_writeback.proofs.Runs.{ran_then}
 use Rattle.cs_store.specs.Errors.{IsDeleteRefusal}
 use Rattle.cs_store.proofs.Filling.{left_full}
 use Rattle.cs_store.proofs.Refusing.{room_by_checkpoint, room_by_sync}

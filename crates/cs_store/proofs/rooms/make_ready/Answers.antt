@@ -1,6 +1,6 @@
 use Rattle.std.proofs.Common.{◌<◌, ◌≤◌, ap, arith, length}
 use Rattle.cs_core.specs.Views.{kept}
-use Rattle.cs_drive.proofs.Runs.{ran_then}
+use Rattle.cs_writeback.proofs.Runs.{ran_then}
 use Rattle.cs_store.proofs.Asking.{no_room_if, ready_if, ready_now, room_accepts}
 use Rattle.cs_store.proofs.rooms.make_ready.Goals as goal
 

@@ -1,7 +1,7 @@
 use Rattle.std.proofs.Common.{List, subst, take_all}
 use Rattle.cs_disk.proofs.OnlyRead.{reads_on}
 use Rattle.cs_frame.specs.declared.identifiers.ShardId.{ShardId}
-use Rattle.cs_model.specs.State.{map_now}
+use Rattle.law_machine.specs.State.{map_now}
 use Rattle.cs_tools.specs.Exports.{IsMeantOf}
 use Rattle.cs_tools.proofs.Exporting.{ArePrinted, all_at, shard_printed, synced}
 use Rattle.cs_tools.proofs.Meant.{shard_meant}

@@ -3,8 +3,8 @@ use Rattle.std.specs.List.{AllByRecursion}
 use Rattle.cs_core.specs.Views.{IsIn}
 use Rattle.cs_disk.specs.Reads.{OnlyReads}
 use Rattle.cs_index.specs.State.{id_number, index_of}
-use Rattle.cs_model.specs.Index.{live_at}
-use Rattle.cs_model.specs.State.{State, map_now}
+use Rattle.law_machine.specs.Index.{live_at}
+use Rattle.law_machine.specs.State.{State, map_now}
 use Rattle.cs_tools.specs.Exports.{IsMeantOf}
 use Rattle.cs_tools.proofs.Exporting.{ArePrinted}
 use Rattle.cs_tools.proofs.Meant.{IsLive}

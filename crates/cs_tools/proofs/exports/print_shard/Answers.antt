@@ -2,9 +2,9 @@ use Rattle.std.proofs.Common.{ℕ, List, ap, refl, subst}
 use Rattle.std.specs.Prelude.{Err, Ok}
 use Rattle.std.specs.Io.KnownBytes.{Appends}
 use Rattle.cs_core.specs.Lookups.{IsReading}
-use Rattle.cs_deps.specs.declared.refusals.Refusal.{Refusal}
+use Rattle.cs_refusal.specs.declared.refusals.Refusal.{Refusal}
 use Rattle.cs_index.specs.State.{id_number}
-use Rattle.cs_model.specs.State.{map_now}
+use Rattle.law_machine.specs.State.{map_now}
 use Rattle.cs_tools.specs.Exports.{put_line}
 use Rattle.cs_tools.proofs.exports.print_shard.Goals as goal
 

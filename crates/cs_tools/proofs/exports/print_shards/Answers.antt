@@ -2,7 +2,7 @@ use Rattle.std.proofs.Common.{List, true, ap, refl, subst, sym, ◌∙◌}
 use Rattle.std.specs.declared.slice.Chunks.{Chunks}
 use Rattle.cs_disk.proofs.OnlyRead.{reads_none, reads_on}
 use Rattle.cs_frame.specs.declared.identifiers.ShardId.{ShardId}
-use Rattle.cs_model.specs.State.{map_now}
+use Rattle.law_machine.specs.State.{map_now}
 use Rattle.cs_tools.specs.Exports.{IsMeantOf}
 use Rattle.cs_tools.proofs.Exporting.{IsPrintedUpTo, all_printed, nothing_printed, piece_of, piece_printed}
 use Rattle.cs_tools.proofs.Meant.{piece_meant}

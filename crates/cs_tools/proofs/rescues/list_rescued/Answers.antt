@@ -3,8 +3,8 @@ use Rattle.std.specs.Prelude.{flat_map}
 use Rattle.std.specs.Io.KnownBytes.{Appends}
 use Rattle.cs_frame.specs.declared.identifiers.ShardId.{ShardId}
 use Rattle.cs_index.specs.State.{State as Index, id_number, index_of}
-use Rattle.cs_model.specs.Index.{live_at}
-use Rattle.cs_survey.specs.Listings.{AreFirst}
+use Rattle.law_machine.specs.Index.{live_at}
+use Rattle.cs_inspect.specs.Listings.{AreFirst}
 use Rattle.cs_tools.specs.Outputs.{id_line}
 use Rattle.cs_tools.proofs.rescues.list_rescued.Goals as goal
 

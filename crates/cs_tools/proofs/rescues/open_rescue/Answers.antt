@@ -1,9 +1,9 @@
 use Rattle.std.proofs.Common.{◌∙◌, ◌≡◌, ◌⊎◌, ℕ, ap, inr, subst, sym}
 use Rattle.cs_chunk.specs.Reads.{IsNoAnswer}
 use Rattle.cs_disk.specs.Disk.{Image, flushed, page, seen}
-use Rattle.cs_pair.specs.Paired.{disk_below, state_shown}
-use Rattle.cs_pair.specs.Showing.{shown_on}
-use Rattle.cs_rescue.specs.Rescued.{IsRescued, IsWhyNotRescued}
+use Rattle.cs_twin.specs.Paired.{disk_below, state_shown}
+use Rattle.cs_mount.specs.Showing.{shown_on}
+use Rattle.cs_salvage.specs.Rescued.{IsRescued, IsWhyNotRescued}
 use Rattle.cs_tools.proofs.Rescuing.{rescued_by}
 use Rattle.cs_tools.proofs.rescues.open_rescue.Goals as goal
 

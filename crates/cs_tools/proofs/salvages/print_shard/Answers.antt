@@ -1,7 +1,7 @@
 use Rattle.std.proofs.Common.{List, ℕ, refl, subst}
 use Rattle.std.specs.Prelude.{Err, Ok}
 use Rattle.std.specs.Io.KnownBytes.{Appends}
-use Rattle.cs_deps.specs.declared.refusals.Refusal.TheVariants.{Misplaced}
+use Rattle.cs_refusal.specs.declared.refusals.Refusal.TheVariants.{Misplaced}
 use Rattle.cs_tools.specs.Exports.{put_line}
 use Rattle.cs_tools.proofs.Salvaging.{why_not}
 use Rattle.cs_tools.proofs.salvages.print_shard.Goals as goal

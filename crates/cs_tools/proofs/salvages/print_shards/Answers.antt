@@ -2,10 +2,10 @@ use Rattle.std.proofs.Common.{List, true, ap, subst, sym, ◌∙◌}
 use Rattle.std.specs.declared.slice.Chunks.{Chunks}
 use Rattle.cs_disk.proofs.OnlyRead.{reads_none, reads_on}
 use Rattle.cs_disk.specs.Disk.{seen}
-use Rattle.cs_salvage.specs.declared.shards.WholeShard.{WholeShard}
+use Rattle.cs_salvage.specs.declared.whole_shards.WholeShard.{WholeShard}
 use Rattle.cs_tools.specs.Salvages.{IsMeantBy, IsToldOf}
 use Rattle.cs_tools.proofs.Exporting.{IsPrintedUpTo, all_printed, nothing_printed}
-use Rattle.cs_tools.proofs.Salvaging.{piece_meant, piece_told}
+use Rattle.cs_tools.proofs.Salvaging.{means_whole, piece_meant, piece_told, written_out}
 use Rattle.cs_tools.proofs.salvages.print_shards.Goals as goal
 
 pub loop-piece-init : goal.loop-piece-init
@@ -49,12 +49,17 @@ returns-clause-script g c honest stand =
     let disks = g.D.PageDisk in
     let contents = g.W.Write.contents in
     let found = c.args.found.now in
-    all_printed (IsToldOf found.geometry (seen (disks.state c.args.disk.now)) (disks.failure_count c.args.disk.now) (disks.failure_count c.loop-piece.disk)) found.shards.items c.loop-piece.piece-iterator.rest.now c.loop-piece.whole
-    (contents c.args.writer.now) (contents c.loop-piece.writer) (contents c.flush.new.self) (c.loop-piece.invariant.lines honest stand) c.in-None.ensures.steps.1.0 c.in_ok-flush.ensures.bytes
+    let image = seen (disks.state c.args.disk.now) in
+    let failed = disks.failure_count c.args.disk.now in
+    let failed_then = disks.failure_count c.loop-piece.disk in
+    written_out image found failed failed_then (contents c.args.writer.now) (contents c.flush.new.self) c.loop-piece.whole
+    (all_printed (IsToldOf found.geometry image failed failed_then) found.shards.items c.loop-piece.piece-iterator.rest.now c.loop-piece.whole
+    (contents c.args.writer.now) (contents c.loop-piece.writer) (contents c.flush.new.self) (c.loop-piece.invariant.lines honest stand) c.in-None.ensures.steps.1.0 c.in_ok-flush.ensures.bytes)
 
 pub returns-clause-meant : goal.returns-clause-meant
 returns-clause-meant g c =
     let contents = g.W.Write.contents in
     let found = c.args.found.now in
-    all_printed (IsMeantBy found.geometry) found.shards.items c.loop-piece.piece-iterator.rest.now c.loop-piece.whole
-    (contents c.args.writer.now) (contents c.loop-piece.writer) (contents c.flush.new.self) c.loop-piece.invariant.meant c.in-None.ensures.steps.1.0 c.in_ok-flush.ensures.bytes
+    means_whole found (contents c.args.writer.now) (contents c.flush.new.self) c.loop-piece.whole
+    (all_printed (IsMeantBy found.geometry) found.shards.items c.loop-piece.piece-iterator.rest.now c.loop-piece.whole
+    (contents c.args.writer.now) (contents c.loop-piece.writer) (contents c.flush.new.self) c.loop-piece.invariant.meant c.in-None.ensures.steps.1.0 c.in_ok-flush.ensures.bytes)

@@ -20,7 +20,7 @@ returns g c =
     on_ok_weaker c.writeln.result
     (λ ended. appends_same start last (geometry_text Text extents pages sections format) (geometry_text Text asked.extents asked.pages asked.sections asked.format)
     (same_geometry Text extents pages sections format asked.extents asked.pages asked.sections asked.format
-    (c.from-extents.ensures ∙ c.extents.ensures.extents) (c.from-pages.ensures ∙ c.pages.ensures.pages) (c.from-sections.ensures ∙ c.sections.ensures.sections) (c.from-format.ensures ∙ c.format.ensures.format))
+    (c.from-extents.ensures ∙ c.extents.ensures.extents) (c.from-pages.ensures ∙ c.pages.ensures.pages) (c.from-sections.ensures ∙ c.sections.ensures.sections) (c.from-format.ensures ∙ c.number.ensures.number ∙ c.format.ensures.format))
     (five_then start (contents c.print_number.new.writer) (contents c.print_number-2.new.writer) (contents c.print_number-3.new.writer) (contents c.print_number-4.new.writer) last
     (number_text (codes "geometry extents ") extents) (number_text (codes " pages ") pages) (number_text (codes " sections ") sections) (number_text (codes " format ") format) (10 ∷ [])
     c.in_ok-print_number.ensures c.in_ok-print_number-2.ensures c.in_ok-print_number-3.ensures c.in_ok-print_number-4.ensures ended))

@@ -20,7 +20,7 @@ returns g c =
     on_ok_weaker c.write.result
     (λ ended. appends_same start last (geometry_text Json extents pages sections format) (geometry_text Json asked.extents asked.pages asked.sections asked.format)
     (same_geometry Json extents pages sections format asked.extents asked.pages asked.sections asked.format
-    (c.from-extents.ensures ∙ c.extents.ensures.extents) (c.from-pages.ensures ∙ c.pages.ensures.pages) (c.from-sections.ensures ∙ c.sections.ensures.sections) (c.from-format.ensures ∙ c.format.ensures.format))
+    (c.from-extents.ensures ∙ c.extents.ensures.extents) (c.from-pages.ensures ∙ c.pages.ensures.pages) (c.from-sections.ensures ∙ c.sections.ensures.sections) (c.from-format.ensures ∙ c.number.ensures.number ∙ c.format.ensures.format))
     (five_then start (contents c.print_number.new.writer) (contents c.print_number-2.new.writer) (contents c.print_number-3.new.writer) (contents c.print_number-4.new.writer) last
     (number_text (123 ∷ member (codes "extents")) extents) (number_text (44 ∷ member (codes "pages")) pages) (number_text (44 ∷ member (codes "sections")) sections) (number_text (44 ∷ member (codes "format")) format) (44 ∷ [])
     c.in_ok-print_number.ensures c.in_ok-print_number-2.ensures c.in_ok-print_number-3.ensures c.in_ok-print_number-4.ensures ended))

@@ -1,7 +1,7 @@
 use Rattle.std.proofs.Common.{◌≤◌, ◌∷◌, [], refl, subst, List, ℕ, sym}
 use Rattle.std.specs.Prelude.{All, ◌↔◌, IsTrue}
 use Rattle.cs_extent.specs.State.{extents_of, shape}
-use Rattle.cs_model.specs.Extents.{FitsBy, ForPut}
+use Rattle.law_machine.specs.Extents.{FitsBy, ForPut}
 use Rattle.cs_chunk.proofs.Pieces.{each_in_range, pages_in_array}
 use Rattle.cs_chunk.proofs.cuts.Cut.fits.Goals as goal
 

@@ -2,7 +2,7 @@ use Rattle.std.proofs.Common.{◌≤◌, ◌∷◌, [], refl, subst, List, ℕ, 
 use Rattle.std.specs.Prelude.{All, ◌↔◌, IsTrue}
 use Rattle.cs_extent.specs.State.{extents_of, shape}
 use Rattle.cs_extent.specs.Worn.{AreWornBy}
-use Rattle.cs_model.specs.Extents.{FitsBy, ForPut}
+use Rattle.law_machine.specs.Extents.{FitsBy, ForPut}
 use Rattle.cs_chunk.proofs.Pieces.{each_in_range, pages_in_array}
 use Rattle.cs_chunk.proofs.cuts.Cut.is_worn.Goals as goal
 

@@ -1,6 +1,6 @@
 use Rattle.std.proofs.Common.{◌∙◌, ◌≤◌, ap, subst, sym}
 use Rattle.cs_chunk.proofs.Chunkings.{last_fits}
-use Rattle.cs_model.specs.Geometry.{head_bytes_in, heads_in}
+use Rattle.law_machine.specs.Geometry.{head_bytes_in, heads_in}
 use Rattle.cs_chunk.proofs.cuts.Cut.of.Goals as goal
 
 pub invariant_of-result-clause-most : goal.invariant_of-result-clause-most

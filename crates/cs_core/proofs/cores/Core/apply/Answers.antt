@@ -1,5 +1,5 @@
 use Rattle.std.proofs.Common.{◌∙◌, ◌<◌, List, drop, length, sym, subst, inr}
-use Rattle.cs_deps.specs.declared.refusals.Refusal.TheVariants as code
+use Rattle.cs_refusal.specs.declared.refusals.Refusal.TheVariants as code
 use Rattle.cs_disk.specs.Disk.{Leaves}
 use Rattle.cs_core.specs.Answered.{IsLimited}
 use Rattle.cs_core.specs.declared.events.Event.{Event as Asked}

@@ -3,7 +3,7 @@ use Rattle.cs_disk.specs.Disk.{Image, page}
 use Rattle.cs_extent.specs.State.{shape}
 use Rattle.cs_frame.specs.Formats.{formats_of}
 use Rattle.cs_frame.specs.Geometries.{device_pages}
-use Rattle.cs_model.specs.Recovery.{Recovers}
+use Rattle.law_machine.specs.Recovery.{Recovers}
 use Rattle.cs_core.specs.Stored.{Stored}
 use Rattle.cs_core.proofs.Starting.{new_core, new_recovers}
 use Rattle.cs_core.proofs.cores.Core.format.Goals as goal

@@ -4,7 +4,7 @@ use Rattle.cs_core.proofs.cores.Core.open.Goals as goal
 
 pub invariant_of-result : goal.invariant_of-result
 invariant_of-result g c =
-    let read = c.open_store-read in
+    let read = c.flush_and_read-read in
     let made = c.in-Ok.ensures.made in
     opened_core g.D.PageDisk read.new.disk (g.D.PageDisk.state c.args.disk) (g.D.PageDisk.honest c.args.disk) made.0 made.1 made.2 made.3 made.4 c.in-Ok.found.commands c.in-Ok.found.live c.in-Ok.found.store
     (read.ensures.pages ∙ made.5) made.6 (λ h. read.ensures.honest.1 h) (λ h. c.in-Ok.ensures.state (read.ensures.honest.1 h)) (λ h. g.met.D.PageDisk.whole read.new.disk h) (λ h. g.met.D.PageDisk.sized read.new.disk h)

@@ -1,6 +1,6 @@
 use Rattle.std.proofs.Common.{◌≡◌, ◌∙◌, ap, arith, length, subst, sym, true, ℕ}
 use Rattle.cs_frame.specs.declared.locators.Locator.{Locator}
-use Rattle.cs_model.proofs.Places.{goes_one}
+use Rattle.law_machine.proofs.Places.{goes_one}
 use Rattle.cs_extent.specs.Appended.{IsAppendedBy}
 use Rattle.cs_extent.specs.Frames.{AreResetsStaged, IsWorn}
 use Rattle.cs_extent.specs.Purposes.{reason_of}

@@ -1,5 +1,5 @@
 use Rattle.std.proofs.Common.{◌∙◌, true, inl, refl}
-use Rattle.cs_model.specs.Extents.{ForPut}
+use Rattle.law_machine.specs.Extents.{ForPut}
 use Rattle.cs_extent.proofs.Worn.{worn_by}
 use Rattle.cs_extent.proofs.extents.Extents.are_worn_apart.Goals as goal
 

@@ -1,5 +1,5 @@
 use Rattle.std.proofs.Common.{◌≡◌, ◌≤◌}
-use Rattle.cs_model.specs.Extents.{how_many}
+use Rattle.law_machine.specs.Extents.{how_many}
 use Rattle.cs_extent.specs.Puts.{after_puts, holds}
 use Rattle.cs_extent.specs.State.{extents_of}
 use Rattle.cs_extent.proofs.extents.Extents.count_after.Given as goal

@@ -1,5 +1,5 @@
 use Rattle.std.proofs.Common.{ℕ, ◌<◌}
-use Rattle.cs_model.specs.Extents.{Takes}
+use Rattle.law_machine.specs.Extents.{Takes}
 use Rattle.cs_extent.specs.Purposes.{reason_of}
 use Rattle.cs_extent.specs.Puts.{after_puts}
 use Rattle.cs_extent.specs.State.{extents_of, shape}

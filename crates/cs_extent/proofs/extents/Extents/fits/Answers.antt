@@ -1,5 +1,5 @@
 use Rattle.std.proofs.Common.{◌∙◌, sym, add-one, Some, None, true, false}
-use Rattle.cs_model.specs.Extents.{spare}
+use Rattle.law_machine.specs.Extents.{spare}
 use Rattle.cs_extent.specs.Purposes.{reason_of}
 use Rattle.cs_extent.specs.State.{shape}
 use Rattle.cs_extent.proofs.Fitting.{fits_at, fit_step, fit_end}

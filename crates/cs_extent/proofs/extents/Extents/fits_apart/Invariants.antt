@@ -1,5 +1,5 @@
 use Rattle.std.proofs.Common.{◌≡◌, ◌↔◌, true, drop, length, take}
-use Rattle.cs_model.specs.Extents.{FitsBy, ForPut}
+use Rattle.law_machine.specs.Extents.{FitsBy, ForPut}
 use Rattle.cs_extent.specs.Puts.{after_puts}
 use Rattle.cs_extent.specs.State.{extents_of, shape}
 use Rattle.cs_extent.proofs.extents.Extents.fits_apart.Given as goal

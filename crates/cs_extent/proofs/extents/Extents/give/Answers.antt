@@ -2,11 +2,11 @@ use Rattle.std.proofs.Common.{◌∙◌, ◌≡◌, ◌+◌, ◌*◌, ◌==◌, 
 use Rattle.cs_deps.specs.declared.elements.Element.{Element}
 use Rattle.cs_deps.specs.Named.{Names}
 use Rattle.cs_deps.specs.State.{write_of}
-use Rattle.cs_model.specs.Extents.{Extents, taken}
+use Rattle.law_machine.specs.Extents.{Extents, taken}
 use Rattle.std.specs.Prelude.{◌↔◌}
 use Rattle.cs_frame.specs.Geometries.{section_length, section_start}
 use Rattle.cs_frame.specs.Superblocks.{FitsRecord}
-use Rattle.cs_model.specs.Device.{Shape}
+use Rattle.law_machine.specs.Device.{Shape}
 use Rattle.cs_frame.proofs.GeometryLaws.{bounds}
 use Rattle.cs_extent.specs.Frames.{AddsOnlyOf, IsOfFrame, IsVersionUpTo, IsWorn, family_of, next_section, root_family, root_recorded}
 use Rattle.cs_extent.specs.State.{SpellsExtents, State, extents_of, need_of, shape}

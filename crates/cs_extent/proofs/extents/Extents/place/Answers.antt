@@ -1,5 +1,5 @@
 use Rattle.std.proofs.Common.{◌≤◌, ◌<◌, arith}
-use Rattle.cs_model.specs.Extents.{spare, empties}
+use Rattle.law_machine.specs.Extents.{spare, empties}
 use Rattle.cs_extent.specs.Places.{room_at}
 use Rattle.cs_extent.specs.Purposes.{reason_of}
 use Rattle.cs_extent.specs.State.{shape, extents_of}

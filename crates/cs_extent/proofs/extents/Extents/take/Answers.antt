@@ -1,6 +1,6 @@
 use Rattle.std.proofs.Common.{◌≡◌, ◌∙◌, ◌+◌, ◌==◌, None, Some, ap, ℕ, if◌then◌else◌}
 use Rattle.std.proofs.lemmas.List.{get_or_read}
-use Rattle.cs_model.specs.Extents.{open_after}
+use Rattle.law_machine.specs.Extents.{open_after}
 use Rattle.cs_extent.specs.State.{State, extents_of, shape}
 use Rattle.cs_extent.specs.contracts.extents.Extents.{the_view}
 use Rattle.cs_extent.proofs.Changes.{taken_extents}

@@ -3,8 +3,8 @@ use Rattle.std.specs.Prelude.{option_copied, option_map}
 use Rattle.std.proofs.lemmas.Option.{slice_get-map}
 use Rattle.cs_frame.specs.declared.locators.Locator.{Locator}
 use Rattle.cs_frame.specs.Formats.{place_of}
-use Rattle.cs_model.specs.Element.{Entry}
-use Rattle.cs_model.specs.Index.{entries_of}
+use Rattle.law_machine.specs.Element.{Entry}
+use Rattle.law_machine.specs.Index.{entries_of}
 use Rattle.cs_index.specs.Sorted.{first_of}
 use Rattle.cs_index.specs.State.{IsNext, id_number, named_entry, newest_first}
 use Rattle.cs_index.proofs.Merging.{next_at, next_join, runs_at_next, table_at_next}

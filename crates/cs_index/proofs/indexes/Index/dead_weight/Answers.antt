@@ -3,8 +3,8 @@ use Rattle.cs_index.specs.contracts.indexes.Index.{the_view}
 use Rattle.cs_index.specs.State.{index_of}
 use Rattle.cs_index.proofs.Shards.{shards_few}
 use Rattle.cs_index.proofs.Weights.{dead_light}
-use Rattle.cs_model.specs.Geometry.{weigh_in}
-use Rattle.cs_model.specs.Tally.{dead_weight}
+use Rattle.law_machine.specs.Geometry.{weigh_in}
+use Rattle.law_machine.specs.Tally.{dead_weight}
 use Rattle.cs_index.proofs.indexes.Index.dead_weight.Goals as goal
 use Rattle.cs_index.proofs.indexes.Index.dead_weight.Goals.{After-entry_weight}
 

@@ -1,13 +1,13 @@
 use Rattle.std.proofs.Common.{◌∷◌, ◌++◌, length, ◌≡◌, ◌≢◌, ◌⊎◌, ◌+◌, ◌-◌, ◌≤◌, ◌∙◌, List, ℕ, ap, arith, le_of_eq, le_trans, map, sym, subst, MatchBool, None}
 use Rattle.std.specs.Prelude.{option_map}
 use Rattle.std.proofs.lemmas.List.{length-map}
-use Rattle.cs_model.specs.Geometry.{weigh_in}
-use Rattle.cs_model.specs.Index.{entries_of, live, live_at, lookup, named_weight, names, weight, weight_with}
-use Rattle.cs_model.specs.Tally.{one_if_some, shards}
+use Rattle.law_machine.specs.Geometry.{weigh_in}
+use Rattle.law_machine.specs.Index.{entries_of, live, live_at, lookup, named_weight, names, weight, weight_with}
+use Rattle.law_machine.specs.Tally.{one_if_some, shards}
 use Rattle.cs_frame.specs.Formats.{place_of}
 use Rattle.cs_frame.specs.Locators.{KeepFormat}
 use Rattle.cs_frame.specs.declared.locators.Locator.{Locator}
-use Rattle.cs_index.specs.declared.runs.StoredRun.{StoredRun}
+use Rattle.cs_index.specs.declared.stored_runs.StoredRun.{StoredRun}
 use Rattle.cs_index.specs.Held.{AreCounts}
 use Rattle.cs_index.specs.Live.{NoneOn}
 use Rattle.cs_index.specs.contracts.indexes.Index.{the_view}

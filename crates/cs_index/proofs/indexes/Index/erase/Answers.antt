@@ -3,8 +3,8 @@ use Rattle.cs_frame.specs.Places.{Listed}
 use Rattle.cs_index.specs.State.{id_number, index_of}
 use Rattle.cs_index.proofs.Marks.{none_keep}
 use Rattle.cs_index.proofs.Weights.{deletion_light}
-use Rattle.cs_model.specs.Geometry.{weigh_in}
-use Rattle.cs_model.specs.Index.{weight_with}
+use Rattle.law_machine.specs.Geometry.{weigh_in}
+use Rattle.law_machine.specs.Index.{weight_with}
 use Rattle.cs_index.proofs.indexes.Index.erase.Goals as goal
 
 pub enter-requires-clause-marks : goal.enter-requires-clause-marks

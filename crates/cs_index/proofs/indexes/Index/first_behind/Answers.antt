@@ -5,7 +5,7 @@ use Rattle.cs_index.specs.Copies.{FirstBehind, NoneBehind, numbered}
 use Rattle.cs_index.specs.Live.{FirstAfter, NoneAfter}
 use Rattle.cs_index.specs.Read.{Reading}
 use Rattle.cs_index.specs.State.{id_number, index_of}
-use Rattle.cs_model.specs.Element.{Entry}
+use Rattle.law_machine.specs.Element.{Entry}
 use Rattle.cs_index.proofs.Next.{first_of_all, none_of_all, option_as}
 use Rattle.cs_index.proofs.indexes.Index.first_behind.Goals as goal
 

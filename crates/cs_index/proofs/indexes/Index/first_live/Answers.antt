@@ -4,13 +4,13 @@ use Rattle.cs_frame.specs.declared.identifiers.ShardId.{ShardId}
 use Rattle.cs_frame.specs.Formats.{place_of}
 use Rattle.cs_frame.specs.Places.{Listed}
 use Rattle.cs_index.specs.contracts.indexes.Index.{the_view}
-use Rattle.cs_index.specs.declared.runs.StoredRun.{StoredRun}
+use Rattle.cs_index.specs.declared.stored_runs.StoredRun.{StoredRun}
 use Rattle.cs_index.specs.Live.{NoneUpTo}
 use Rattle.cs_index.specs.Read.{Reading}
 use Rattle.cs_index.specs.State.{id_number, index_of, named_entry, newest_first}
 use Rattle.cs_index.proofs.Whole.{length-newest}
-use Rattle.cs_model.specs.Element.{Entry}
-use Rattle.cs_model.specs.Index.{FirstLive, NothingLive, entries_of}
+use Rattle.law_machine.specs.Element.{Entry}
+use Rattle.law_machine.specs.Index.{FirstLive, NothingLive, entries_of}
 use Rattle.cs_index.proofs.indexes.Index.first_live.Goals as goal
 use Rattle.cs_index.proofs.indexes.Index.first_live.Goals.{After-entries_after-entries}
 

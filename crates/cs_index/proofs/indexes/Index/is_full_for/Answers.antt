@@ -3,8 +3,8 @@ use Rattle.std.proofs.lemmas.Bool.{lt-ltb, ltb-true}
 use Rattle.cs_index.specs.contracts.indexes.Index.{the_view}
 use Rattle.cs_index.specs.State.{id_number, index_of}
 use Rattle.cs_index.proofs.Weights.{weight_counted}
-use Rattle.cs_model.specs.Geometry.{weigh_in}
-use Rattle.cs_model.specs.Index.{weight_with}
+use Rattle.law_machine.specs.Geometry.{weigh_in}
+use Rattle.law_machine.specs.Index.{weight_with}
 use Rattle.cs_index.proofs.indexes.Index.is_full_for.Goals as goal
 use Rattle.cs_index.proofs.indexes.Index.is_full_for.Goals.{After-sum_after}
 

@@ -1,9 +1,9 @@
 use Rattle.std.proofs.Common.{◌≡◌, ◌∙◌, ◌++◌, [], ap, arith, map, subst, sym, List}
 use Rattle.std.specs.List.{AllByRecursion}
-use Rattle.cs_index.specs.declared.runs.StoredRun.{StoredRun}
-use Rattle.cs_model.specs.Geometry.{weigh_in}
-use Rattle.cs_model.specs.Index.{entries_of, named_weight, names}
-use Rattle.cs_model.specs.Tally.{shards}
+use Rattle.cs_index.specs.declared.stored_runs.StoredRun.{StoredRun}
+use Rattle.law_machine.specs.Geometry.{weigh_in}
+use Rattle.law_machine.specs.Index.{entries_of, named_weight, names}
+use Rattle.law_machine.specs.Tally.{shards}
 use Rattle.cs_index.specs.Held.{AreCounts}
 use Rattle.cs_index.specs.State.{IsId, IsStored, index_of, named_entry, newest_first, state_of}
 use Rattle.cs_index.proofs.Living.{none_at_first}

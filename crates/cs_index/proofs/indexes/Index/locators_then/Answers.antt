@@ -1,10 +1,10 @@
 use Rattle.std.proofs.Common.{◌≡◌, ◌∙◌, ap, arith, map, sym, List, Option}
 use Rattle.std.proofs.lemmas.List.{length-map}
 use Rattle.cs_frame.specs.Formats.{place_of}
-use Rattle.cs_model.specs.Apart.{is_place}
-use Rattle.cs_model.specs.Element.{Locator as Place}
-use Rattle.cs_model.specs.Index.{live, live_at}
-use Rattle.cs_model.specs.Lists.{nth, replaced}
+use Rattle.law_machine.specs.Apart.{is_place}
+use Rattle.law_machine.specs.Element.{Locator as Place}
+use Rattle.law_machine.specs.Index.{live, live_at}
+use Rattle.law_machine.specs.Lists.{nth, replaced}
 use Rattle.cs_index.specs.State.{id_number, index_of}
 use Rattle.cs_index.proofs.Settled.{lies_inside}
 use Rattle.cs_index.proofs.indexes.Index.locators_then.Goals as goal

@@ -2,7 +2,7 @@ use Rattle.std.proofs.Common.{◌≡◌, ap, map, List, Some}
 use Rattle.std.specs.Prelude.{option_map, option_copied}
 use Rattle.cs_frame.specs.declared.identifiers.ShardId.{ShardId}
 use Rattle.cs_index.specs.contracts.indexes.Index.{the_view}
-use Rattle.cs_model.specs.Index.{lookup}
+use Rattle.law_machine.specs.Index.{lookup}
 use Rattle.cs_frame.specs.Formats.{place_of}
 use Rattle.cs_frame.specs.Places.{Listed}
 use Rattle.cs_index.specs.State.{id_number, index_of, named_entry, newest_first}

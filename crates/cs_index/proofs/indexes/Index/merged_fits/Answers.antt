@@ -1,7 +1,7 @@
 use Rattle.std.proofs.Common.{◌≡◌, ◌≢◌, ◌∙◌, [], arith, map, sym}
 use Rattle.std.proofs.lemmas.Bool.{eqb-true, eqb-false}
 use Rattle.cs_extent.specs.Purposes.{reason_of}
-use Rattle.cs_model.specs.Index.{IsMergedRun}
+use Rattle.law_machine.specs.Index.{IsMergedRun}
 use Rattle.cs_index.specs.Staged.{WritesMerged}
 use Rattle.cs_index.specs.State.{index_of, named_entry}
 use Rattle.cs_index.proofs.Cases.{all_run}

@@ -3,10 +3,10 @@ use Rattle.std.proofs.lemmas.Result.{IfOk-weaker}
 use Rattle.cs_frame.specs.declared.identifiers.ShardId.{ShardId}
 use Rattle.cs_frame.specs.Places.{Listed}
 use Rattle.cs_index.specs.contracts.indexes.Index.{the_view}
-use Rattle.cs_index.specs.declared.runs.StoredRun.{StoredRun}
-use Rattle.cs_model.specs.Element.{Entry, Run}
-use Rattle.cs_model.specs.Index.{entries_of}
-use Rattle.cs_model.specs.Merges.{IsRunOf}
+use Rattle.cs_index.specs.declared.stored_runs.StoredRun.{StoredRun}
+use Rattle.law_machine.specs.Element.{Entry, Run}
+use Rattle.law_machine.specs.Index.{entries_of}
+use Rattle.law_machine.specs.Merges.{IsRunOf}
 use Rattle.cs_index.specs.Merges.{part}
 use Rattle.cs_index.specs.Read.{IsReadable}
 use Rattle.cs_index.specs.State.{named_entry, newest_first}

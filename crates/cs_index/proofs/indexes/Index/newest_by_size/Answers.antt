@@ -2,12 +2,12 @@ use Rattle.std.proofs.Common.{◌≡◌, ◌<◌, ◌^◌, ◌∙◌, ap, arith,
 use Rattle.std.specs.List.{AllByRecursion}
 use Rattle.std.proofs.lemmas.List.{length-map}
 use Rattle.cs_index.specs.contracts.indexes.Index.{the_view}
-use Rattle.cs_index.specs.declared.runs.StoredRun.{StoredRun}
+use Rattle.cs_index.specs.declared.stored_runs.StoredRun.{StoredRun}
 use Rattle.cs_index.specs.State.{named_entry, newest_first}
-use Rattle.cs_model.proofs.Counting.{ascending_names}
-use Rattle.cs_model.specs.Geometry.{weigh_in}
-use Rattle.cs_model.specs.Index.{names}
-use Rattle.cs_model.specs.Merges.{reaching, sizes}
+use Rattle.law_machine.proofs.Counting.{ascending_names}
+use Rattle.law_machine.specs.Geometry.{weigh_in}
+use Rattle.law_machine.specs.Index.{names}
+use Rattle.law_machine.specs.Merges.{reaching, sizes}
 use Rattle.cs_index.proofs.Sizes.{reached_by_quarter, reached_by_runs, runs_small}
 use Rattle.cs_index.proofs.Staging.{table_few}
 use Rattle.cs_index.proofs.Whole.{length-newest}

@@ -3,7 +3,7 @@ use Rattle.cs_extent.specs.State.{shape}
 use Rattle.cs_frame.proofs.GeometryLaws.{bounds}
 use Rattle.cs_frame.proofs.RootLaws.{fewest_runs}
 use Rattle.cs_frame.specs.Roots.{greatest_runs}
-use Rattle.cs_model.specs.Geometry.{by_size_in, weigh_in}
+use Rattle.law_machine.specs.Geometry.{by_size_in, weigh_in}
 use Rattle.cs_index.specs.Merges.{deletions_go, stage_takes}
 use Rattle.cs_index.proofs.Sizes.{goes_all, takes_inside, takes_left}
 use Rattle.cs_index.proofs.Weights.{most_few}

@@ -5,7 +5,7 @@ use Rattle.cs_index.proofs.indexes.Index.newest_to_merge.Goals as goal
 
 pub returns-then-merges_by_size : goal.returns-then-merges_by_size
 returns-then-merges_by_size c = λ S by rule most runs.
-    c.newest_by_size.ensures S rule most (runs ∙ sym c.most_runs.ensures)
+    c.newest_by_size.ensures S rule most (runs ∙ sym c.greatest_runs.ensures)
     ∙ sym (takes_reached S c.args.self.now (by ∙ sym c.merges_by_size.ensures ∙ c.if-merges_by_size.true))
 
 pub returns-then-runs-lt4 : goal.returns-then-runs-lt4

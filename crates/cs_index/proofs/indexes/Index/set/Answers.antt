@@ -2,8 +2,8 @@ use Rattle.std.proofs.Common.{◌≡◌, ◌≤◌, ◌∙◌, inl, inr, ap, len
 use Rattle.std.proofs.lemmas.Bool.{cases_lt, false≢true}
 use Rattle.cs_frame.specs.declared.locators.Locator.{Locator}
 use Rattle.cs_index.specs.State.{id_number, index_of}
-use Rattle.cs_model.specs.Geometry.{weigh_in}
-use Rattle.cs_model.specs.Index.{weight_with}
+use Rattle.law_machine.specs.Geometry.{weigh_in}
+use Rattle.law_machine.specs.Index.{weight_with}
 use Rattle.cs_index.proofs.indexes.Index.set.Goals as goal
 
 pub enter-requires-clause-limit : goal.enter-requires-clause-limit

@@ -1,7 +1,7 @@
 use Rattle.std.proofs.Common.{◌∙◌, ap, subst, sym, take, take_all, List}
-use Rattle.cs_model.specs.Element.{Copy}
-use Rattle.cs_model.specs.Geometry.{marks_in}
-use Rattle.cs_index.specs.declared.copies.ChunkCopy.{ChunkCopy}
+use Rattle.law_machine.specs.Element.{Copy}
+use Rattle.law_machine.specs.Geometry.{marks_in}
+use Rattle.cs_index.specs.declared.counted_copies.ChunkCopy.{ChunkCopy}
 use Rattle.cs_index.specs.Copies.{IsSettled, newest_copies}
 use Rattle.cs_index.proofs.Settled.{copies_more, settled_more, settled_none}
 use Rattle.cs_index.proofs.indexes.Index.settle.Goals as goal

@@ -1,8 +1,8 @@
 use Rattle.std.proofs.Common.{◌∙◌, ap, arith, length}
 use Rattle.std.proofs.lemmas.Result.{IfOk-weaker}
 use Rattle.cs_index.specs.Copies.{newest_copies, settle_table}
-use Rattle.cs_model.specs.Geometry.{marks_in}
-use Rattle.cs_model.specs.Index.{entries_of}
+use Rattle.law_machine.specs.Geometry.{marks_in}
+use Rattle.law_machine.specs.Index.{entries_of}
 use Rattle.cs_index.proofs.Settled.{settled_so}
 use Rattle.cs_index.proofs.indexes.Index.settle_and_stage.Goals as goal
 

@@ -1,7 +1,7 @@
 use Rattle.std.proofs.Common.{◌≡◌, ◌≢◌, ◌∙◌, [], ℕ, subst, sym, Ok, Err}
 use Rattle.std.proofs.lemmas.Bool.{false≢true}
 use Rattle.cs_extent.specs.State.{shape}
-use Rattle.cs_model.specs.Extents.{ForRun}
+use Rattle.law_machine.specs.Extents.{ForRun}
 use Rattle.cs_index.specs.Merges.{stage_takes}
 use Rattle.cs_index.specs.Staged.{IsNewestStaged}
 use Rattle.cs_index.proofs.Exact.{exact_stage, newest_staged, stays_too}

@@ -3,7 +3,7 @@ use Rattle.std.proofs.lemmas.Bool.{false≢true}
 use Rattle.std.proofs.lemmas.Result.{IfOk-weaker}
 use Rattle.cs_extent.specs.Purposes.{reason_of}
 use Rattle.cs_extent.specs.State.{shape}
-use Rattle.cs_model.specs.Index.{live_at, lookup}
+use Rattle.law_machine.specs.Index.{live_at, lookup}
 use Rattle.cs_index.specs.State.{State, index_of, named_entry}
 use Rattle.cs_index.proofs.Chosen.{chosen_keeps, chosen_staged, chosen_why, either_way, refused_why}
 use Rattle.cs_index.proofs.Parts.{part_live, part_stays}

@@ -4,8 +4,8 @@ use Rattle.std.proofs.lemmas.Bool.{eqb-true, eqb-false}
 use Rattle.std.proofs.lemmas.Result.{IfOk-weaker}
 use Rattle.cs_extent.specs.Purposes.{reason_of}
 use Rattle.cs_extent.specs.State.{extents_of, shape}
-use Rattle.cs_model.specs.Element.{Entry}
-use Rattle.cs_model.specs.Extents.{GoesApart}
+use Rattle.law_machine.specs.Element.{Entry}
+use Rattle.law_machine.specs.Extents.{GoesApart}
 use Rattle.cs_frame.specs.Geometries.{IsKnown}
 use Rattle.cs_index.specs.Staged.{IsRootOver, WritesPart, run_frame}
 use Rattle.cs_index.specs.State.{named_entry}

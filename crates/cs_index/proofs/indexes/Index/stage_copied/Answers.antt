@@ -1,12 +1,12 @@
 use Rattle.std.proofs.Common.{◌≡◌, ◌∙◌, ap, arith, false, map, refl, subst, sym, List, Vec, ℕ}
 use Rattle.std.specs.declared.alloc.Global.{Global}
-use Rattle.cs_model.specs.Element.{Entry}
-use Rattle.cs_model.specs.Geometry.{weigh_in}
-use Rattle.cs_model.specs.Index.{live_at, named_weight, names}
-use Rattle.cs_model.specs.Tally.{shards}
+use Rattle.law_machine.specs.Element.{Entry}
+use Rattle.law_machine.specs.Geometry.{weigh_in}
+use Rattle.law_machine.specs.Index.{live_at, named_weight, names}
+use Rattle.law_machine.specs.Tally.{shards}
 use Rattle.cs_index.specs.contracts.indexes.Index.{the_view}
 use Rattle.cs_index.specs.Copies.{newest_copies}
-use Rattle.cs_index.specs.declared.runs.StoredRun.{StoredRun}
+use Rattle.cs_index.specs.declared.stored_runs.StoredRun.{StoredRun}
 use Rattle.cs_index.specs.Merges.{part}
 use Rattle.cs_index.specs.Apart.{IsStagedApart}
 use Rattle.cs_index.specs.State.{State, index_of, named_entry, newest_first, state_of}

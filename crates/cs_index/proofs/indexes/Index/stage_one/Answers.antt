@@ -8,10 +8,10 @@ use Rattle.cs_frame.proofs.GeometryLaws.{bounds}
 use Rattle.cs_frame.proofs.RootLaws.{most_runs}
 use Rattle.cs_frame.specs.Roots.{greatest_runs}
 use Rattle.cs_index.specs.contracts.indexes.Index.{the_view}
-use Rattle.cs_index.specs.declared.runs.StoredRun.{StoredRun}
-use Rattle.cs_model.specs.Element.{Run}
-use Rattle.cs_model.specs.Geometry.{weigh_in}
-use Rattle.cs_model.specs.Index.{run_weight}
+use Rattle.cs_index.specs.declared.stored_runs.StoredRun.{StoredRun}
+use Rattle.law_machine.specs.Element.{Run}
+use Rattle.law_machine.specs.Geometry.{weigh_in}
+use Rattle.law_machine.specs.Index.{run_weight}
 use Rattle.cs_index.specs.Staged.{IsRunStaged}
 use Rattle.cs_index.specs.State.{KeepTo, RunsKeepTo, index_of, named_entry, newest_first, state_of}
 use Rattle.cs_index.proofs.Living.{none_at_first}

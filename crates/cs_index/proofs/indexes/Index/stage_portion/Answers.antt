@@ -1,6 +1,6 @@
 use Rattle.std.proofs.Common.{◌≡◌, ◌<◌, Bool, false, inr, length, drop, rules, subst, sym, ℕ}
 use Rattle.cs_frame.specs.Roots.{greatest_runs}
-use Rattle.cs_model.specs.Extents.{ForRun}
+use Rattle.law_machine.specs.Extents.{ForRun}
 use Rattle.cs_index.specs.Staged.{IsExact, IsFull, IsStageWorn, WritesPart}
 use Rattle.cs_index.proofs.indexes.Index.stage_portion.Goals as goal
 

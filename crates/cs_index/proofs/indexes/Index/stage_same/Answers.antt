@@ -4,7 +4,7 @@ use Rattle.cs_extent.specs.State.{shape}
 use Rattle.cs_frame.specs.Geometries.{IsKnown}
 use Rattle.cs_frame.specs.Locators.{KeepFormat}
 use Rattle.cs_frame.specs.Roots.{greatest_runs}
-use Rattle.cs_index.specs.declared.runs.StoredRun.{StoredRun}
+use Rattle.cs_index.specs.declared.stored_runs.StoredRun.{StoredRun}
 use Rattle.cs_index.specs.contracts.indexes.Index.{the_view}
 use Rattle.cs_index.specs.Merges.{deletions_go}
 use Rattle.cs_index.specs.Staged.{IsRootOver}

@@ -1,5 +1,5 @@
 use Rattle.cs_index.specs.Copies.{newest_copies, settle_table}
-use Rattle.cs_model.specs.Index.{entries_of}
+use Rattle.law_machine.specs.Index.{entries_of}
 use Rattle.cs_index.proofs.Settled.{settled_so}
 use Rattle.cs_index.proofs.indexes.Index.stage_settled.Goals as goal
 

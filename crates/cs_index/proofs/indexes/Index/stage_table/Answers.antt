@@ -2,17 +2,17 @@ use Rattle.std.proofs.Common.{◌∙◌, ◌≡◌, ◌≢◌, ◌<◌, ◌≤�
 use Rattle.std.specs.List.{AllByRecursion}
 use Rattle.std.specs.declared.alloc.Global.{Global}
 use Rattle.cs_frame.specs.declared.identifiers.ShardId.{ShardId}
-use Rattle.cs_model.specs.Element.{Entry, Run}
-use Rattle.cs_model.specs.Extents.{ForRun}
-use Rattle.cs_model.specs.Geometry.{weigh_in}
-use Rattle.cs_model.specs.Index.{named_weight, names, run_weight}
+use Rattle.law_machine.specs.Element.{Entry, Run}
+use Rattle.law_machine.specs.Extents.{ForRun}
+use Rattle.law_machine.specs.Geometry.{weigh_in}
+use Rattle.law_machine.specs.Index.{named_weight, names, run_weight}
 use Rattle.cs_extent.specs.State.{shape}
 use Rattle.cs_frame.proofs.GeometryLaws.{bounds}
 use Rattle.cs_frame.proofs.RootLaws.{most_runs}
 use Rattle.cs_frame.specs.Roots.{greatest_runs}
-use Rattle.cs_model.specs.Tally.{shards}
+use Rattle.law_machine.specs.Tally.{shards}
 use Rattle.cs_index.specs.contracts.indexes.Index.{the_view}
-use Rattle.cs_index.specs.declared.runs.StoredRun.{StoredRun}
+use Rattle.cs_index.specs.declared.stored_runs.StoredRun.{StoredRun}
 use Rattle.cs_frame.specs.Formats.{place_of}
 use Rattle.cs_frame.specs.Locators.{KeepFormat}
 use Rattle.cs_frame.specs.Places.{Listed}

@@ -2,7 +2,7 @@ use Rattle.std.proofs.Common.{arith}
 use Rattle.cs_index.specs.contracts.indexes.Index.{the_view}
 use Rattle.cs_index.specs.State.{index_of}
 use Rattle.cs_index.proofs.Weights.{dead_light, living_left}
-use Rattle.cs_model.specs.Geometry.{weigh_in}
+use Rattle.law_machine.specs.Geometry.{weigh_in}
 use Rattle.cs_index.proofs.indexes.Index.weight_after.Goals as goal
 
 pub overflow_sub-result : goal.overflow_sub-result

@@ -1,5 +1,5 @@
 use Rattle.std.proofs.Common.{◌∙◌, ◌&&◌, ◌||◌, Bool, ap, length, nat_le, nat_lt, ℕ}
-use Rattle.cs_model.specs.Geometry.{by_size_in}
+use Rattle.law_machine.specs.Geometry.{by_size_in}
 use Rattle.cs_index.proofs.indexes.Index.whole_portion.Goals as goal
 
 pub returns-clause-deletions : goal.returns-clause-deletions

@@ -1,5 +1,5 @@
 use Rattle.std.proofs.Common.{subst}
-use Rattle.cs_deps.specs.declared.refusals.Refusal.{Refusal}
+use Rattle.cs_refusal.specs.declared.refusals.Refusal.{Refusal}
 use Rattle.cs_core.specs.declared.events.Event.TheVariants.{Settle}
 use Rattle.cs_node.specs.Locks.{Declines}
 use Rattle.cs_node.proofs.locked.Engine.settle.Goals as goal

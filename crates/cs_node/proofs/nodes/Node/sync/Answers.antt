@@ -1,5 +1,5 @@
 use Rattle.std.proofs.Common.{rules, inl, inr, arith, ◌∙◌}
-use Rattle.cs_deps.specs.declared.refusals.Refusal.{Refusal}
+use Rattle.cs_refusal.specs.declared.refusals.Refusal.{Refusal}
 use Rattle.cs_node.specs.Dues.{IsSyncRefused}
 use Rattle.cs_node.specs.Locks.{WhileLocked}
 use Rattle.cs_node.proofs.Going.{behind_at, if_same}

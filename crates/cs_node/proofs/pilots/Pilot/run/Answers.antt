@@ -1,4 +1,4 @@
-use Rattle.cs_deps.specs.declared.refusals.Refusal.{Refusal}
+use Rattle.cs_refusal.specs.declared.refusals.Refusal.{Refusal}
 use Rattle.cs_node.specs.Dues.{IsTurnRefused}
 use Rattle.cs_node.specs.Locks.{WhileLocked}
 use Rattle.cs_node.proofs.Going.{if_same}

@@ -1,5 +1,5 @@
 use Rattle.std.proofs.Common.{rules, suc, subst}
-use Rattle.cs_deps.specs.declared.refusals.Refusal.{Refusal}
+use Rattle.cs_refusal.specs.declared.refusals.Refusal.{Refusal}
 use Rattle.cs_node.specs.Locks.{WhileLocked}
 use Rattle.cs_node.specs.Sweeps.{IsSweepRefused}
 use Rattle.cs_node.proofs.reclaimers.Reclaimer.run.Goals as goal

@@ -1,7 +1,7 @@
 use Rattle.std.proofs.Common.{◌∙◌, ◌++◌, ◌∷◌, List, [], ap}
 use Rattle.cs_index.specs.Copies.{copy_of, newest_copies}
-use Rattle.cs_index.specs.declared.copies.ChunkCopy.{ChunkCopy}
-use Rattle.cs_model.specs.Element.{Copy}
+use Rattle.cs_index.specs.declared.counted_copies.ChunkCopy.{ChunkCopy}
+use Rattle.law_machine.specs.Element.{Copy}
 use Rattle.cs_reclaim.proofs.Noted.{noted_more}
 use Rattle.cs_reclaim.proofs.copies.Copies.append_copy.Goals as goal
 

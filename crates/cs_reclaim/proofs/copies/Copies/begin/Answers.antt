@@ -1,7 +1,7 @@
 use Rattle.std.proofs.Common.{◌∙◌, ap, inl, inr, refl, subst, sym}
 use Rattle.cs_extent.specs.State.{extents_of, shape}
-use Rattle.cs_model.specs.Device.{Shape}
-use Rattle.cs_model.specs.Extents.{Extents, other_than}
+use Rattle.law_machine.specs.Device.{Shape}
+use Rattle.law_machine.specs.Extents.{Extents, other_than}
 use Rattle.cs_reclaim.specs.Sweeps.{IsSweptApart}
 use Rattle.cs_reclaim.proofs.Marking.{begun_apart}
 use Rattle.cs_reclaim.proofs.Noted.{none_of}

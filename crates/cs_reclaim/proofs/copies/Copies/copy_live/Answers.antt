@@ -3,7 +3,7 @@ use Rattle.cs_chunk.specs.Reads.{IsNoAnswer, IsOfFault, fault_in}
 use Rattle.cs_extent.specs.Appended.{IsAppendedBy}
 use Rattle.cs_frame.specs.declared.frames.FrameKind.TheVariants.{Chunk}
 use Rattle.cs_frame.specs.Frames.{spelled_frame}
-use Rattle.cs_model.specs.Extents.{ForMove}
+use Rattle.law_machine.specs.Extents.{ForMove}
 use Rattle.cs_frame.proofs.GeometryLaws.{bounds}
 use Rattle.cs_reclaim.specs.Moves.{chunk_frame}
 use Rattle.cs_reclaim.proofs.Moving.{exact_answers, exact_cause, exact_place, exact_refusals, full_move, not_full, not_worn, on_ok, same_mark_there, small_payload, worn_move}

@@ -2,18 +2,18 @@ use Rattle.std.proofs.Common.{◌≡◌, ◌⊎◌, ℕ, List, None, refl, subst
 use Rattle.cs_chunk.specs.Chunks.{IsFrameIn}
 use Rattle.cs_chunk.specs.Newest.{AreNewest}
 use Rattle.cs_chunk.specs.Reads.{IsNoAnswer, IsOfFault, fault_in}
-use Rattle.cs_deps.specs.declared.refusals.Refusal.TheVariants.{Full, WornOut}
+use Rattle.cs_refusal.specs.declared.refusals.Refusal.TheVariants.{Full, WornOut}
 use Rattle.cs_disk.specs.Disk.{seen}
 use Rattle.cs_frame.specs.declared.frames.FrameKind.TheVariants.{Chunk}
 use Rattle.cs_frame.specs.declared.locators.Locator.{Locator}
 use Rattle.cs_frame.specs.Formats.{as_locator, place_of}
 use Rattle.cs_index.proofs.Living.{nth_in}
 use Rattle.cs_index.specs.State.{id_number, index_of}
-use Rattle.cs_model.specs.Apart.{AllCopied}
-use Rattle.cs_model.specs.Element.{Locator as Place}
-use Rattle.cs_model.specs.Extents.{ForMove}
-use Rattle.cs_model.specs.Formats.{ChunkFrame}
-use Rattle.cs_model.specs.Index.{live_at}
+use Rattle.law_machine.specs.Apart.{AllCopied}
+use Rattle.law_machine.specs.Element.{Locator as Place}
+use Rattle.law_machine.specs.Extents.{ForMove}
+use Rattle.law_machine.specs.Formats.{ChunkFrame}
+use Rattle.law_machine.specs.Index.{live_at}
 use Rattle.cs_reclaim.specs.Moves.{chunk_frame}
 use Rattle.cs_reclaim.proofs.Copying.{found_left, left_there, none_left, one_left, order_after, up_to_after}
 use Rattle.cs_reclaim.proofs.Made.{copy_made, number_small}

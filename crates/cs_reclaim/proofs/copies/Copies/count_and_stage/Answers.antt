@@ -3,8 +3,8 @@ use Rattle.std.specs.Prelude.{slice_index}
 use Rattle.cs_extent.specs.Frames.{root_family}
 use Rattle.cs_extent.specs.State.{shape, extents_of}
 use Rattle.cs_index.specs.Copies.{IsSettled, newest_copies}
-use Rattle.cs_model.specs.Device.{Shape}
-use Rattle.cs_model.specs.Element.{Copy}
+use Rattle.law_machine.specs.Device.{Shape}
+use Rattle.law_machine.specs.Element.{Copy}
 use Rattle.cs_reclaim.specs.Rooted.{IsRootedApart}
 use Rattle.cs_reclaim.proofs.Resting.{none_rest, staged_format, staged_limit, staged_root, staged_shape, staged_small}
 use Rattle.cs_reclaim.proofs.copies.Copies.count_and_stage.Goals as goal

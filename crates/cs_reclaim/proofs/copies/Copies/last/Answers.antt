@@ -1,5 +1,5 @@
 use Rattle.std.proofs.Common.{◌∙◌, ◌-◌, List, ap, length, slice_get, sym}
-use Rattle.cs_index.specs.declared.copies.ChunkCopy.{ChunkCopy}
+use Rattle.cs_index.specs.declared.counted_copies.ChunkCopy.{ChunkCopy}
 use Rattle.cs_reclaim.proofs.Noted.{last_noted}
 use Rattle.cs_reclaim.proofs.copies.Copies.last.Goals as goal
 

@@ -1,5 +1,5 @@
 use Rattle.std.proofs.Common.{◌≡◌, ◌∙◌, ◌+◌, ◌<◌, ◌≤◌, ◌==◌, ◌⊎◌, ℕ, Err, Ok, Result, ap, length, refl, subst, sym, true}
-use Rattle.cs_deps.specs.declared.refusals.Refusal.{Refusal}
+use Rattle.cs_refusal.specs.declared.refusals.Refusal.{Refusal}
 use Rattle.cs_deps.specs.Staging.{Staging}
 use Rattle.cs_deps.specs.State.{State as GraphState}
 use Rattle.cs_extent.specs.Frames.{AreResetsStaged}
@@ -8,9 +8,9 @@ use Rattle.cs_frame.specs.Formats.{place_of}
 use Rattle.cs_index.specs.Apart.{IsStageFullApart, IsStageWornApart}
 use Rattle.cs_index.specs.declared.live.LiveChunk.{LiveChunk}
 use Rattle.cs_index.specs.State.{id_number, index_of}
-use Rattle.cs_model.specs.Apart.{AllCopied}
-use Rattle.cs_model.specs.Device.{Shape}
-use Rattle.cs_model.specs.Extents.{Extents}
+use Rattle.law_machine.specs.Apart.{AllCopied}
+use Rattle.law_machine.specs.Device.{Shape}
+use Rattle.law_machine.specs.Extents.{Extents}
 use Rattle.cs_reclaim.specs.Rooted.{IsUnmarked}
 use Rattle.cs_reclaim.proofs.Left.{all_there, exact_not_alive, exact_refusals, last_same, some_there}
 use Rattle.cs_reclaim.proofs.copies.Copies.retire.Goals as goal

@@ -1,7 +1,7 @@
 use Rattle.std.proofs.Common.{◌∙◌, ap, arith}
 use Rattle.std.specs.Prelude.{slice_index}
 use Rattle.cs_extent.specs.Frames.{root_family}
-use Rattle.cs_model.specs.Device.{Shape}
+use Rattle.law_machine.specs.Device.{Shape}
 use Rattle.cs_reclaim.proofs.Resting.{staged_format, staged_limit, staged_root, staged_shape, staged_small}
 use Rattle.cs_reclaim.proofs.copies.Copies.stage_root.Goals as goal
 

@@ -1,7 +1,7 @@
 use Rattle.std.proofs.Common.{refl, subst, sym}
 use Rattle.cs_extent.specs.State.{extents_of, shape}
-use Rattle.cs_model.specs.Device.{Shape}
-use Rattle.cs_model.specs.Extents.{Extents}
+use Rattle.law_machine.specs.Device.{Shape}
+use Rattle.law_machine.specs.Extents.{Extents}
 use Rattle.cs_reclaim.specs.Sweeps.{IsSwept}
 use Rattle.cs_reclaim.proofs.Sweeping.{begun}
 use Rattle.cs_reclaim.proofs.sweeps.Sweep.begin.Goals as goal

@@ -2,17 +2,17 @@ use Rattle.std.proofs.Common.{◌≡◌, ◌⊎◌, ℕ, List, None, refl, subst
 use Rattle.cs_chunk.specs.Chunks.{IsFrameIn}
 use Rattle.cs_chunk.specs.Newest.{AreNewest}
 use Rattle.cs_chunk.specs.Reads.{IsNoAnswer, IsOfFault, fault_in}
-use Rattle.cs_deps.specs.declared.refusals.Refusal.TheVariants.{Full, WornOut}
+use Rattle.cs_refusal.specs.declared.refusals.Refusal.TheVariants.{Full, WornOut}
 use Rattle.cs_disk.specs.Disk.{seen}
 use Rattle.cs_frame.specs.declared.frames.FrameKind.TheVariants.{Chunk}
 use Rattle.cs_frame.specs.declared.locators.Locator.{Locator}
 use Rattle.cs_frame.specs.Formats.{as_locator, place_of}
 use Rattle.cs_index.proofs.Living.{nth_in}
 use Rattle.cs_index.specs.State.{id_number, index_of}
-use Rattle.cs_model.specs.Element.{Locator as Place}
-use Rattle.cs_model.specs.Extents.{ForMove}
-use Rattle.cs_model.specs.Formats.{ChunkFrame}
-use Rattle.cs_model.specs.Index.{NothingLive, live_at}
+use Rattle.law_machine.specs.Element.{Locator as Place}
+use Rattle.law_machine.specs.Extents.{ForMove}
+use Rattle.law_machine.specs.Formats.{ChunkFrame}
+use Rattle.law_machine.specs.Index.{NothingLive, live_at}
 use Rattle.cs_reclaim.specs.Moves.{chunk_frame}
 use Rattle.cs_reclaim.proofs.Living.{live_there, one_place}
 use Rattle.cs_reclaim.proofs.Moving.{done_cause, first_here, move_made, not_none, same_answer}

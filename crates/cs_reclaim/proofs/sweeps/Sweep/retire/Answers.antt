@@ -1,7 +1,7 @@
 use Rattle.std.proofs.Common.{ℕ, subst}
 use Rattle.cs_index.specs.Staged.{IsWhy}
 use Rattle.cs_index.specs.State.{index_of}
-use Rattle.cs_model.specs.Index.{NothingLive}
+use Rattle.law_machine.specs.Index.{NothingLive}
 use Rattle.cs_reclaim.specs.Retired.{IsRetireFull, IsRetireWorn}
 use Rattle.cs_reclaim.proofs.Retiring.{alive_err, alive_ok}
 use Rattle.cs_reclaim.proofs.sweeps.Sweep.retire.Goals as goal

@@ -1,7 +1,7 @@
 use Rattle.cs_disk.specs.Disk.{seen}
 use Rattle.cs_frame.specs.Geometries.{section_size}
-use Rattle.cs_model.specs.Geometry.{shape_of}
-use Rattle.cs_pair.specs.Showing.{shown_on}
+use Rattle.law_machine.specs.Geometry.{shape_of}
+use Rattle.cs_mount.specs.Showing.{shown_on}
 use Rattle.cs_store.proofs.Maps.{opened_map}
 use Rattle.cs_store.proofs.mounts.Store+Mounted+D.open_mounted.Goals as goal
 

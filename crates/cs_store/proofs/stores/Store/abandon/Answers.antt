@@ -1,14 +1,14 @@
 use Rattle.std.proofs.Common.{◌≡◌, ◌∙◌, ◌⊎◌, ◌∷◌, [], inl, inr, refl, subst, sym}
 use Rattle.std.specs.Prelude.{false}
-use Rattle.cs_deps.specs.declared.refusals.Refusal.{Refusal}
+use Rattle.cs_refusal.specs.declared.refusals.Refusal.{Refusal}
 use Rattle.cs_disk.specs.Disk.{Leaves}
 use Rattle.cs_core.specs.Views.{View}
-use Rattle.cs_drive.proofs.Runs.{ran_call, ran_none}
+use Rattle.cs_writeback.proofs.Runs.{ran_call, ran_none}
 use Rattle.cs_extent.specs.State.{extents_of}
-use Rattle.cs_model.specs.Extents.{marked}
+use Rattle.law_machine.specs.Extents.{marked}
 use Rattle.cs_core.specs.declared.events.Event.TheVariants.{Abandon}
 use Rattle.cs_core.specs.declared.events.Reply.TheVariants.{Abandoned}
-use Rattle.cs_drive.specs.Histories.{IsStopped, Went}
+use Rattle.cs_writeback.specs.Histories.{IsStopped, Went}
 use Rattle.cs_store.specs.declared.errors.SweepError.{SweepError}
 use Rattle.cs_store.specs.declared.errors.SweepError.TheVariants as sweep
 use Rattle.cs_store.specs.Errors.{sweep_refusal}

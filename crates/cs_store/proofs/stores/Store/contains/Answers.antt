@@ -1,7 +1,7 @@
 use Rattle.std.proofs.Common.{subst}
 use Rattle.cs_extent.specs.State.{IsWhole}
 use Rattle.cs_index.specs.State.{id_number}
-use Rattle.cs_model.specs.State.{map_now}
+use Rattle.law_machine.specs.State.{map_now}
 use Rattle.cs_store.proofs.Getting.{map_is, there_is}
 use Rattle.cs_store.proofs.stores.Store.contains.Goals as goal
 

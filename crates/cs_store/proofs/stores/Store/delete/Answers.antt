@@ -1,7 +1,7 @@
 use Rattle.std.proofs.Common.{◌∙◌, ap, inl, inr, refl, subst, sym}
 use Rattle.cs_disk.specs.Disk.{Leaves}
 use Rattle.cs_core.specs.Views.{View}
-use Rattle.cs_drive.proofs.Runs.{ran_none}
+use Rattle.cs_writeback.proofs.Runs.{ran_none}
 use Rattle.cs_extent.specs.State.{IsWhole}
 use Rattle.cs_core.specs.declared.events.Event.TheVariants.{Delete}
 use Rattle.cs_core.specs.declared.events.Reply.TheVariants.{Absent, Accepted}

@@ -2,8 +2,8 @@ use Rattle.std.proofs.Common.{List, subst}
 use Rattle.std.specs.Prelude.{MatchOption}
 use Rattle.cs_frame.specs.Formats.{place_of}
 use Rattle.cs_index.specs.State.{id_number}
-use Rattle.cs_model.specs.Element.{Entry}
-use Rattle.cs_model.specs.Index.{FirstLive, NothingLive}
+use Rattle.law_machine.specs.Element.{Entry}
+use Rattle.law_machine.specs.Index.{FirstLive, NothingLive}
 use Rattle.cs_store.proofs.Listing.{index_shown}
 use Rattle.cs_store.proofs.stores.Store.first_on.Goals as goal
 

@@ -2,7 +2,7 @@ use Rattle.std.proofs.Common.{◌≡◌, IfOk, IfSome, List, subst, sym, ℕ}
 use Rattle.cs_disk.specs.Disk.{Rises}
 use Rattle.cs_extent.specs.State.{IsWhole}
 use Rattle.cs_index.specs.State.{id_number}
-use Rattle.cs_model.specs.State.{map_now}
+use Rattle.law_machine.specs.State.{map_now}
 use Rattle.cs_core.specs.Lookups.{AreMeantBytes}
 use Rattle.cs_store.specs.declared.errors.GetError.{GetError}
 use Rattle.cs_store.specs.declared.errors.GetError.TheVariants.{DeviceFault}

@@ -2,9 +2,9 @@ use Rattle.std.proofs.Common.{◌≢◌, IfOk, List, None, [], map, subst}
 use Rattle.std.proofs.lemmas.Result.{IfOk-weaker}
 use Rattle.cs_extent.specs.State.{IsWhole}
 use Rattle.cs_index.specs.State.{id_number, index_of}
-use Rattle.cs_model.specs.Element.{Entry}
-use Rattle.cs_model.specs.Index.{live_at}
-use Rattle.cs_survey.specs.Listings.{AreFirst}
+use Rattle.law_machine.specs.Element.{Entry}
+use Rattle.law_machine.specs.Index.{live_at}
+use Rattle.cs_inspect.specs.Listings.{AreFirst}
 use Rattle.cs_store.proofs.Listing.{first_alike, index_shown, is_there}
 use Rattle.cs_store.proofs.stores.Store.ids_from.Goals as goal
 

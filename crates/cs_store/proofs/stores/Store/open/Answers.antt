@@ -1,6 +1,6 @@
 use Rattle.cs_disk.specs.Disk.{seen}
 use Rattle.cs_frame.specs.Geometries.{section_size}
-use Rattle.cs_model.specs.Geometry.{shape_of}
+use Rattle.law_machine.specs.Geometry.{shape_of}
 use Rattle.cs_store.proofs.Maps.{opened_map}
 use Rattle.cs_store.proofs.stores.Store.open.Goals as goal
 

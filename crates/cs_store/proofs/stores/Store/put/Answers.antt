@@ -1,7 +1,7 @@
 use Rattle.std.proofs.Common.{◌∙◌, ap, inl, inr, refl, subst, sym}
 use Rattle.cs_disk.specs.Disk.{Leaves}
 use Rattle.cs_core.specs.Views.{View}
-use Rattle.cs_drive.proofs.Runs.{ran_none}
+use Rattle.cs_writeback.proofs.Runs.{ran_none}
 use Rattle.cs_store.specs.Errors.{put_refusal}
 use Rattle.cs_store.proofs.Accepting.{accepts_none}
 use Rattle.cs_store.proofs.Commanding.{put_adds, put_declines, put_does, put_maps, put_number}

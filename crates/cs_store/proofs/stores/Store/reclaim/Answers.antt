@@ -1,17 +1,18 @@
 use Rattle.std.proofs.Common.{◌≡◌, ◌∙◌, ◌⊎◌, ℕ, Option, Some, inl, inr, refl, subst, sym}
 use Rattle.cs_core.specs.Views.{View}
-use Rattle.cs_deps.specs.declared.refusals.Refusal.{Refusal}
-use Rattle.cs_deps.specs.declared.refusals.Refusal.TheVariants.{OutOfMemory}
+use Rattle.cs_refusal.specs.declared.refusals.Refusal.{Refusal}
+use Rattle.cs_refusal.specs.declared.refusals.Refusal.TheVariants.{OutOfMemory}
 use Rattle.cs_disk.specs.Disk.{Leaves}
-use Rattle.cs_drive.proofs.Runs.{ran_none}
+use Rattle.cs_writeback.proofs.Runs.{ran_none}
 use Rattle.cs_index.specs.State.{index_of}
-use Rattle.cs_model.specs.Index.{names}
-use Rattle.cs_survey.specs.Uses.{heads_of}
+use Rattle.law_machine.specs.Index.{names}
+use Rattle.cs_inspect.specs.Choices.{GoesBy, ReadsOn}
+use Rattle.cs_inspect.specs.Uses.{heads_of}
 use Rattle.cs_store.specs.declared.errors.SweepError.{SweepError}
 use Rattle.cs_store.specs.declared.reclaims.Reclaimed.{Reclaimed}
 use Rattle.cs_store.specs.Errors.{sweep_refusal}
 use Rattle.cs_store.specs.Events.{IsHalted}
-use Rattle.cs_store.specs.Reclaims.{DeclinesChosen, GoesBy, ReadsOn, Reclaims, reclaimed_extent}
+use Rattle.cs_store.specs.Reclaims.{DeclinesChosen, Reclaims, reclaimed_extent}
 use Rattle.cs_store.specs.Sweeps.{DeclinesSweep, SweepsReady}
 use Rattle.cs_store.proofs.Accepting.{accepts_none}
 use Rattle.cs_store.proofs.Maps.{map_kept}

@@ -3,8 +3,8 @@ use Rattle.cs_disk.specs.Disk.{Rises}
 use Rattle.cs_extent.specs.State.{IsWhole}
 use Rattle.cs_frame.specs.Formats.{as_locator}
 use Rattle.cs_index.specs.State.{id_number, index_of}
-use Rattle.cs_model.specs.Index.{live_at}
-use Rattle.cs_model.specs.State.{map_now}
+use Rattle.law_machine.specs.Index.{live_at}
+use Rattle.law_machine.specs.State.{map_now}
 use Rattle.cs_store.specs.declared.sizes.SizeError.{SizeError}
 use Rattle.cs_store.specs.declared.sizes.SizeError.TheVariants.{DeviceFault}
 use Rattle.cs_store.specs.Sizes.{IsSaidByHeaders, IsSized}

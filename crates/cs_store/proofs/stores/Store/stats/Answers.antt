@@ -1,8 +1,8 @@
 use Rattle.std.proofs.Common.{◌≢◌, None, [], subst}
 use Rattle.cs_extent.specs.State.{IsWhole}
 use Rattle.cs_index.specs.State.{index_of}
-use Rattle.cs_model.specs.Index.{live_at}
-use Rattle.cs_scrub.proofs.Crashing.{crash_still}
+use Rattle.law_machine.specs.Index.{live_at}
+use Rattle.cs_inspect.proofs.Crashing.{crash_still}
 use Rattle.cs_store.proofs.Listing.{count_alike, counted_so, is_there}
 use Rattle.cs_store.proofs.stores.Store.stats.Goals as goal
 

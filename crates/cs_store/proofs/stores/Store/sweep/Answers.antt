@@ -1,9 +1,9 @@
 use Rattle.std.proofs.Common.{◌∙◌, ◌⊎◌, inl, inr, refl, subst, sym}
 use Rattle.cs_disk.specs.Disk.{Leaves}
 use Rattle.cs_core.specs.Views.{View}
-use Rattle.cs_drive.proofs.Runs.{ran_none}
-use Rattle.cs_deps.specs.declared.refusals.Refusal.{Refusal}
-use Rattle.cs_drive.specs.declared.sweeps.Swept.{Swept}
+use Rattle.cs_writeback.proofs.Runs.{ran_none}
+use Rattle.cs_refusal.specs.declared.refusals.Refusal.{Refusal}
+use Rattle.cs_writeback.specs.declared.whole_sweeps.Swept.{Swept}
 use Rattle.cs_store.specs.declared.errors.SweepError.{SweepError}
 use Rattle.cs_store.specs.Errors.{sweep_refusal}
 use Rattle.cs_store.specs.Events.{IsHalted}

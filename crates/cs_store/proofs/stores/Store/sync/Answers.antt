@@ -1,9 +1,9 @@
 use Rattle.std.proofs.Common.{◌≡◌, ◌∙◌, ◌⊎◌, inl, inr, refl, subst, sym}
-use Rattle.cs_deps.specs.declared.refusals.Refusal.{Refusal}
+use Rattle.cs_refusal.specs.declared.refusals.Refusal.{Refusal}
 use Rattle.cs_disk.specs.Disk.{Leaves}
 use Rattle.cs_core.specs.Views.{View}
-use Rattle.cs_drive.proofs.Runs.{ran_none}
-use Rattle.cs_drive.specs.Syncs.{StopsSync}
+use Rattle.cs_writeback.proofs.Runs.{ran_none}
+use Rattle.cs_writeback.specs.Syncs.{StopsSync}
 use Rattle.cs_store.specs.declared.errors.SyncError.{SyncError}
 use Rattle.cs_store.specs.Errors.{sync_refusal}
 use Rattle.cs_store.specs.Events.{IsHalted}

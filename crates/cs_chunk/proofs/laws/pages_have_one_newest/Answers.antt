@@ -1,5 +1,0 @@
-use Rattle.cs_chunk.proofs.Newest.{one_view}
-use Rattle.cs_chunk.proofs.laws.pages_have_one_newest.Goals as goal
-
-pub returns : goal.returns
-returns c = one_view

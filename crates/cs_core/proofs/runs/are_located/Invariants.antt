@@ -1,6 +1,0 @@
-use Rattle.std.proofs.Common.{take}
-use Rattle.cs_image.specs.Reads.{AreLocated}
-use Rattle.cs_core.proofs.runs.are_located.Given as goal
-
-abbrev pub invariant-loop-k : goal.invariant-loop-k
-invariant-loop-k l = AreLocated l.extents (take l.k l.runs)

@@ -1,5 +1,0 @@
-use Rattle.cs_frame.proofs.RunSizes.{spelled_size}
-use Rattle.cs_frame.proofs.laws.runs_have_sizes.Goals as goal
-
-pub returns : goal.returns
-returns c = λ payload format entries s. spelled_size payload format entries s

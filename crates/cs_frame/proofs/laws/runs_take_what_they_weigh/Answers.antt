@@ -1,5 +1,0 @@
-use Rattle.cs_frame.proofs.RunWeights.{fits_where, payload_weighs, size_weighs}
-use Rattle.cs_frame.proofs.laws.runs_take_what_they_weigh.Goals as goal
-
-pub returns : goal.returns
-returns c = record { size = size_weighs; payload = payload_weighs; pages = fits_where }

@@ -1,9 +1,0 @@
-use Rattle.std.specs.Prelude.{take, [], ◌++◌, cond, flat_map, decimal, codes, ◌∷◌}
-use Rattle.std.specs.Io.KnownBytes.{Appends}
-use Rattle.cs_check.specs.Documents.{elements_in}
-use Rattle.cs_graph.specs.Picture.{arrow_line, bold_line, element_line, is_named, line_of, link_lines, member_line, need_lines, quote, rounds_lines, target_line}
-use Rattle.cs_graph.proofs.Steps.{members_of}
-use Rattle.cs_graph.proofs.lines.draw_members.Given as goal
-
-abbrev pub invariant-loop-element : goal.invariant-loop-element
-invariant-loop-element g l = Appends (g.W.Write.contents l.initial.writer) (g.W.Write.contents l.writer) (flat_map (member_line l.letters) (take l.element-index l.round))

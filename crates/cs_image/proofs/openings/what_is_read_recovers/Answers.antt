@@ -1,5 +1,0 @@
-use Rattle.cs_image.proofs.openings.what_is_read_recovers.Goals as goal
-use Rattle.cs_image.proofs.Found.{read_recovers}
-
-pub returns : goal.returns
-returns c = λ view format versions records pages written root commands runs not are read. read_recovers view format versions records pages written root commands runs read not are

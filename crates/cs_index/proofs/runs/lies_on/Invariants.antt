@@ -1,7 +1,0 @@
-use Rattle.std.proofs.Common.{◌≡◌, take}
-use Rattle.cs_model.specs.Apart.{any_run_on}
-use Rattle.cs_index.specs.State.{newest_first}
-use Rattle.cs_index.proofs.runs.lies_on.Given as goal
-
-abbrev pub invariant-loop-k : goal.invariant-loop-k
-invariant-loop-k l = l.found ≡ any_run_on (newest_first (take l.k l.runs)) l.extent

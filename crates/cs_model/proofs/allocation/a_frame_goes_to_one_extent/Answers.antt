@@ -1,5 +1,0 @@
-use Rattle.cs_model.proofs.allocation.a_frame_goes_to_one_extent.Goals as goal
-use Rattle.cs_model.proofs.Places.{placed_one}
-
-pub returns : goal.returns
-returns c = placed_one

@@ -1,6 +1,0 @@
-use Rattle.cs_model.proofs.allocation.appends_are_deterministic.Goals as goal
-use Rattle.std.proofs.Common.{false}
-use Rattle.cs_model.proofs.Needs.{append_one}
-
-pub returns : goal.returns
-returns c = λ S w v u purpose bs l other. append_one S false w v u purpose bs l other

@@ -1,5 +1,0 @@
-use Rattle.cs_model.proofs.crashes.a_crash_leaves_a_prefix.Goals as goal
-use Rattle.cs_model.proofs.Crash.{leaves_prefix}
-
-pub returns : goal.returns
-returns c = λ S F s mask shape format sound. leaves_prefix S F shape format s sound mask

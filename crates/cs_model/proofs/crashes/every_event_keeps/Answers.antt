@@ -1,6 +1,0 @@
-use Rattle.cs_model.proofs.crashes.every_event_keeps.Goals as goal
-use Rattle.cs_model.proofs.Keeps.{steps}
-
-pub returns : goal.returns
-returns c = λ S F s t event reply shape format sound bounded step.
-    steps S F shape format s t event reply sound bounded step

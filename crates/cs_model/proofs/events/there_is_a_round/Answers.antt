@@ -1,8 +1,0 @@
-use Rattle.cs_model.proofs.events.there_is_a_round.Goals as goal
-use Rattle.cs_model.proofs.Taking.{some_round, some_members}
-
-pub returns : goal.returns
-returns c = λ S F s sound.
-    let round = some_round S F s.opened s.world sound.safe in
-    let members = some_members S F s.opened s.world sound.safe round.0 in
-    (round.0, round.1, members.0, members.1, members.2)

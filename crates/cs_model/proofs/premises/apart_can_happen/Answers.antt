@@ -1,5 +1,0 @@
-use Rattle.cs_model.proofs.premises.apart_can_happen.Goals as goal
-use Rattle.cs_model.proofs.ApartHappens.{abandoned_there, is_new, retired_there, shape}
-
-pub returns : goal.returns
-returns c = record { new = (shape, is_new); retired = retired_there; abandoned = abandoned_there }

@@ -1,5 +1,0 @@
-use Rattle.cs_model.proofs.recovery.an_image_gives_one_map.Goals as goal
-use Rattle.cs_model.proofs.Unique.{one_recovery}
-
-pub returns : goal.returns
-returns c = λ S F img n k m o shape format a b. one_recovery S F shape format img n k m o a b

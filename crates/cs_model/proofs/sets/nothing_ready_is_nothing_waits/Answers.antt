@@ -1,5 +1,0 @@
-use Rattle.cs_model.proofs.sets.nothing_ready_is_nothing_waits.Goals as goal
-use Rattle.cs_model.proofs.Waiting.{none_waits, none_ready}
-
-pub returns : goal.returns
-returns c = λ S F s sound. (none_waits S F s.opened s.world sound.safe, none_ready S F s.opened s.world sound.safe)

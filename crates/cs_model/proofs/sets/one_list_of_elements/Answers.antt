@@ -1,5 +1,0 @@
-use Rattle.cs_model.proofs.sets.one_list_of_elements.Goals as goal
-use Rattle.cs_model.proofs.Lists.{one_list}
-
-pub returns : goal.returns
-returns c = λ S F X opened p elements shape right. one_list S F shape X opened p elements right

@@ -1,5 +1,0 @@
-use Rattle.cs_model.proofs.writeback.a_flush_makes_the_next_image.Goals as goal
-use Rattle.cs_model.proofs.Device.{flush_makes}
-
-pub returns : goal.returns
-returns c = λ S F s p shape sound busy none. flush_makes S F shape s sound busy none p

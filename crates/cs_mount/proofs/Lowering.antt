@@ -1,0 +1,63 @@
+-- A section that records an older root is one too, and what pages show as of a root.
+use Rattle.std.proofs.Common.{◌≡◌, ◌≢◌, ◌≤◌, ℕ, List, [], ◌∷◌, Option, Some, Result, Ok, Err, OnOk, min, slice_index, sym, ◌∙◌, ap, subst, arith}
+use Rattle.std.specs.List.{AllByRecursion}
+use Rattle.std.proofs.Math.Nat.{min-le_left}
+use Rattle.cs_frame.specs.Bytes.{number}
+use Rattle.cs_frame.specs.declared.faults.FormatFault.{FormatFault}
+use Rattle.cs_frame.specs.declared.faults.FormatFault.TheVariants.{OutOfMemory}
+use Rattle.cs_frame.specs.declared.superblocks.Superblock.{Superblock}
+use Rattle.cs_frame.specs.Faults.{HasFault}
+use Rattle.cs_frame.specs.Pointers.{FitsExtent}
+use Rattle.cs_frame.specs.Superblocks.{FitsSuperblock, IsSuperblock, SpellsSuperblock, spelled_superblock, superblock_extents, superblock_fault, superblock_record}
+use Rattle.cs_frame.proofs.SuperblockLaws as superblocks
+use Rattle.cs_mount.specs.Lowered.{lowered_by, lowered_page}
+
+-- the pointers of a section
+pub within : (pages : ℕ) (rows : List (ℕ × ℕ)) → AllByRecursion (FitsExtent pages) rows → AllByRecursion (λ (extent : ℕ × ℕ). extent.0 ≤ pages) rows
+within pages [] each = tt
+within pages (row ∷ rows) each = (each.0.pointer, within pages rows each.1)
+
+pub lowered_fits : (it : Superblock) (root : ℕ) → FitsSuperblock it.format it.version it.recorded it.extent_count it.pages it.sections it.section it.extents.items → IsSuperblock (record it { recorded = min it.recorded root })
+lowered_fits it root fits = record {
+  first_version = fits.first_version;
+  last_version = fits.last_version;
+  recorded_fits = let less = min-le_left it.recorded root in omega (arith, less, fits.recorded_fits);
+  geometry = fits.geometry;
+  one_of_them = fits.one_of_them;
+  count = fits.count;
+  pointers = within it.pages it.extents.items fits.each;
+}
+
+-- a section that is spelled anew
+module _ (page : List ℕ) (root version recorded extents pages sections section : ℕ) (written : List (ℕ × ℕ)) (spells : SpellsSuperblock page 3 version recorded extents pages sections section written) where
+  pub page_lowered : lowered_page root page ≡ spelled_superblock 3 version (min recorded root) extents pages sections section written
+  page_lowered =
+      let none = superblocks.spelled_has_none page 3 version recorded extents pages sections section written spells in
+      let read = superblocks.one_section page 3 version recorded extents pages sections section written spells in
+      ap (λ (o : Option FormatFault). lowered_by o root page) none
+      ∙ ap (λ (n : ℕ). spelled_superblock 3 n (min (superblock_record 3 page) root) (number 12 14 page) (number 14 16 page) (slice_index page 16) (slice_index page 17) (superblock_extents 3 page)) read.of_version
+      ∙ ap (λ (n : ℕ). spelled_superblock 3 version (min n root) (number 12 14 page) (number 14 16 page) (slice_index page 16) (slice_index page 17) (superblock_extents 3 page)) read.of_record
+      ∙ ap (λ (n : ℕ). spelled_superblock 3 version (min recorded root) n (number 14 16 page) (slice_index page 16) (slice_index page 17) (superblock_extents 3 page)) read.of_extents
+      ∙ ap (λ (n : ℕ). spelled_superblock 3 version (min recorded root) extents n (slice_index page 16) (slice_index page 17) (superblock_extents 3 page)) read.of_pages
+      ∙ ap (λ (n : ℕ). spelled_superblock 3 version (min recorded root) extents pages n (slice_index page 17) (superblock_extents 3 page)) read.of_sections
+      ∙ ap (λ (n : ℕ). spelled_superblock 3 version (min recorded root) extents pages sections n (superblock_extents 3 page)) read.of_section
+      ∙ ap (λ (es : List (ℕ × ℕ)). spelled_superblock 3 version (min recorded root) extents pages sections section es) read.of_written
+
+-- what the code makes of it
+pub lowers : (page new : List ℕ) (root : ℕ) (it low : Superblock) → it.format ≡ 3 → SpellsSuperblock page it.format it.version it.recorded it.extent_count it.pages it.sections it.section it.extents.items
+    → low ≡ record it { recorded = min it.recorded root } → SpellsSuperblock new low.format low.version low.recorded low.extent_count low.pages low.sections low.section low.extents.items → new ≡ lowered_page root page
+lowers page new root it low three spells is spelled =
+    spelled.spelled
+    ∙ ap (λ (z : Superblock). spelled_superblock z.format z.version z.recorded z.extent_count z.pages z.sections z.section z.extents.items) is
+    ∙ ap (λ f. spelled_superblock f it.version (min it.recorded root) it.extent_count it.pages it.sections it.section it.extents.items) three
+    ∙ sym (page_lowered page root it.version it.recorded it.extent_count it.pages it.sections it.section it.extents.items
+    (subst (λ f. SpellsSuperblock page f it.version it.recorded it.extent_count it.pages it.sections it.section it.extents.items) three spells))
+
+-- bytes that spell none
+pub stays_of : (page : List ℕ) (root : ℕ) (fault : FormatFault) → superblock_fault 3 page ≡ Some fault → page ≡ lowered_page root page
+stays_of page root fault is = sym (ap (λ (o : Option FormatFault). lowered_by o root page) is)
+
+pub stays_by : {T R E : Type 0} (result : Result T FormatFault) (fault : FormatFault) (told : Result R E) (page : List ℕ) (root : ℕ) → HasFault result (superblock_fault 3 page) → result ≡ Err fault → OnOk told (fault ≢ OutOfMemory)
+    → OnOk told (page ≡ lowered_page root page)
+stays_by result fault (Ok t) page root has is other = stays_of page root fault ((has fault other).0 is)
+stays_by result fault (Err e) page root has is other = tt

@@ -1,0 +1,5 @@
+use Rattle.cs_disk.proofs.OnlyRead.{reads_on}
+use Rattle.cs_mount.proofs.store_pairs.find_geometry.Goals as goal
+
+pub returns-in-Ok-None-clause-disk : goal.returns-in-Ok-None-clause-disk
+returns-in-Ok-None-clause-disk g c = reads_on g.D.PageDisk c.args.disk.now c.read_zero.new.disk c.read_last.new.disk c.read_zero.ensures.disk c.read_last.ensures.disk

@@ -1,0 +1,23 @@
+-- What clauses see of a disk that shows a store as of an older root.
+use Rattle.std.specs.Prelude.{ℕ}
+use Rattle.cs_disk.specs.declared.disk.PageDisk.{Ghosts as PageDisk}
+use Rattle.cs_disk.specs.Disk.{State}
+use Rattle.cs_frame.specs.Geometries.{Dimensions}
+use Rattle.cs_mount.specs.declared.as_of.AsOf.{AsOf}
+use Rattle.cs_mount.specs.Lowered.{lowered_state}
+
+-- the disk below
+abbrev pub shown_below : {D : Type 0} {disks : PageDisk D} → AsOf D disks → D
+shown_below d = d.disk
+
+-- the dimensions of the store
+abbrev pub dimensions_of : {D : Type 0} {disks : PageDisk D} → AsOf D disks → Dimensions
+dimensions_of d = d.geometry
+
+-- the version of the root
+abbrev pub root_of : {D : Type 0} {disks : PageDisk D} → AsOf D disks → ℕ
+root_of d = d.root
+
+-- what it shows
+abbrev pub state_lowered : {D : Type 0} {disks : PageDisk D} → AsOf D disks → State
+state_lowered {disks = disks} d = lowered_state d.geometry d.root (disks.state d.disk)

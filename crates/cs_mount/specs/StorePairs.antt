@@ -1,0 +1,96 @@
+-- The pairs of a store: which pages they are, and when one of them is whole.
+use Rattle.std.specs.Prelude.{◌==◌, ◌&&◌, ◌+◌, ◌-◌, ◌*◌, ℕ, Bool, List, [], Option, Some, None, if◌then◌else◌, map, nat_lt, slice_index}
+use Rattle.std.specs.List.{range_with_len}
+use Rattle.cs_disk.specs.Disk.{Image, page}
+use Rattle.cs_frame.specs.Bytes.{number}
+use Rattle.cs_frame.specs.declared.faults.FormatFault.{FormatFault}
+use Rattle.cs_frame.specs.FirstFormat.{page_zero_fault}
+use Rattle.cs_frame.specs.Geometries.{Dimensions, device_pages, section_size}
+use Rattle.cs_frame.specs.Roots.{root_fault}
+use Rattle.cs_frame.specs.Superblocks.{superblock_fault}
+use Rattle.law_machine.specs.Device.{Shape}
+use Rattle.law_machine.specs.Geometry.{shape_of}
+use Rattle.cs_twin.specs.declared.pairs.Pair.{Pair}
+
+-- the pages of the device of a store
+abbrev pub pages_of : Dimensions → ℕ
+pages_of d = device_pages d.format d.extents d.pages d.sections
+
+-- The pairs of a store count from 0: that of section 0, that of the root, and those of the other sections. Their twins are the last pages of
+-- the device, from the very last on downwards.
+abbrev pub store_pair : Dimensions → (k : ℕ) → Pair
+store_pair d k = record { page = if nat_lt k 2 then k else d.extents * d.pages + k; twin = pages_of d - (1 + k) }
+
+-- all of them: none before format 3
+abbrev pub store_pairs : Dimensions → List Pair
+store_pairs d = if d.format == 3 then map (store_pair d) (range_with_len 0 (1 + d.sections)) else []
+
+-- where everything of a store lies, and its limits
+abbrev pub store_shape : Dimensions → Shape
+store_shape d = shape_of d.extents d.pages d.sections (section_size d.extents d.sections) d.format
+
+-- a number that counts where there is no fault
+abbrev pub without_fault : Option FormatFault → ℕ → ℕ
+without_fault None n = n
+without_fault (Some fault) n = 0
+
+-- the version of the root that bytes spell
+abbrev pub root_version : (format : ℕ) → List ℕ → ℕ
+root_version format bytes = without_fault (root_fault format bytes) (number 4 12 bytes)
+
+-- the numbers of a section's page are those of this section of a store of these dimensions
+abbrev pub is_section : Dimensions → (section : ℕ) → List ℕ → Bool
+is_section d j bytes = number 12 14 bytes == d.extents && number 14 16 bytes == d.pages && slice_index bytes 16 == d.sections && slice_index bytes 17 == j
+
+-- the version of this section that bytes spell
+abbrev pub section_version : Dimensions → (section : ℕ) → List ℕ → ℕ
+section_version d j bytes = if is_section d j bytes then without_fault (superblock_fault d.format bytes) (number 4 12 bytes) else 0
+
+-- which section a page holds
+abbrev pub section_at : Dimensions → (page : ℕ) → ℕ
+section_at d p = if p == 0 then 0 else p - (1 + d.extents * d.pages)
+
+-- the version that bytes spell as what a page of a store holds: page 1 the root, another one its section
+abbrev pub store_version : Option Dimensions → (page : ℕ) → List ℕ → ℕ
+store_version None p bytes = 0
+store_version (Some d) p bytes = if p == 1 then root_version d.format bytes else section_version d (section_at d p) bytes
+
+-- the dimensions of a store of format 3 whose section of these numbers is the first, where the device has its pages
+abbrev pub named : (pages format extents extent_pages sections section : ℕ) → Option Dimensions
+named pages format extents extent_pages sections section =
+    if format == 3 && section == 0 && device_pages 3 extents extent_pages sections == pages
+    then Some (record { format = 3; extents = extents; pages = extent_pages; sections = sections }) else None
+
+-- those that a section's page says, in this format
+abbrev pub named_by : (pages format : ℕ) → List ℕ → Option Dimensions
+named_by pages format bytes = named pages format (number 12 14 bytes) (number 14 16 bytes) (slice_index bytes 16) (slice_index bytes 17)
+
+-- what page 0 says: nothing where it isn't whole in any format
+abbrev pub zero_said : (pages : ℕ) → Option FormatFault → List ℕ → Option (Option Dimensions)
+zero_said pages None bytes = Some (if slice_index bytes 3 == 51 then named_by pages 3 bytes else None)
+zero_said pages (Some fault) bytes = None
+
+-- what the last page says, where it is whole in format 3
+abbrev pub last_says : (pages : ℕ) → Option FormatFault → List ℕ → Option Dimensions
+last_says pages None bytes = named_by pages 3 bytes
+last_says pages (Some fault) bytes = None
+
+-- the dimensions of the store of format 3 whose first section these bytes spell, where the device has its pages
+abbrev pub first_says : (pages : ℕ) → List ℕ → Option Dimensions
+first_says pages bytes = last_says pages (superblock_fault 3 bytes) bytes
+
+-- the first, or else the second
+abbrev pub or_else : Option (Option Dimensions) → Option Dimensions → Option Dimensions
+or_else (Some said) other = said
+or_else None other = other
+
+-- The dimensions of the store on a device whose pages lie in pairs: those that page 0 says, where it is whole in whatever format, and else
+-- those that the last page says; none where there is no store of format 3.
+abbrev pub dimensions_on : (pages : ℕ) → Image → Option Dimensions
+dimensions_on pages image =
+    or_else (zero_said pages (page_zero_fault (page image 0)) (page image 0)) (last_says pages (superblock_fault 3 (page image (pages - 1))) (page image (pages - 1)))
+
+-- the pairs of a store where there is one
+abbrev pub pairs_where : Option Dimensions → List Pair
+pairs_where None = []
+pairs_where (Some d) = store_pairs d

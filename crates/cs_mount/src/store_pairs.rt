@@ -1,0 +1,343 @@
+// The pairs of a store.
+ghost use Rattle.std.specs.Prelude.{◌≡◌, ◌≢◌, ◌==◌, ◌&&◌, ◌⊎◌, ◌↔◌, ◌+◌, ◌-◌, ◌<◌, ◌≤◌, ℕ, [], IfErr, IfOk, IfSome, IsTrue, MatchResult, None};
+ghost use Rattle.cs_disk.specs.Disk.{HasCause, Image, LeavesOnly, MayLeave, Rises, flushed, page, seen};
+ghost use Rattle.cs_disk.specs.Reads.{OnlyReads};
+ghost use Rattle.cs_frame.specs.FirstFormat.{page_zero_fault};
+ghost use Rattle.cs_frame.specs.Geometries.{IsGeometry, IsKnown};
+ghost use Rattle.cs_frame.specs.Superblocks.{superblock_fault};
+ghost use Rattle.cs_mount.specs.OfStores.{IsOfStore, is_allowed};
+ghost use Rattle.cs_twin.specs.Pairs.{ArePairs};
+ghost use Rattle.cs_twin.specs.Paired.{disk_below, left_as_shown, pairs_of, rules_of, state_shown};
+ghost use Rattle.cs_mount.specs.Showing.{ShowsOn, findings_on, shown_on};
+ghost use Rattle.cs_mount.specs.StorePairs.{dimensions_on, first_says, last_says, named, pages_of, pairs_where, root_version, section_at, section_version, store_pair, store_pairs, store_version, zero_said};
+
+use cs_disk::{DiskFault, PageDisk};
+use cs_frame::{
+    Format, FormatFault, Geometry, Superblock, decode_root, decode_section, decode_superblock,
+};
+use cs_twin::{Finding, PageRules, Pair, Paired};
+use std::alloc::{AllocError, Global};
+
+/// What tells of the pages of a store that lie in pairs whether they are whole: the root of its format, and of each section of its superblock that
+/// it is that section of a store of these dimensions. Where there is no store no page is.
+#[derive(Clone, Copy, Drop)]
+pub struct StoreRules {
+    pub alloc: Global,
+    pub geometry: Option<Geometry>,
+}
+
+/// No version, where a page has this fault; refused where memory ran out.
+fn none_spelled(fault: FormatFault) -> Result<u64, DiskFault>
+    ensures none { IfOk result (λ found. (found ≡ 0) × (fault ≢ FormatFault.OutOfMemory)) }
+    ensures memory { IfErr result (λ refused. refused ≡ DiskFault.OutOfMemory) }
+{
+    match fault {
+        FormatFault::OutOfMemory => Err(DiskFault::OutOfMemory),
+        FormatFault::BadGeometry
+        | FormatFault::BadMagic
+        | FormatFault::BadDigest
+        | FormatFault::BadLength
+        | FormatFault::BadPadding
+        | FormatFault::BadVersion
+        | FormatFault::OutOfOrder
+        | FormatFault::Misplaced => Ok(0),
+    }
+}
+
+/// The version of the root that these bytes spell in this format, and 0 where they spell none.
+fn root_version(alloc: Global, bytes: &[u8; 4096], format: Format) -> Result<u64, DiskFault>
+    requires { IsKnown format }
+    ensures version { IfOk result (λ found. found ≡ root_version format bytes.now) }
+    ensures memory { IfErr result (λ fault. fault ≡ DiskFault.OutOfMemory) }
+{
+    match decode_root(alloc, bytes, format) {
+        Ok(root) => Ok(root.version),
+        Err(fault) => none_spelled(fault),
+    }
+}
+
+/// Whether a section is this one of a store of this geometry.
+fn is_of(superblock: &Superblock, geometry: Geometry, section: u64) -> bool
+    ensures { result ≡ (superblock.now.extent_count == geometry.extents && superblock.now.pages == geometry.pages && superblock.now.sections == geometry.sections && superblock.now.section == section) }
+{
+    superblock.extent_count == geometry.extents()
+        && superblock.pages == geometry.pages()
+        && superblock.sections == geometry.sections()
+        && u64::from(superblock.section) == section
+}
+
+/// The version of this section that these bytes spell, and 0 where they spell none.
+fn section_version(
+    alloc: Global,
+    bytes: &[u8; 4096],
+    geometry: Geometry,
+    section: u64,
+) -> Result<u64, DiskFault>
+    ensures version { IfOk result (λ found. found ≡ section_version geometry section bytes.now) }
+    ensures memory { IfErr result (λ fault. fault ≡ DiskFault.OutOfMemory) }
+{
+    match decode_section(alloc, bytes, geometry.format()) {
+        Ok(superblock) => {
+            if is_of(&superblock, geometry, section) {
+                Ok(superblock.version)
+            } else {
+                Ok(0)
+            }
+        }
+        Err(fault) => none_spelled(fault),
+    }
+}
+
+/// Which section a page holds.
+fn section_at(geometry: Geometry, number: u64) -> u64
+    ensures { result ≡ section_at geometry number }
+{
+    if number == 0 {
+        0
+    } else {
+        number.saturating_sub(1 + u64::from(geometry.extents()) * u64::from(geometry.pages()))
+    }
+}
+
+impl StoreRules {
+    /// The pairs of the store, where there is one.
+    pub fn pairs(&self) -> Result<Vec<Pair>, AllocError>
+        ensures pairs { IfOk result (λ pairs. pairs.items ≡ pairs_where self.now.geometry) }
+        ensures are { (pages : ℕ) → IfSome self.now.geometry (λ d. pages_of d ≡ pages) → IfOk result (λ pairs. ArePairs pairs.items pages) }
+    {
+        match self.geometry {
+            Some(geometry) => pairs_of_store(self.alloc, geometry),
+            None => Ok(Vec::new(self.alloc)),
+        }
+    }
+}
+
+impl PageRules for StoreRules {
+    ghost version = { λ r. store_version r.geometry };
+
+    ghost fits = { λ r. IsOfStore r.geometry };
+
+    ghost allowed = { λ r. is_allowed };
+
+    fn version_of(&self, number: u64, bytes: &[u8; 4096]) -> Result<u64, DiskFault> {
+        match self.geometry {
+            None => Ok(0),
+            Some(geometry) => {
+                if number == 1 {
+                    root_version(self.alloc, bytes, geometry.format())
+                } else {
+                    section_version(self.alloc, bytes, geometry, section_at(geometry, number))
+                }
+            }
+        }
+    }
+
+    fn allows(&self, number: u64, bytes: &[u8; 4096]) -> bool {
+        !(number == 0 && bytes[3] == b'3')
+    }
+
+    fn keep(&self) {}
+}
+
+/// A pair of a store of format 3, from 0 on: that of section 0, that of the root, those of the other sections.
+fn store_pair(geometry: Geometry, k: u64) -> Pair
+    requires { k ≤ geometry.sections }
+    ensures { result ≡ store_pair geometry k }
+{
+    let frames = u64::from(geometry.extents()) * u64::from(geometry.pages());
+    Pair {
+        page: if k < 2 { k } else { frames + k },
+        twin: geometry.device_pages() - (1 + k),
+    }
+}
+
+/// The pairs of a store: those of section 0, of the root, and of the other sections, whose twins are the last pages of the device, from
+/// the very last on downwards. Before format 3 there are none.
+pub fn pairs_of_store(alloc: Global, geometry: Geometry) -> Result<Vec<Pair>, AllocError>
+    ensures pairs { IfOk result (λ pairs. pairs.items ≡ store_pairs geometry) }
+    ensures are { IfOk result (λ pairs. ArePairs pairs.items (pages_of geometry)) }
+{
+    let mut pairs = Vec::new(alloc);
+    if !geometry.format().has_twins() {
+        return Ok(pairs);
+    }
+    let count = 1 + u64::from(geometry.sections());
+    for k in 0..count {
+        pairs.push(store_pair(geometry, k))?;
+    }
+    Ok(pairs)
+}
+
+/// The geometry of a store of format 3 whose section this is, where it is the first, and the device has so many pages.
+fn named(pages: u64, superblock: &Superblock) -> Option<Geometry>
+    requires { IsGeometry superblock.now.format superblock.now.extent_count superblock.now.pages superblock.now.sections }
+    ensures named { result ≡ named pages superblock.now.format superblock.now.extent_count superblock.now.pages superblock.now.sections superblock.now.section }
+    ensures pages { IfSome result (λ d. pages_of d ≡ pages) }
+{
+    if !superblock.format.has_twins() || superblock.section != 0 {
+        return None;
+    }
+    let extents = u64::from(superblock.extent_count);
+    let extent_pages = u64::from(superblock.pages);
+    let sections = u64::from(superblock.sections);
+    match Geometry::of_format(3, extents, extent_pages, Some(sections)) {
+        Ok(geometry) => {
+            if geometry.device_pages() == pages {
+                Some(geometry)
+            } else {
+                None
+            }
+        }
+        Err(_) => None,
+    }
+}
+
+/// What page 0 says of the geometry: nothing where it isn't whole.
+fn zero_said(
+    alloc: Global,
+    pages: u64,
+    bytes: &[u8; 4096],
+) -> Result<Option<Option<Geometry>>, DiskFault>
+    ensures said { IfOk result (λ said. said ≡ zero_said pages (page_zero_fault bytes.now) bytes.now) }
+    ensures pages { IfOk result (λ said. IfSome said (λ named. IfSome named (λ d. pages_of d ≡ pages))) }
+    ensures memory { IfErr result (λ fault. fault ≡ DiskFault.OutOfMemory) }
+{
+    match decode_superblock(alloc, bytes) {
+        Ok(superblock) => Ok(Some(named(pages, &superblock))),
+        Err(fault) => match none_spelled(fault) {
+            Ok(_) => Ok(None),
+            Err(refused) => Err(refused),
+        },
+    }
+}
+
+/// What the last page says of the geometry.
+fn last_says(alloc: Global, pages: u64, bytes: &[u8; 4096]) -> Result<Option<Geometry>, DiskFault>
+    ensures said { IfOk result (λ said. said ≡ last_says pages (superblock_fault 3 bytes.now) bytes.now) }
+    ensures pages { IfOk result (λ said. IfSome said (λ d. pages_of d ≡ pages)) }
+    ensures memory { IfErr result (λ fault. fault ≡ DiskFault.OutOfMemory) }
+{
+    match decode_section(alloc, bytes, Format::three()) {
+        Ok(superblock) => Ok(named(pages, &superblock)),
+        Err(fault) => match none_spelled(fault) {
+            Ok(_) => Ok(None),
+            Err(refused) => Err(refused),
+        },
+    }
+}
+
+/// Reads the last page for the geometry.
+fn read_last<D: PageDisk>(
+    alloc: Global,
+    disk: &mut D,
+    pages: u64,
+) -> Result<Option<Geometry>, DiskFault>
+    requires pages { pages ≡ D.page_count disk.old }
+    requires some { 0 < pages }
+    ensures said { D.honest disk.old → IfOk result (λ said. said ≡ last_says pages (superblock_fault 3 (page (seen (D.state disk.old)) (pages - 1))) (page (seen (D.state disk.old)) (pages - 1))) }
+    ensures pages { IfOk result (λ said. IfSome said (λ d. pages_of d ≡ pages)) }
+    ensures disk { OnlyReads D.PageDisk disk.old disk.new }
+    ensures cause { HasCause (D.failure_count disk.old) (D.failure_count disk.new) result }
+{
+    let mut buffer = [0; 4096];
+    match disk.read(pages - 1, &mut buffer) {
+        Ok(()) => last_says(alloc, pages, &buffer),
+        Err(fault) => Err(fault),
+    }
+}
+
+/// Reads page 0 for the geometry.
+fn read_zero<D: PageDisk>(
+    alloc: Global,
+    disk: &mut D,
+    pages: u64,
+) -> Result<Option<Option<Geometry>>, DiskFault>
+    requires { 0 < D.page_count disk.old }
+    ensures said { D.honest disk.old → IfOk result (λ said. said ≡ zero_said pages (page_zero_fault (page (seen (D.state disk.old)) 0)) (page (seen (D.state disk.old)) 0)) }
+    ensures pages { IfOk result (λ said. IfSome said (λ named. IfSome named (λ d. pages_of d ≡ pages))) }
+    ensures disk { OnlyReads D.PageDisk disk.old disk.new }
+    ensures cause { HasCause (D.failure_count disk.old) (D.failure_count disk.new) result }
+{
+    let mut buffer = [0; 4096];
+    match disk.read(0, &mut buffer) {
+        Ok(()) => zero_said(alloc, pages, &buffer),
+        Err(fault) => Err(fault),
+    }
+}
+
+/// Whether page 0 holds the first section of a store, of whatever format and geometry.
+pub fn holds_superblock<D: PageDisk>(alloc: Global, disk: &mut D) -> Result<bool, DiskFault>
+    requires { 0 < D.page_count disk.old }
+    ensures holds { D.honest disk.old → IfOk result (λ holds. IsTrue holds ↔ (page_zero_fault (page (seen (D.state disk.old)) 0) ≡ None)) }
+    ensures disk { OnlyReads D.PageDisk disk.old disk.new }
+    ensures cause { HasCause (D.failure_count disk.old) (D.failure_count disk.new) result }
+{
+    let pages = disk.pages();
+    match read_zero(alloc, disk, pages) {
+        Ok(said) => Ok(said.is_some()),
+        Err(fault) => Err(fault),
+    }
+}
+
+/// The geometry of the store of format 3 whose first section the last page holds, whatever is on page 0; nothing where it holds none of a store with the device's pages.
+pub fn find_last<D: PageDisk>(alloc: Global, disk: &mut D) -> Result<Option<Geometry>, DiskFault>
+    requires { 0 < D.page_count disk.old }
+    ensures found { D.honest disk.old → IfOk result (λ found. found ≡ first_says (D.page_count disk.old) (page (seen (D.state disk.old)) (D.page_count disk.old - 1))) }
+    ensures disk { OnlyReads D.PageDisk disk.old disk.new }
+    ensures cause { HasCause (D.failure_count disk.old) (D.failure_count disk.new) result }
+{
+    let pages = disk.pages();
+    read_last(alloc, disk, pages)
+}
+
+/// The geometry of the store on a device whose pages lie in pairs, where there is one, of format 3: that which page 0 says where it is whole,
+/// in whatever format, and else that which the last page says.
+pub fn find_geometry<D: PageDisk>(
+    alloc: Global,
+    disk: &mut D,
+) -> Result<Option<Geometry>, DiskFault>
+    requires { 0 < D.page_count disk.old }
+    ensures found { D.honest disk.old → IfOk result (λ found. found ≡ dimensions_on (D.page_count disk.old) (seen (D.state disk.old))) }
+    ensures pages { IfOk result (λ found. IfSome found (λ d. pages_of d ≡ D.page_count disk.old)) }
+    ensures disk { OnlyReads D.PageDisk disk.old disk.new }
+    ensures cause { HasCause (D.failure_count disk.old) (D.failure_count disk.new) result }
+{
+    let pages = disk.pages();
+    match read_zero(alloc, disk, pages) {
+        Ok(Some(said)) => Ok(said),
+        Ok(None) => read_last(alloc, disk, pages),
+        Err(fault) => Err(fault),
+    }
+}
+
+/// Opens the disk of a store whose pages lie in pairs, and tells what the halves hold: the disk below is flushed. Where there is no store of format 3, there
+/// are no pairs, and the disk passes all calls through. Where neither half of a pair is whole, it shows what one of them holds.
+pub fn open_pairs<D: PageDisk>(
+    alloc: Global,
+    disk: D,
+) -> Result<(Paired<D, StoreRules>, Vec<Finding>), (DiskFault, D)>
+    requires { 0 < D.page_count disk }
+    ensures pairs { D.honest disk → IfOk result (λ opened. pairs_of opened.0 ≡ pairs_where (dimensions_on (D.page_count disk) (seen (D.state disk)))) }
+    ensures rules { D.honest disk → IfOk result (λ opened. (rules_of opened.0).geometry ≡ dimensions_on (D.page_count disk) (seen (D.state disk))) }
+    ensures findings { D.honest disk → IfOk result (λ opened. opened.1.items ≡ findings_on (D.page_count disk) (seen (D.state disk))) }
+    ensures shown { D.honest disk → IfOk result (λ opened. state_shown opened.0 ≡ record { durable = shown_on (D.page_count disk) (seen (D.state disk)); volatile = [] }) }
+    // What shows of what a crash at some moment since might have left shows of what one before might have left.
+    ensures left { D.honest disk → IfOk result (λ opened. (left : Image) → left_as_shown opened.0 (D.moment disk) left → ShowsOn (D.page_count disk) (seen (D.state disk)) (MayLeave (D.state disk)) left) }
+    ensures state { D.honest disk → MatchResult result (λ opened. D.state (disk_below opened.0) ≡ flushed (D.state disk)) (λ refused. (D.state refused.1 ≡ D.state disk) ⊎ (D.state refused.1 ≡ flushed (D.state disk))) }
+    ensures crash { D.honest disk → MatchResult result (λ opened. LeavesOnly D.moment D.left_since disk (disk_below opened.0) (MayLeave (D.state disk))) (λ refused. LeavesOnly D.moment D.left_since disk refused.1 (MayLeave (D.state disk))) }
+    ensures calls { D.honest disk → MatchResult result (λ opened. D.moment (disk_below opened.0) ≡ D.moment disk + 1) (λ refused. D.moment refused.1 ≤ D.moment disk + 1) }
+    ensures honest { MatchResult result (λ opened. D.honest disk ↔ D.honest (disk_below opened.0)) (λ refused. D.honest disk ↔ D.honest refused.1) }
+    ensures pages { MatchResult result (λ opened. D.page_count (disk_below opened.0) ≡ D.page_count disk) (λ refused. D.page_count refused.1 ≡ D.page_count disk) }
+    ensures cause { IfErr result (λ refused. refused.0 ≡ DiskFault.DeviceFault → Rises (D.failure_count disk) (D.failure_count refused.1)) }
+{
+    let mut disk = disk;
+    let geometry = match find_geometry(alloc, &mut disk) {
+        Ok(geometry) => geometry,
+        Err(fault) => return Err((fault, disk)),
+    };
+    let rules = StoreRules { alloc, geometry };
+    match rules.pairs() {
+        Ok(pairs) => Paired::open(alloc, disk, rules, pairs),
+        Err(_) => Err((DiskFault::OutOfMemory, disk)),
+    }
+}

@@ -1,7 +1,0 @@
-use Rattle.cs_pair.proofs.Aging.{lowers_kept, whole_lowered}
-use Rattle.cs_pair.proofs.older.AsOf.new.Goals as goal
-
-pub invariant_of-result : goal.invariant_of-result
-invariant_of-result g c =
-    let s = g.D.PageDisk.state c.args.disk in
-    record { lowers = lowers_kept c.args.geometry c.args.root s; whole = λ h. whole_lowered c.args.geometry c.args.root s (g.met.D.PageDisk.whole c.args.disk h) }

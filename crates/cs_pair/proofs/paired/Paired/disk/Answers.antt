@@ -1,4 +1,0 @@
-use Rattle.cs_pair.proofs.paired.Paired.disk.Goals as goal
-
-pub returns-clause-no_older : goal.returns-clause-no_older
-returns-clause-no_older g c = λ h. (c.args.self.now.right h).newer

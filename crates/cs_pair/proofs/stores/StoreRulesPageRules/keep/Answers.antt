@@ -1,5 +1,0 @@
-use Rattle.cs_pair.proofs.Keeping.{kept_of_store}
-use Rattle.cs_pair.proofs.stores.StoreRulesPageRules.keep.Goals as goal
-
-pub returns : goal.returns
-returns c = record { left = kept_of_store c.args.self.now.geometry }

@@ -1,5 +1,0 @@
-use Rattle.cs_reclaim.proofs.Marked.{meant_before}
-use Rattle.cs_reclaim.proofs.laws.moves_keep_marks.Goals as goal
-
-pub returns : goal.returns
-returns c = meant_before

@@ -1,5 +1,0 @@
-use Rattle.cs_refine.proofs.apart.put_apart_refines_put.Goals as goal
-use Rattle.cs_refine.proofs.CallsApart.{put}
-
-pub returns : goal.returns
-returns c = λ x y g h i j copies s id bytes chunks ls on whole are cut all set. put x g i copies s on are y h j id bytes chunks ls whole cut all set

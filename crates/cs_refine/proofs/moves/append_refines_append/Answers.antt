@@ -1,5 +1,0 @@
-use Rattle.cs_refine.proofs.moves.append_refines_append.Goals as goal
-use Rattle.cs_refine.proofs.Appending.{after_append}
-
-pub returns : goal.returns
-returns c = λ x y g h w reason frame l whole is a. after_append x g w whole.geometry is reason frame l y h a

@@ -1,6 +1,0 @@
-use Rattle.cs_refine.proofs.moves.opened_stores_have_worlds.Goals as goal
-use Rattle.cs_refine.proofs.Opening.{opened}
-use Rattle.cs_refine.proofs.Shapes.{some_sections}
-
-pub returns : goal.returns
-returns c = λ x g F img n m found versions whole all each extents same. opened x g F img n m found versions (some_sections x whole) all each extents same

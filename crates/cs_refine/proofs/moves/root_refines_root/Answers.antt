@@ -1,6 +1,0 @@
-use Rattle.cs_refine.proofs.moves.root_refines_root.Goals as goal
-use Rattle.cs_refine.proofs.Rooting.{after_root}
-use Rattle.cs_refine.proofs.Shapes.{some_sections}
-
-pub returns : goal.returns
-returns c = λ x g h w v needs n runs m pointers whole is staged names kept others. after_root x g h w (some_sections x whole) is v needs staged names n runs m pointers kept others

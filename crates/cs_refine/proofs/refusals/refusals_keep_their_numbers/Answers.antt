@@ -1,8 +1,0 @@
-use Rattle.cs_refine.proofs.refusals.refusals_keep_their_numbers.Goals as goal
-use Rattle.cs_refine.proofs.Numbered.{one_refusal, same_number}
-
-pub returns : goal.returns
-returns c = record {
-  number = λ f. same_number f;
-  frames = λ x view kind l f at. one_refusal x view kind l f at;
-}

@@ -1,6 +1,0 @@
-pub mod Answers
-pub mod Founds
-pub mod Refusals
-pub mod Rescued
-pub mod Runs
-pub mod Spared

@@ -1,5 +1,0 @@
-use Rattle.cs_room.proofs.examples.a_new_store_keeps.Goals as goal
-use Rattle.cs_room.proofs.NewStore.{new_keeps}
-
-pub returns : goal.returns
-returns c = new_keeps

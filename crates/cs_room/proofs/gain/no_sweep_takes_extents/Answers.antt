@@ -1,5 +1,0 @@
-use Rattle.cs_room.proofs.gain.no_sweep_takes_extents.Goals as goal
-use Rattle.cs_room.proofs.Gaining.{no_more}
-
-pub returns : goal.returns
-returns c = no_more

@@ -1,5 +1,0 @@
-use Rattle.cs_room.proofs.gain.one_sweep_may_gain.Goals as goal
-use Rattle.cs_room.proofs.Gaining.{single}
-
-pub returns : goal.returns
-returns c = single

@@ -1,5 +1,0 @@
-use Rattle.cs_room.proofs.gain.two_sweeps_gain.Goals as goal
-use Rattle.cs_room.proofs.Pairs.{pair}
-
-pub returns : goal.returns
-returns c = pair

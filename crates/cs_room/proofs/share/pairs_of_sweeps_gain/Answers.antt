@@ -1,5 +1,0 @@
-use Rattle.cs_room.proofs.share.pairs_of_sweeps_gain.Goals as goal
-use Rattle.cs_room.proofs.Sharing.{every_way}
-
-pub returns : goal.returns
-returns c = λ S J n s t keeps some none large few swept. every_way S J n s t keeps some none large few swept

@@ -1,6 +1,0 @@
-use Rattle.cs_roomy.proofs.LiveTotals.{live_at_most}
-use Rattle.cs_roomy.proofs.reclaims.no_more_lives_than_is_counted.Goals as goal
-
-pub returns : goal.returns
-returns g c = λ v view chunks uses roomy whole graph are live listed counted few.
-    live_at_most g.D.PageDisk (λ d honest. g.met.D.PageDisk.sized d honest) v view chunks uses roomy whole graph are live listed counted few

@@ -1,7 +1,0 @@
-use Rattle.cs_roomy.proofs.KeepingRoom.{state_of}
-use Rattle.cs_roomy.proofs.StorePuts.{store_put_left}
-use Rattle.cs_roomy.proofs.stores.a_put_of_a_store_finds_room.Goals as goal
-
-pub returns : goal.returns
-returns g c = λ v w id bytes n roomy young left some short declines.
-    store_put_left g.D.PageDisk v w id bytes n (state_of g.D.PageDisk v roomy) young left some short declines

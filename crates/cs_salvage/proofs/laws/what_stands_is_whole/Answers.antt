@@ -1,5 +1,0 @@
-use Rattle.cs_salvage.proofs.Wholes.{is_whole}
-use Rattle.cs_salvage.proofs.laws.what_stands_is_whole.Goals as goal
-
-pub returns : goal.returns
-returns c = λ g image parts put bytes payloads heads id small short are frames only all. is_whole g image put bytes payloads are small heads id short frames only parts all

@@ -1,6 +1,0 @@
-use Rattle.cs_salvage.specs.declared.shards.WholeShard.{WholeShard}
-use Rattle.cs_salvage.proofs.Sames.{ends_by}
-use Rattle.cs_salvage.proofs.shards.ends_with.Goals as goal
-
-pub returns-in-Some : goal.returns-in-Some
-returns-in-Some c = ends_by (λ (shard : WholeShard). shard.put.id) c.args.id c.args.shards.now c.in-Some.last.now c.eq.result c.in-Some.ensures.value c.eq.ensures

@@ -1,5 +1,0 @@
-use Rattle.cs_salvage.specs.Puts.{AreFirst}
-use Rattle.cs_salvage.proofs.shards.first_parts.Given as goal
-
-abbrev pub invariant-loop-number : goal.invariant-loop-number
-invariant-loop-number l = AreFirst l.parts l.number l.pieces.items

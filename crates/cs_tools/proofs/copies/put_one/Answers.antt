@@ -1,4 +1,0 @@
-use Rattle.cs_tools.proofs.copies.put_one.Goals as goal
-
-pub returns-in-Ok-put-clause-map : goal.returns-in-Ok-put-clause-map
-returns-in-Ok-put-clause-map g c = λ has. (_, c.in-Ok-put.ensures.map has.0 has.1)

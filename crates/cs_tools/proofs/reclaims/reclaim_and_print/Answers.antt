@@ -1,5 +1,0 @@
-use Rattle.cs_tools.proofs.Appended.{whatever}
-use Rattle.cs_tools.proofs.reclaims.reclaim_and_print.Goals as goal
-
-pub returns-clause-kept : goal.returns-clause-kept
-returns-clause-kept g c honest = whatever c.printed.result (c.in_ok-empty_by_rule.ensures.kept honest)

@@ -1,0 +1,41 @@
+use Rattle.std.proofs.Common.{inl, inr}
+use Rattle.std.proofs.lemmas.Result.{on_ok_weaker}
+use Rattle.cs_tools.proofs.Resting.{none_emptied, some_emptied}
+use Rattle.cs_tools.proofs.Tidying.{tidies_reads, tidies_then}
+use Rattle.cs_tools.proofs.reclaims_v2.empty_by_garbage.Goals as goal
+
+pub returns-in_default-clause-tidies : goal.returns-in_default-clause-tidies
+returns-in_default-clause-tidies g c =
+    let first = c.args.core.now in
+    tidies_reads g.D.PageDisk first c.uses.new.core c.uses.ensures.same c.uses.ensures.disk c.progress.ensures.left (λ honest image since. g.met.D.PageDisk.only_now first.disk image honest since)
+
+pub returns-in_err-count-clause-tidies : goal.returns-in_err-count-clause-tidies
+returns-in_err-count-clause-tidies g c =
+    let disks = g.D.PageDisk in
+    let first = c.args.core.now in
+    let read = tidies_reads disks first c.uses.new.core c.uses.ensures.same c.uses.ensures.disk c.progress.ensures.left (λ honest image since. g.met.D.PageDisk.only_now first.disk image honest since) in
+    tidies_then disks first c.uses.new.core c.empty_all.new.core read c.empty_all.ensures.tidies
+
+pub returns-then-count-eq0-clause-tidies : goal.returns-then-count-eq0-clause-tidies
+returns-then-count-eq0-clause-tidies g c =
+    let disks = g.D.PageDisk in
+    let first = c.args.core.now in
+    let read = tidies_reads disks first c.uses.new.core c.uses.ensures.same c.uses.ensures.disk c.progress.ensures.left (λ honest image since. g.met.D.PageDisk.only_now first.disk image honest since) in
+    tidies_then disks first c.uses.new.core c.empty_all.new.core read c.empty_all.ensures.tidies
+
+pub returns-clause-tidies : goal.returns-clause-tidies
+returns-clause-tidies g c =
+    let disks = g.D.PageDisk in
+    let first = c.args.core.now in
+    let read = tidies_reads disks first c.uses.new.core c.uses.ensures.same c.uses.ensures.disk c.progress.ensures.left (λ honest image since. g.met.D.PageDisk.only_now first.disk image honest since) in
+    tidies_then disks first c.empty_all.new.core c.put_again.new.core (tidies_then disks first c.uses.new.core c.empty_all.new.core read c.empty_all.ensures.tidies) c.put_again.ensures.tidies
+
+pub returns-then-count-eq0-clause-kept : goal.returns-then-count-eq0-clause-kept
+returns-then-count-eq0-clause-kept g c honest =
+    inr (none_emptied g.D.PageDisk c.args.core.now c.uses.new.core c.empty_all.new.core _ c.if-count-eq0.true c.uses.ensures.same c.uses.ensures.disk (c.in_ok-count.ensures.rests (c.uses.ensures.disk.honesty.0 honest)))
+
+pub returns-clause-kept : goal.returns-clause-kept
+returns-clause-kept g c honest =
+    let there = c.uses.ensures.disk.honesty.0 honest in
+    on_ok_weaker c.put_again.result (λ done. inl done)
+    (c.put_again.ensures.rests (c.empty_all.ensures.tidies.honest.0 there) (some_emptied c.uses.new.core c.empty_all.new.core _ c.if-count-eq0.false (c.in_ok-count.ensures.rests there)))

@@ -1,0 +1,142 @@
+//! The command `reclaim` on stores of formats 1 and 2, where chunks and runs may lie on one extent.
+//!
+//! The command runs on a store that was just opened. The pages above an extent's write pointer aren't written then until
+//! the extent is emptied, so they count as garbage here. `choose_sweep` of cs_inspect doesn't count them.
+ghost use Rattle.std.specs.Prelude.{◌≡◌, ◌⊎◌, ◌<◌, IfErr, IfOk, IfSome, OnOk, Some, length};
+ghost use Rattle.cs_index.specs.State.{id_number};
+ghost use Rattle.law_machine.specs.Element.{Bytes as Held, Map};
+ghost use Rattle.cs_store.specs.Maps.{HasMap};
+ghost use Rattle.cs_inspect.specs.Choices.{ReadsOn};
+ghost use Rattle.cs_tools.specs.Reclaims.{IsPersistent, MayStop, Tidies};
+
+use crate::outputs::Style;
+use crate::reclaim_command::{Stop, empty_one, sync_all};
+use cs_core::{Bytes, Core, Event};
+use cs_disk::PageDisk;
+use cs_frame::ShardId;
+use cs_index::Index;
+use cs_inspect::{ExtentUse, ids_from, most_garbage, uses};
+use cs_refusal::Refusal;
+use cs_writeback::ask;
+use std::alloc::Global;
+use std::io::Write;
+
+/// Empties the extents of which half or more is garbage, and prints of each what it freed. If there was one, a shard is
+/// put again.
+pub fn empty_by_garbage<D: PageDisk, W: Write>(
+    alloc: Global,
+    core: &mut Core<D>,
+    style: Style,
+    writer: &mut W,
+) -> Result<(), Stop>
+    ensures kept { D.honest core.old.disk → OnOk result (IsPersistent core.new ⊎ ReadsOn D.PageDisk core.old core.new) }
+    ensures refusals { IfErr result MayStop }
+    ensures tidies { Tidies D.PageDisk core.old core.new }
+{
+    // Called for its contract alone: what a crash leaves now.
+    core.progress();
+    let pages = core.extents().extent_pages();
+    let Ok(mut uses) = uses(alloc, core) else {
+        return Err(Stop::Refused(Refusal::OutOfMemory));
+    };
+    give_up(&mut uses, pages);
+    let count = empty_all(core, &mut uses, pages, style, writer)?;
+    if count == 0 {
+        return Ok(());
+    }
+    put_again(alloc, core)
+}
+
+/// Counts the rest of each extent that isn't empty as given.
+fn give_up(uses: &mut [ExtentUse], pages: usize) {
+    for used in uses.iter_mut() {
+        if used.pointer > 0 {
+            used.pointer = pages;
+        }
+    }
+}
+
+/// Empties the extents of which half or more is garbage, prints of each what it freed, and gives how many there were.
+fn empty_all<D: PageDisk, W: Write>(
+    core: &mut Core<D>,
+    uses: &mut [ExtentUse],
+    pages: usize,
+    style: Style,
+    writer: &mut W,
+) -> Result<usize, Stop>
+    ensures rests { D.honest core.old.disk → IfOk result (λ count. ((count ≡ 0) × (core.new ≡ core.old)) ⊎ ((0 < count) × IsPersistent core.new)) }
+    ensures refusals { IfErr result MayStop }
+    ensures tidies { Tidies D.PageDisk core.old core.new }
+{
+    let mut count: usize = 0;
+    for _ in 0..uses.len() {
+        let Some(extent) = worth_emptying(uses, pages) else {
+            return Ok(count);
+        };
+        let dead = uses[extent].dead();
+        empty_one(core, extent, dead, style, writer)?;
+        uses[extent].pointer = 0;
+        count = count.saturating_add(1);
+    }
+    Ok(count)
+}
+
+/// The extent with most garbage, where that is half of its pages or more.
+fn worth_emptying(uses: &[ExtentUse], pages: usize) -> Option<usize>
+    ensures { IfSome result (λ extent. extent < length uses.now) }
+{
+    let extent = most_garbage(uses)?;
+    if uses[extent].dead() >= pages.div_ceil(2) {
+        Some(extent)
+    } else {
+        None
+    }
+}
+
+/// Puts the first shard again as it is, and makes that persistent: that an extent is empty reaches the disk with the next frame alone. Where
+/// there is no shard that can be put again nothing is done.
+fn put_again<D: PageDisk>(alloc: Global, core: &mut Core<D>) -> Result<(), Stop>
+    ensures rests { D.honest core.old.disk → IsPersistent core.old → OnOk result (IsPersistent core.new) }
+    ensures refusals { IfErr result MayStop }
+    ensures tidies { Tidies D.PageDisk core.old core.new }
+{
+    let Some((id, bytes)) = first_shard(alloc, core) else {
+        return Ok(());
+    };
+    match ask(core, &Event::Put(id, bytes)) {
+        Ok(_) => sync_all(core),
+        Err(_) => Ok(()),
+    }
+}
+
+/// The first shard, None where it can't be had.
+fn first_shard<D: PageDisk>(alloc: Global, core: &mut Core<D>) -> Option<(ShardId, Bytes)>
+    ensures shard { D.honest core.old.disk → (m : Map) → HasMap core.new m → IfSome result (λ shard. m (id_number shard.0) ≡ Some (Held shard.1)) }
+    ensures store { core.new.store ≡ core.old.store }
+    ensures tidies { Tidies D.PageDisk core.old core.new }
+{
+    // Called for their contracts alone: which state of the machine the core is in, and what all extents keep.
+    core.progress();
+    core.extents().extent_count();
+    let id = first_id(alloc, core.index())?;
+    match core.read(id) {
+        Ok(Some(bytes)) => with_bytes(alloc, id, bytes),
+        _ => None,
+    }
+}
+
+/// The first identifier, None where it can't be had.
+fn first_id(alloc: Global, index: &Index) -> Option<ShardId> {
+    let ids = ids_from(alloc, index, ShardId([0; 16]), 1).ok()?;
+    ids.first().copied()
+}
+
+/// An identifier with its bytes, None where there is no memory.
+fn with_bytes(alloc: Global, id: ShardId, bytes: Vec<u8>) -> Option<(ShardId, Bytes)>
+    ensures { IfSome result (λ shard. (shard.0 ≡ id) × (shard.1 ≡ bytes.items)) }
+{
+    match Bytes::new(alloc, bytes) {
+        Ok(bytes) => Some((id, bytes)),
+        Err(_) => None,
+    }
+}

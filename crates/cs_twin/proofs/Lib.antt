@@ -1,0 +1,13 @@
+pub mod Roles
+pub mod Shown
+pub mod Leaving
+pub mod Holding
+pub mod Right
+pub mod Writing
+pub mod Over
+pub mod Opening
+pub mod Tearing
+pub mod Becoming
+pub mod Mending
+pub mod MendingAll
+pub mod Fits

@@ -1,0 +1,46 @@
+use Rattle.std.proofs.Common.{List, refl, ap, slice_get, subst, sym, ◌∙◌}
+use Rattle.cs_disk.specs.Disk.{LeavesOnly, MayLeave}
+use Rattle.cs_twin.specs.declared.pairs.Pair.{Pair}
+use Rattle.cs_twin.specs.Noted.{AreNotes, AreRight}
+use Rattle.cs_twin.specs.Pairs.{ArePairs, shown, shown_state}
+use Rattle.cs_twin.proofs.Fits.{fit_call}
+use Rattle.cs_twin.proofs.Mending.{leaves_as_shown, none_left_ok}
+use Rattle.cs_twin.proofs.Over.{shows_here, whole_here}
+use Rattle.cs_twin.proofs.paired.Paired.repair.Goals as goal
+
+pub invariant_of-self : goal.invariant_of-self
+invariant_of-self g c =
+    let V = g.R.PageRules.version c.args.self.now.rules in
+    let disk = c.repair.new.disk in
+    let pairs = c.args.self.now.pairs.items in
+    let apart = subst (λ n. ArePairs pairs n) (sym c.repair.ensures.pages) c.args.self.now.apart in
+    let right = λ (h : g.D.PageDisk.honest disk). subst (λ (ps : List Pair). AreRight V ps c.repair.new.self (g.D.PageDisk.state disk)) c.deref.ensures.value (c.repair.ensures.right h) in
+    record {
+      apart = apart;
+      noted = subst (λ (ps : List Pair). AreNotes ps c.repair.new.self) c.deref.ensures.value c.repair.ensures.notes;
+      right = right;
+      fit = λ h.
+          let old = c.repair.ensures.honest.1 h in
+          let count = g.D.PageDisk.page_count c.args.self.now.disk in
+          fit_call g.R.PageRules c.args.self.now.rules pairs count _ count (g.D.PageDisk.page_count disk) (g.D.PageDisk.state c.args.self.now.disk) (g.D.PageDisk.state disk) c.deref.ensures.value refl c.repair.ensures.pages (c.repair.ensures.fit old) (c.args.self.now.fit old);
+      shows = λ h. shows_here V pairs _ _ apart (g.met.D.PageDisk.sized disk h) (right h).newer;
+      whole = λ h. whole_here V pairs _ _ apart (g.met.D.PageDisk.sized disk h) (right h).newer (g.met.D.PageDisk.whole disk h);
+    }
+
+pub returns-clause-none_left : goal.returns-clause-none_left
+returns-clause-none_left g c = λ h x at.
+    let self = c.args.self.now in
+    let there = ap (λ (ps : List Pair). slice_get ps c.args.place) c.deref.ensures.value ∙ at in
+    none_left_ok c.repair.result (g.R.PageRules.version self.rules) self.pairs.items (g.D.PageDisk.page_count self.disk) (g.D.PageDisk.state self.disk) (g.D.PageDisk.state c.repair.new.disk) c.args.place x self.apart (g.met.D.PageDisk.sized self.disk h) at
+    (c.repair.ensures.mended h x there)
+
+pub returns-clause-crash : goal.returns-clause-crash
+returns-clause-crash g c = λ h.
+    let D = g.D.PageDisk in
+    let self = c.args.self.now in
+    let V = g.R.PageRules.version self.rules in
+    let pairs = self.pairs.items in
+    let s = D.state self.disk in
+    let only = subst (λ (ps : List Pair). LeavesOnly D.moment D.left_since self.disk c.repair.new.disk (λ left. MayLeave (shown_state V ps s) (shown V ps left))) c.deref.ensures.value (c.repair.ensures.crash h) in
+    let shows = leaves_as_shown D V pairs self.disk c.repair.new.disk (MayLeave (shown_state V pairs s)) only in
+    record { later = shows.later; each = shows.each; before = shows.before }

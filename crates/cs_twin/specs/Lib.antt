@@ -1,0 +1,9 @@
+pub mod Findings
+pub mod Noted
+pub mod Paired
+pub mod Pairs
+pub mod Tears
+pub mod TearDisks
+pub mod Laws
+pub mod Kept
+pub mod Fitting

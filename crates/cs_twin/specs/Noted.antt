@@ -1,0 +1,36 @@
+-- What is noted of pairs.
+use Rattle.std.specs.Prelude.{◌≡◌, ◌+◌, ◌-◌, ◌^◌, ℕ, Bool, List, Some, length, map, min, slice_get}
+use Rattle.cs_disk.specs.Disk.{State, Write, seen}
+use Rattle.cs_twin.specs.declared.notes.Notes.{Notes}
+use Rattle.cs_twin.specs.declared.notes.Trust.TheVariants.{Read, Unread}
+use Rattle.cs_twin.specs.declared.pairs.Pair.{Pair}
+use Rattle.cs_twin.specs.declared.twin_places.Place.{Place}
+use Rattle.cs_twin.specs.declared.twin_places.Place.TheVariants.{Own, OfPair, OfTwin}
+use Rattle.cs_twin.specs.Pairs.{AreNoOlder, Versions, half, held_in}
+
+-- what a page number is among the pairs: no half of any, the number of the pair at a place, or a twin
+abbrev pub IsPlace : List Pair → ℕ → Place → Type 0
+IsPlace pairs p Own = (k : ℕ) (x : Pair) (twin : Bool) → slice_get pairs k ≡ Some x → p ≡ half x twin → ⊥
+IsPlace pairs p (OfPair k) = (x : Pair) × (slice_get pairs k ≡ Some x) × (p ≡ x.page)
+IsPlace pairs p OfTwin = (k : ℕ) × (x : Pair) × (slice_get pairs k ≡ Some x) × (p ≡ x.twin)
+
+-- There is a note of each pair.
+pub record AreNotes (pairs : List Pair) (notes : Notes) : Type 0 where
+  pub durable : length notes.durable.items ≡ length pairs
+  pub newest : length notes.newest.items ≡ length pairs
+
+-- no volatile write goes to a pair
+abbrev pub NoneIsWritten : List Pair → State → Type 0
+NoneIsWritten pairs s = (k i : ℕ) (x : Pair) (w : Write) (twin : Bool) → slice_get pairs k ≡ Some x → slice_get s.volatile i ≡ Some w → w.0 ≡ half x twin → ⊥
+
+-- Volatile writes are newer than what is durable, or the same; where the notes count, they say which half of each pair is the newest of the durable image
+-- and of what the disk reads as; and where nothing was read yet, no pair was written.
+pub record AreRight (V : Versions) (pairs : List Pair) (notes : Notes) (s : State) : Type 0 where
+  pub newer : AreNoOlder V pairs s
+  pub durable : notes.trust ≡ Read → notes.durable.items ≡ map (held_in V s.durable) pairs
+  pub newest : notes.trust ≡ Read → notes.newest.items ≡ map (held_in V (seen s)) pairs
+  pub unwritten : notes.trust ≡ Unread → NoneIsWritten pairs s
+
+-- how many calls failed: those of the device, and those that were refused without it
+abbrev pub failed : ℕ → Notes → ℕ
+failed below notes = min (below + notes.refused) (2 ^ 64 - 1)

@@ -1,0 +1,387 @@
+// What is noted of pairs.
+
+use crate::half_repairs::{read_damaged, write_through};
+use crate::pairs::{Held, PageRules, Pair, half_of};
+use crate::readings::read_held;
+use cs_disk::{DiskFault, PageDisk};
+use std::alloc::{AllocError, Global};
+
+/// Whether the notes count.
+#[derive(Clone, Copy)]
+pub enum Trust {
+    /// Nothing was read yet since the disk was opened, or since it crashed.
+    Unread,
+    /// They say what the pairs hold.
+    Read,
+    /// A write to a pair failed: it may be among the volatile ones or not.
+    Doubted,
+}
+
+/// What is noted of each pair, and how many calls were refused without the device.
+#[derive(Drop)]
+pub struct Notes {
+    /// Which half is the newest of the durable image.
+    pub durable: Vec<Held>,
+    /// Which half is the newest of what the disk reads as.
+    pub newest: Vec<Held>,
+    pub trust: Trust,
+    /// Up to 2^64 - 1, where it stays.
+    pub refused: u64,
+}
+
+impl Notes {
+    ghost use Rattle.std.specs.Prelude.{◌≡◌, ◌<◌, ◌+◌, ◌-◌, ◌^◌, ◌↔◌, ◌⊎◌, [], Bool, Some, IfOk, IsErrOf, OnErr, OnOk, length, min, not, slice_get};
+    ghost use Rattle.cs_disk.specs.Disk.{Counts, GoesOn, HasCause, LeavesOnly, MayLeave, flushed, page, seen, written};
+    ghost use Rattle.cs_disk.specs.Reads.{OnlyReads};
+    ghost use Rattle.cs_twin.specs.declared.pairs.Pair.{Pair};
+    ghost use Rattle.cs_twin.specs.Findings.{AreMended, finding_in, mended, passed_over};
+    ghost use Rattle.cs_twin.specs.Fitting.{IsFit};
+    ghost use Rattle.cs_twin.specs.Noted.{AreNotes, AreRight, failed};
+    ghost use Rattle.cs_twin.specs.Pairs.{ArePairs, half, is_turned, shown, shown_state};
+
+    /// Notes of so many pairs, of which nothing was read yet.
+    pub fn new(alloc: Global, count: usize) -> Result<Self, AllocError>
+        ensures durable { IfOk result (λ notes. length notes.durable.items ≡ count) }
+        ensures newest { IfOk result (λ notes. length notes.newest.items ≡ count) }
+        ensures trust { IfOk result (λ notes. notes.trust ≡ Trust.Unread) }
+        ensures refused { IfOk result (λ notes. notes.refused ≡ 0) }
+    {
+        let none = Held {
+            turned: false,
+            version: 0,
+        };
+        Ok(Notes {
+            durable: vec![in alloc; none; count]?,
+            newest: vec![in alloc; none; count]?,
+            trust: Trust::Unread,
+            refused: 0,
+        })
+    }
+
+    /// Counts a call that is refused without the device.
+    pub fn refuse(&mut self) -> Result<(), DiskFault>
+        ensures fault { result ≡ Err DiskFault.DeviceFault }
+        ensures notes { self.new ≡ record self.old { refused = min (self.old.refused + 1) (2 ^ 64 - 1) } }
+    {
+        self.refused = self.refused.saturating_add(1);
+        Err(DiskFault::DeviceFault)
+    }
+
+    /// After a crash nothing that is noted counts.
+    pub fn forget(&mut self)
+        ensures { self.new ≡ record self.old { trust = Trust.Unread } }
+    {
+        self.trust = Trust::Unread;
+    }
+
+    /// Reads the pairs where nothing was read yet; refused where a write is in doubt.
+    fn refresh<D: PageDisk, R: PageRules>(
+        &mut self,
+        disk: &mut D,
+        rules: &R,
+        pairs: &[Pair],
+    ) -> Result<(), DiskFault>
+        requires pairs { ArePairs pairs.now (D.page_count disk.old) }
+        requires notes { AreNotes pairs.now self.old }
+        requires right { D.honest disk.old → AreRight (R.version rules.now) pairs.now self.old (D.state disk.old) }
+        ensures read { OnOk result (self.new.trust ≡ Trust.Read) }
+        ensures notes { AreNotes pairs.now self.new }
+        ensures right { D.honest disk.new → AreRight (R.version rules.now) pairs.now self.new (D.state disk.new) }
+        ensures disk { OnlyReads D.PageDisk disk.old disk.new }
+        ensures cause { HasCause (failed (D.failure_count disk.old) self.old) (failed (D.failure_count disk.new) self.new) result }
+    {
+        match self.trust {
+            Trust::Read => Ok(()),
+            Trust::Doubted => self.refuse(),
+            Trust::Unread => match read_held(disk, rules, pairs, &mut self.newest) {
+                Ok(()) => {
+                    self.durable.copy_from_slice(&self.newest);
+                    self.trust = Trust::Read;
+                    Ok(())
+                }
+                Err(fault) => Err(fault),
+            },
+        }
+    }
+
+    /// Reads the newest half of a pair.
+    pub fn read_newest<D: PageDisk, R: PageRules>(
+        &mut self,
+        disk: &mut D,
+        rules: &R,
+        pairs: &[Pair],
+        k: usize,
+        buffer: &mut [u8; 4096],
+    ) -> Result<(), DiskFault>
+        requires inside { k < length pairs.now }
+        requires pairs { ArePairs pairs.now (D.page_count disk.old) }
+        requires notes { AreNotes pairs.now self.old }
+        requires right { D.honest disk.old → AreRight (R.version rules.now) pairs.now self.old (D.state disk.old) }
+        ensures bytes { D.honest disk.old → (x : Pair) → slice_get pairs.now k ≡ Some x
+            → OnOk result (buffer.new ≡ page (seen (D.state disk.old)) (half x (is_turned (R.version rules.now) (seen (D.state disk.old)) x))) }
+        ensures notes { AreNotes pairs.now self.new }
+        ensures right { D.honest disk.new → AreRight (R.version rules.now) pairs.now self.new (D.state disk.new) }
+        ensures disk { OnlyReads D.PageDisk disk.old disk.new }
+        ensures cause { HasCause (failed (D.failure_count disk.old) self.old) (failed (D.failure_count disk.new) self.new) result }
+    {
+        match self.refresh(disk, rules, pairs) {
+            Ok(()) => disk.read(half_of(pairs[k], self.newest[k].turned), buffer),
+            Err(fault) => Err(fault),
+        }
+    }
+
+    /// Writes the half of a pair that isn't the newest of the durable image, where the notes count. Refused where the bytes aren't whole, or
+    /// their version isn't greater than that of any half.
+    fn write_half<D: PageDisk, R: PageRules>(
+        &mut self,
+        disk: &mut D,
+        rules: &R,
+        pairs: &[Pair],
+        k: usize,
+        bytes: &[u8; 4096],
+    ) -> Result<(), DiskFault>
+        requires inside { k < length pairs.now }
+        requires pairs { ArePairs pairs.now (D.page_count disk.old) }
+        requires notes { AreNotes pairs.now self.old }
+        requires read { self.old.trust ≡ Trust.Read }
+        requires right { D.honest disk.old → AreRight (R.version rules.now) pairs.now self.old (D.state disk.old) }
+        ensures ok { D.honest disk.old → (x : Pair) → slice_get pairs.now k ≡ Some x → OnOk result
+            (D.state disk.new ≡ written (D.state disk.old) (half x (not (is_turned (R.version rules.now) (D.state disk.old).durable x))) bytes.now) }
+        ensures fault { D.honest disk.old → (x : Pair) → slice_get pairs.now k ≡ Some x → (D.state disk.new ≡ D.state disk.old)
+            ⊎ (D.state disk.new ≡ written (D.state disk.old) (half x (not (is_turned (R.version rules.now) (D.state disk.old).durable x))) bytes.now) }
+        ensures memory { D.honest disk.old → IsErrOf result DiskFault.OutOfMemory → D.state disk.new ≡ D.state disk.old }
+        ensures count { D.honest disk.old → Counts result (D.moment disk.old) (D.moment disk.new) }
+        ensures time { GoesOn D.honest D.state D.moment D.left_since disk.old disk.new }
+        ensures honest { D.honest disk.old ↔ D.honest disk.new }
+        ensures pages { D.page_count disk.new ≡ D.page_count disk.old }
+        ensures notes { AreNotes pairs.now self.new }
+        ensures right { D.honest disk.new → AreRight (R.version rules.now) pairs.now self.new (D.state disk.new) }
+        ensures cause { HasCause (failed (D.failure_count disk.old) self.old) (failed (D.failure_count disk.new) self.new) result }
+    {
+        let pair = pairs[k];
+        let version = match rules.version_of(pair.page, bytes) {
+            Ok(version) => version,
+            Err(fault) => return Err(fault),
+        };
+        if version <= self.newest[k].version {
+            return self.refuse();
+        }
+        let twin = !self.durable[k].turned;
+        match disk.write(half_of(pair, twin), bytes) {
+            Ok(()) => {
+                self.newest[k] = Held {
+                    turned: twin,
+                    version,
+                };
+                Ok(())
+            }
+            Err(DiskFault::OutOfMemory) => Err(DiskFault::OutOfMemory),
+            Err(DiskFault::DeviceFault) => {
+                self.trust = Trust::Doubted;
+                Err(DiskFault::DeviceFault)
+            }
+        }
+    }
+
+    /// Writes a pair, as it shows.
+    pub fn write_newer<D: PageDisk, R: PageRules>(
+        &mut self,
+        disk: &mut D,
+        rules: &R,
+        pairs: &[Pair],
+        k: usize,
+        bytes: &[u8; 4096],
+    ) -> Result<(), DiskFault>
+        requires inside { k < length pairs.now }
+        requires pairs { ArePairs pairs.now (D.page_count disk.old) }
+        requires notes { AreNotes pairs.now self.old }
+        requires right { D.honest disk.old → AreRight (R.version rules.now) pairs.now self.old (D.state disk.old) }
+        ensures ok { D.honest disk.old → (x : Pair) → slice_get pairs.now k ≡ Some x → OnOk result
+            (shown_state (R.version rules.now) pairs.now (D.state disk.new) ≡ written (shown_state (R.version rules.now) pairs.now (D.state disk.old)) x.page bytes.now) }
+        ensures fault { D.honest disk.old → (x : Pair) → slice_get pairs.now k ≡ Some x
+            → (shown_state (R.version rules.now) pairs.now (D.state disk.new) ≡ shown_state (R.version rules.now) pairs.now (D.state disk.old))
+            ⊎ (shown_state (R.version rules.now) pairs.now (D.state disk.new) ≡ written (shown_state (R.version rules.now) pairs.now (D.state disk.old)) x.page bytes.now) }
+        // Below it goes to a half, or, where it is refused, nowhere.
+        ensures below_ok { D.honest disk.old → (x : Pair) → slice_get pairs.now k ≡ Some x → OnOk result ((twin : Bool) × (D.state disk.new ≡ written (D.state disk.old) (half x twin) bytes.now)) }
+        ensures below { D.honest disk.old → (x : Pair) → slice_get pairs.now k ≡ Some x → (D.state disk.new ≡ D.state disk.old) ⊎ (twin : Bool) × (D.state disk.new ≡ written (D.state disk.old) (half x twin) bytes.now) }
+        ensures memory { D.honest disk.old → IsErrOf result DiskFault.OutOfMemory → D.state disk.new ≡ D.state disk.old }
+        ensures count { D.honest disk.old → Counts result (D.moment disk.old) (D.moment disk.new) }
+        ensures time { GoesOn D.honest D.state D.moment D.left_since disk.old disk.new }
+        ensures honest { D.honest disk.old ↔ D.honest disk.new }
+        ensures pages { D.page_count disk.new ≡ D.page_count disk.old }
+        ensures notes { AreNotes pairs.now self.new }
+        ensures right { D.honest disk.new → AreRight (R.version rules.now) pairs.now self.new (D.state disk.new) }
+        ensures cause { HasCause (failed (D.failure_count disk.old) self.old) (failed (D.failure_count disk.new) self.new) result }
+    {
+        match self.refresh(disk, rules, pairs) {
+            Ok(()) => self.write_half(disk, rules, pairs, k, bytes),
+            Err(fault) => Err(fault),
+        }
+    }
+
+    /// Flushes the disk: the newest halves are then the newest of the durable image. Refused where a write is in doubt.
+    pub fn flush<D: PageDisk, R: PageRules>(
+        &mut self,
+        disk: &mut D,
+        rules: &R,
+        pairs: &[Pair],
+    ) -> Result<(), DiskFault>
+        requires pairs { ArePairs pairs.now (D.page_count disk.old) }
+        requires notes { AreNotes pairs.now self.old }
+        requires right { D.honest disk.old → AreRight (R.version rules.now) pairs.now self.old (D.state disk.old) }
+        ensures ok { D.honest disk.old → OnOk result (D.state disk.new ≡ flushed (D.state disk.old)) }
+        ensures err { D.honest disk.old → OnErr result (D.state disk.new ≡ D.state disk.old) }
+        ensures count { D.honest disk.old → Counts result (D.moment disk.old) (D.moment disk.new) }
+        ensures time { GoesOn D.honest D.state D.moment D.left_since disk.old disk.new }
+        ensures honest { D.honest disk.old ↔ D.honest disk.new }
+        ensures pages { D.page_count disk.new ≡ D.page_count disk.old }
+        ensures notes { AreNotes pairs.now self.new }
+        ensures right { D.honest disk.new → AreRight (R.version rules.now) pairs.now self.new (D.state disk.new) }
+        ensures cause { HasCause (failed (D.failure_count disk.old) self.old) (failed (D.failure_count disk.new) self.new) result }
+    {
+        if let Trust::Doubted = self.trust {
+            return self.refuse();
+        }
+        match disk.flush() {
+            Ok(()) => {
+                self.durable.copy_from_slice(&self.newest);
+                Ok(())
+            }
+            Err(fault) => Err(fault),
+        }
+    }
+
+    /// Writes the half of a pair anew that is damaged, where the other is whole, with what that one holds, and flushes. Answers its page.
+    fn rewrite<D: PageDisk, R: PageRules>(
+        &mut self,
+        disk: &mut D,
+        rules: &R,
+        pairs: &[Pair],
+        k: usize,
+    ) -> Result<Option<u64>, DiskFault>
+        requires inside { k < length pairs.now }
+        requires pairs { ArePairs pairs.now (D.page_count disk.old) }
+        requires notes { AreNotes pairs.now self.old }
+        requires right { D.honest disk.old → AreRight (R.version rules.now) pairs.now self.old (D.state disk.old) }
+        requires settled { D.honest disk.old → (D.state disk.old).volatile ≡ [] }
+        ensures damaged { D.honest disk.old → (x : Pair) → slice_get pairs.now k ≡ Some x → IfOk result (λ damaged. damaged ≡ passed_over (finding_in (R.version rules.now) (D.state disk.old).durable x)) }
+        ensures mended { D.honest disk.old → (x : Pair) → slice_get pairs.now k ≡ Some x → OnOk result (D.state disk.new ≡ record { durable = mended (R.version rules.now) (D.state disk.old).durable x; volatile = [] }) }
+        ensures shown { D.honest disk.old → shown (R.version rules.now) pairs.now (seen (D.state disk.new)) ≡ shown (R.version rules.now) pairs.now (D.state disk.old).durable }
+        ensures crash { D.honest disk.old → LeavesOnly D.moment D.left_since disk.old disk.new (λ left. shown (R.version rules.now) pairs.now left ≡ shown (R.version rules.now) pairs.now (D.state disk.old).durable) }
+        ensures fit { D.honest disk.old → IsFit R.PageRules rules.now pairs.now (D.page_count disk.old) (D.state disk.old) → IsFit R.PageRules rules.now pairs.now (D.page_count disk.old) (D.state disk.new) }
+        ensures honest { D.honest disk.old ↔ D.honest disk.new }
+        ensures pages { D.page_count disk.new ≡ D.page_count disk.old }
+        ensures notes { AreNotes pairs.now self.new }
+        ensures right { D.honest disk.new → AreRight (R.version rules.now) pairs.now self.new (D.state disk.new) }
+        ensures cause { HasCause (failed (D.failure_count disk.old) self.old) (failed (D.failure_count disk.new) self.new) result }
+    {
+        // Called for its contract alone: what is kept by a write and a flush.
+        rules.keep();
+        let mut bytes = [0; 4096];
+        match read_damaged(disk, rules, pairs[k], &mut bytes) {
+            Ok(Some(page)) => match write_through(disk, page, &bytes) {
+                Ok(()) => {
+                    self.trust = Trust::Unread;
+                    Ok(Some(page))
+                }
+                Err(fault) => {
+                    self.trust = Trust::Doubted;
+                    Err(fault)
+                }
+            },
+            Ok(None) => Ok(None),
+            Err(fault) => Err(fault),
+        }
+    }
+
+    /// Flushes the disk, and writes the half of a pair anew that is damaged, where the other is whole, with what that one holds. Answers its page. Refused
+    /// where a write is in doubt.
+    pub fn repair<D: PageDisk, R: PageRules>(
+        &mut self,
+        disk: &mut D,
+        rules: &R,
+        pairs: &[Pair],
+        k: usize,
+    ) -> Result<Option<u64>, DiskFault>
+        requires inside { k < length pairs.now }
+        requires pairs { ArePairs pairs.now (D.page_count disk.old) }
+        requires notes { AreNotes pairs.now self.old }
+        requires right { D.honest disk.old → AreRight (R.version rules.now) pairs.now self.old (D.state disk.old) }
+        ensures damaged { D.honest disk.old → (x : Pair) → slice_get pairs.now k ≡ Some x → IfOk result (λ damaged. damaged ≡ passed_over (finding_in (R.version rules.now) (seen (D.state disk.old)) x)) }
+        ensures mended { D.honest disk.old → (x : Pair) → slice_get pairs.now k ≡ Some x → OnOk result (D.state disk.new ≡ record { durable = mended (R.version rules.now) (seen (D.state disk.old)) x; volatile = [] }) }
+        ensures shown { D.honest disk.old → seen (shown_state (R.version rules.now) pairs.now (D.state disk.new)) ≡ seen (shown_state (R.version rules.now) pairs.now (D.state disk.old)) }
+        ensures crash { D.honest disk.old → LeavesOnly D.moment D.left_since disk.old disk.new (λ left. MayLeave (shown_state (R.version rules.now) pairs.now (D.state disk.old)) (shown (R.version rules.now) pairs.now left)) }
+        ensures fit { D.honest disk.old → IsFit R.PageRules rules.now pairs.now (D.page_count disk.old) (D.state disk.old) → IsFit R.PageRules rules.now pairs.now (D.page_count disk.old) (D.state disk.new) }
+        ensures honest { D.honest disk.old ↔ D.honest disk.new }
+        ensures pages { D.page_count disk.new ≡ D.page_count disk.old }
+        ensures notes { AreNotes pairs.now self.new }
+        ensures right { D.honest disk.new → AreRight (R.version rules.now) pairs.now self.new (D.state disk.new) }
+        ensures cause { HasCause (failed (D.failure_count disk.old) self.old) (failed (D.failure_count disk.new) self.new) result }
+    {
+        // Called for its contract alone: what is kept by a flush.
+        rules.keep();
+        match self.flush(disk, rules, pairs) {
+            Ok(()) => self.rewrite(disk, rules, pairs, k),
+            Err(fault) => Err(fault),
+        }
+    }
+
+    /// Writes the half of each pair anew that is damaged, where the other is whole, with what that one holds, and flushes after each of them.
+    fn rewrite_all<D: PageDisk, R: PageRules>(
+        &mut self,
+        disk: &mut D,
+        rules: &R,
+        pairs: &[Pair],
+    ) -> Result<(), DiskFault>
+        requires pairs { ArePairs pairs.now (D.page_count disk.old) }
+        requires notes { AreNotes pairs.now self.old }
+        requires right { D.honest disk.old → AreRight (R.version rules.now) pairs.now self.old (D.state disk.old) }
+        requires settled { D.honest disk.old → (D.state disk.old).volatile ≡ [] }
+        ensures mended { D.honest disk.old → OnOk result (AreMended (R.version rules.now) pairs.now (D.state disk.old).durable (D.state disk.new).durable) }
+        ensures settled { D.honest disk.old → OnOk result ((D.state disk.new).volatile ≡ []) }
+        ensures shown { D.honest disk.old → shown (R.version rules.now) pairs.now (seen (D.state disk.new)) ≡ shown (R.version rules.now) pairs.now (D.state disk.old).durable }
+        ensures crash { D.honest disk.old → LeavesOnly D.moment D.left_since disk.old disk.new (λ left. shown (R.version rules.now) pairs.now left ≡ shown (R.version rules.now) pairs.now (D.state disk.old).durable) }
+        ensures fit { D.honest disk.old → IsFit R.PageRules rules.now pairs.now (D.page_count disk.old) (D.state disk.old) → IsFit R.PageRules rules.now pairs.now (D.page_count disk.old) (D.state disk.new) }
+        ensures honest { D.honest disk.old ↔ D.honest disk.new }
+        ensures pages { D.page_count disk.new ≡ D.page_count disk.old }
+        ensures notes { AreNotes pairs.now self.new }
+        ensures right { D.honest disk.new → AreRight (R.version rules.now) pairs.now self.new (D.state disk.new) }
+        ensures cause { HasCause (failed (D.failure_count disk.old) self.old) (failed (D.failure_count disk.new) self.new) result }
+    {
+        for k in 0..pairs.len() {
+            match self.rewrite(disk, rules, pairs, k) {
+                Ok(_) => {}
+                Err(fault) => return Err(fault),
+            }
+        }
+        Ok(())
+    }
+
+    /// Flushes the disk, and writes the half of each pair anew that is damaged, where the other is whole, with what that one holds. Refused where a write is
+    /// in doubt.
+    pub fn repair_all<D: PageDisk, R: PageRules>(
+        &mut self,
+        disk: &mut D,
+        rules: &R,
+        pairs: &[Pair],
+    ) -> Result<(), DiskFault>
+        requires pairs { ArePairs pairs.now (D.page_count disk.old) }
+        requires notes { AreNotes pairs.now self.old }
+        requires right { D.honest disk.old → AreRight (R.version rules.now) pairs.now self.old (D.state disk.old) }
+        ensures mended { D.honest disk.old → OnOk result (AreMended (R.version rules.now) pairs.now (seen (D.state disk.old)) (seen (D.state disk.new))) }
+        ensures settled { D.honest disk.old → OnOk result ((D.state disk.new).volatile ≡ []) }
+        ensures shown { D.honest disk.old → seen (shown_state (R.version rules.now) pairs.now (D.state disk.new)) ≡ seen (shown_state (R.version rules.now) pairs.now (D.state disk.old)) }
+        ensures crash { D.honest disk.old → LeavesOnly D.moment D.left_since disk.old disk.new (λ left. MayLeave (shown_state (R.version rules.now) pairs.now (D.state disk.old)) (shown (R.version rules.now) pairs.now left)) }
+        ensures fit { D.honest disk.old → IsFit R.PageRules rules.now pairs.now (D.page_count disk.old) (D.state disk.old) → IsFit R.PageRules rules.now pairs.now (D.page_count disk.old) (D.state disk.new) }
+        ensures honest { D.honest disk.old ↔ D.honest disk.new }
+        ensures pages { D.page_count disk.new ≡ D.page_count disk.old }
+        ensures notes { AreNotes pairs.now self.new }
+        ensures right { D.honest disk.new → AreRight (R.version rules.now) pairs.now self.new (D.state disk.new) }
+        ensures cause { HasCause (failed (D.failure_count disk.old) self.old) (failed (D.failure_count disk.new) self.new) result }
+    {
+        // Called for its contract alone: what is kept by a flush.
+        rules.keep();
+        self.flush(disk, rules, pairs)?;
+        self.rewrite_all(disk, rules, pairs)
+    }
+}

@@ -1,0 +1,161 @@
+// A disk in memory that tears pages.
+ghost use Rattle.std.specs.Prelude.{◌≡◌};
+ghost use Rattle.cs_disk.specs.Memory.{memory_state};
+
+use crate::fates::{Fate, lay_all};
+use cs_disk::{CrashDisk, DiskFault, MemoryDisk, PageDisk};
+use std::alloc::Global;
+
+/// A disk in memory whose crash can be made to tear pages that were being written, at any byte. It is for trying out what such crashes leave.
+///
+/// What a `PageDisk` and a `CrashDisk` say holds of it: only `tear` leaves what they don't speak of. It keeps the volatile writes twice, 4,104 bytes
+/// each time.
+#[derive(Drop)]
+pub struct TearDisk {
+    alloc: Global,
+    disk: MemoryDisk,
+    volatile: Vec<(u64, [u8; 4096])>,
+    ghost same: { volatile.items ≡ (memory_state disk).volatile },
+}
+
+impl TearDisk {
+    ghost use Rattle.std.specs.Prelude.{[], ℕ, List, IfOk, IsOkUnless, length, replicate};
+    ghost use Rattle.cs_twin.specs.declared.pairs.Pair.{Pair};
+    ghost use Rattle.cs_twin.specs.TearDisks.{tear_state};
+    ghost use Rattle.cs_twin.specs.Tears.{MayTear, NoneLooksWhole, left_by};
+
+    /// A disk of so many pages of zeros, all of them durable. Refused 9 OutOfMemory alone.
+    pub fn new(alloc: Global, pages: u64) -> Result<Self, DiskFault>
+        ensures durable { IfOk result (λ d. (tear_state d).durable ≡ replicate pages (replicate 4096 0)) }
+        ensures volatile { IfOk result (λ d. (tear_state d).volatile ≡ []) }
+        ensures memory { IsOkUnless result DiskFault.OutOfMemory }
+    {
+        let disk = MemoryDisk::new(alloc, pages)?;
+        Ok(TearDisk {
+            alloc,
+            disk,
+            volatile: Vec::new(alloc),
+        })
+    }
+
+    /// Crashes: of each of the volatile writes, oldest first, it is said what becomes of it, and what is left is durable. Refused 9 OutOfMemory alone.
+    pub fn tear(self, fates: &[Fate]) -> Result<Self, DiskFault>
+        requires { length fates.now ≡ length (tear_state self).volatile }
+        ensures durable { IfOk result (λ d. (tear_state d).durable ≡ left_by (tear_state self).durable (tear_state self).volatile fates.now) }
+        ensures volatile { IfOk result (λ d. (tear_state d).volatile ≡ []) }
+        ensures torn { (V : ℕ → List ℕ → ℕ) (pairs : List Pair) → IfOk result (λ d. NoneLooksWhole V pairs (tear_state self) fates.now (tear_state d).durable → MayTear V pairs (tear_state self) (tear_state d).durable) }
+        ensures memory { IsOkUnless result DiskFault.OutOfMemory }
+    {
+        let TearDisk {
+            alloc,
+            disk,
+            volatile,
+        } = self;
+        let none = vec![in alloc; false; volatile.len()]?;
+        let mut disk = disk.crash(&none);
+        lay_all(&mut disk, &volatile, fates)?;
+        disk.flush()?;
+        Ok(TearDisk {
+            alloc,
+            disk,
+            volatile: Vec::new(alloc),
+        })
+    }
+}
+
+impl PageDisk for TearDisk {
+    ghost use Rattle.std.specs.Prelude.{length};
+    ghost use Rattle.std.proofs.Common.{inl, refl};
+    ghost use Rattle.cs_disk.specs.Memory.{memory_left_since, memory_moment};
+    ghost use Rattle.cs_disk.specs.Past.{past_states, only_now as only_held};
+
+    ghost honest = { λ _. Unit {0} };
+
+    ghost state = { λ d. memory_state d.disk };
+
+    ghost device = { λ d. memory_state d.disk };
+
+    ghost page_count = { λ d. length (memory_state d.disk).durable };
+
+    ghost failure_count = { λ _. 0 };
+
+    ghost moment = { λ d. memory_moment d.disk };
+
+    ghost left_since = { λ d. memory_left_since d.disk };
+
+    fn pages(&self) -> u64 {
+        self.disk.pages()
+    }
+
+    fn failures(&self) -> u64 {
+        0
+    }
+
+    /// Asks for no memory, and is never refused.
+    fn read(&mut self, number: u64, buffer: &mut [u8; 4096]) -> Result<(), DiskFault> {
+        self.disk.read(number, buffer)
+    }
+
+    fn write(&mut self, number: u64, bytes: &[u8; 4096]) -> Result<(), DiskFault> {
+        self.volatile.reserve(1)?;
+        match self.disk.write(number, bytes) {
+            Ok(()) => {
+                self.volatile.push_reserved((number, *bytes));
+                Ok(())
+            }
+            Err(fault) => Err(fault),
+        }
+    }
+
+    /// Asks for no memory, and is never refused.
+    fn flush(&mut self) -> Result<(), DiskFault> {
+        match self.disk.flush() {
+            Ok(()) => {
+                self.volatile.clear();
+                Ok(())
+            }
+            Err(fault) => Err(fault),
+        }
+    }
+
+    ghost sized = { λ d h. refl };
+
+    ghost whole = { λ d h. record { durable = d.disk.durable; volatile = d.disk.volatile; durable_bytes = d.disk.durable_bytes; volatile_bytes = d.disk.volatile_bytes } };
+
+    ghost counts_now = { λ d t c h le now. inl now };
+
+    ghost only_now = { λ d c h left. only_held (past_states d.disk.past) (memory_state d.disk) c left };
+}
+
+impl CrashDisk for TearDisk {
+    ghost use Rattle.std.specs.Prelude.{length};
+    ghost use Rattle.std.proofs.Common.{refl};
+
+    ghost can_crash = { λ _. Unit {0} };
+
+    ghost volatile_count = { λ d. length (memory_state d.disk).volatile };
+
+    fn crashable(&self) -> bool {
+        true
+    }
+
+    fn volatile(&self) -> usize {
+        self.disk.volatile()
+    }
+
+    fn crash(self, mask: &[bool]) -> Self {
+        let TearDisk {
+            alloc,
+            disk,
+            mut volatile,
+        } = self;
+        volatile.clear();
+        TearDisk {
+            alloc,
+            disk: disk.crash(mask),
+            volatile,
+        }
+    }
+
+    ghost counted = { λ d h can. refl };
+}

@@ -1,0 +1,10 @@
+use Rattle.law_refinement.proofs.retires_apart.stage_apart_refusals_agree.Goals as goal
+use Rattle.law_refinement.proofs.RefusedApart.{stage_full}
+use Rattle.law_refinement.proofs.RefusedRetires.{may_stage, stage_worn}
+
+pub returns : goal.returns
+returns c = record {
+  may = λ x g i copies s are. may_stage x g i copies s are;
+  full = λ x g i s are. stage_full x g i s are;
+  worn = λ x g i copies s on whole are sound bounded room. stage_worn x g i copies s are on whole sound bounded room;
+}

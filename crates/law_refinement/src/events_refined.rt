@@ -1,0 +1,128 @@
+//! What the calls of a store's parts do, as what the machine's events do.
+ghost use Rattle.std.specs.Prelude.{◌≡◌, ◌≢◌, ◌↔◌, ◌+◌, ◌<◌, ◌≤◌, ◌++◌, ℕ, suc, true, false, List, [], None, length, map, nat_le};
+ghost use Rattle.cs_deps.specs.State.{State as GraphState};
+ghost use Rattle.cs_extent.specs.Appended.{AreAppended};
+ghost use Rattle.cs_extent.specs.State.{IsWhole, State as ExtentsState, extents_of, shape};
+ghost use Rattle.cs_frame.specs.declared.locators.Locator.{Locator};
+ghost use Rattle.cs_frame.specs.Formats.{formats_of, place_of};
+ghost use Rattle.cs_index.specs.Merges.{reached, stage_takes};
+ghost use Rattle.cs_index.specs.Staged.{IsMergeStaged, IsNewestStaged, IsPartStaged, IsTableStaged};
+ghost use Rattle.cs_index.specs.State.{IsSet, State as IndexState, index_of};
+ghost use Rattle.law_machine.specs.Append.{chunk_frames};
+ghost use Rattle.law_machine.specs.Device.{Shape};
+ghost use Rattle.law_machine.specs.Element.{Entry, Locator as Place, Run};
+ghost use Rattle.law_machine.specs.Events.{ArePayloads, Does, ReadsNow, mark};
+ghost use Rattle.law_machine.specs.Extents.{ForPut, ForRun, marked};
+ghost use Rattle.law_machine.specs.Formats.{ChunkFrame, Formats};
+ghost use Rattle.law_machine.specs.Index.{FirstLive, IsMergedRun, IsTableRun, NothingLive, entries_of, live_at, lookup, named_weight, names, weight_with};
+ghost use Rattle.law_machine.specs.Sound.{Sound};
+ghost use Rattle.law_machine.specs.State.{Abandon, Abandoned, Accepted, BeginSweep, Delete, MoveOne, Moved, Put, Retire, Retired, Stage, Staged, State, Sweeping, map_now, next_command};
+ghost use Rattle.cs_reclaim.specs.Moves.{IsMoved};
+ghost use Rattle.cs_reclaim.specs.Retired.{IsRetired};
+ghost use Rattle.cs_reclaim.specs.Sweeps.{IsNotSweepable};
+ghost use Rattle.law_refinement.specs.Parts.{ArePartsOf, IsIndexOf};
+
+/// What is asked of an index is asked of the machine's: what each identifier has, how many are named and what their entries weigh, what its
+/// runs would be, and what lives on an extent.
+pub fn index_queries_agree()
+    ensures lookups { (i : IndexState) (table : List Entry) (runs : List Run) → IsIndexOf i table runs
+        → (id : ℕ) → lookup id (index_of i) ≡ lookup id (table ++ entries_of runs) }
+    ensures named { (i : IndexState) (table : List Entry) (runs : List Run) → IsIndexOf i table runs
+        → names (index_of i) ≡ names (table ++ entries_of runs) }
+    // By any rule of how much an entry weighs the newest ones weigh as much,
+    ensures weight { (weigh : (chunks : ℕ) → ℕ) (i : IndexState) (table : List Entry) (runs : List Run) → IsIndexOf i table runs
+        → named_weight weigh (index_of i) ≡ named_weight weigh (table ++ entries_of runs) }
+    // and so do they with an entry of so many chunks in place of what an identifier has.
+    ensures entered { (weigh : (chunks : ℕ) → ℕ) (i : IndexState) (table : List Entry) (runs : List Run) (id chunks : ℕ) → IsIndexOf i table runs
+        → weight_with weigh (index_of i) id chunks ≡ weight_with weigh (table ++ entries_of runs) id chunks }
+    // The table of the one is empty exactly where that of the other is.
+    ensures empty { (i : IndexState) (table : List Entry) (runs : List Run) → IsIndexOf i table runs
+        → (i.table ≡ []) ↔ (table ≡ []) }
+    // The same entries are those of the run of the table.
+    ensures table_run { (i : IndexState) (table : List Entry) (runs : List Run) (entries : List Entry) → IsIndexOf i table runs
+        → IsTableRun i.table entries ↔ IsTableRun table entries }
+    // The same entries are those of the run of all that is live.
+    ensures merged_run { (i : IndexState) (table : List Entry) (runs : List Run) (entries : List Entry) → IsIndexOf i table runs
+        → IsMergedRun (index_of i) entries ↔ IsMergedRun (table ++ entries_of runs) entries }
+    // The same chunk is the first live one on an extent.
+    ensures first { (i : IndexState) (table : List Entry) (runs : List Run) (e id chunk : ℕ) (l : Place) → IsIndexOf i table runs
+        → FirstLive (index_of i) e id chunk l ↔ FirstLive (table ++ entries_of runs) e id chunk l }
+    // No live chunk is on an extent by the one exactly where none is by the other.
+    ensures nothing { (i : IndexState) (table : List Entry) (runs : List Run) (e : ℕ) → IsIndexOf i table runs
+        → NothingLive (index_of i) e ↔ NothingLive (table ++ entries_of runs) e }
+{}
+
+/// Where chunks and runs may lie on one extent the frames of a put and its entry are the machine's Put. The payloads are those of the command
+/// that is accepted next.
+pub fn put_refines_put()
+    ensures { (x y : ExtentsState) (g h : GraphState) (i j : IndexState) (s : State) (id : ℕ) (bytes : List ℕ)
+        (chunks : List (List ℕ)) (ls : List Locator)
+        → (shape x).apart ≡ false → IsWhole x → ArePartsOf x g i s → ArePayloads (shape x) (formats_of (shape x)) id (next_command s) bytes chunks
+        → AreAppended x g ForPut (chunk_frames (shape x) (formats_of (shape x)) chunks) ls y h
+        → IsSet i id (map place_of ls) j
+        → (t : State) × Does (shape x) (formats_of (shape x)) s (Put id bytes) (Accepted (suc (length s.commands))) t
+        × ArePartsOf y h j t }
+{}
+
+/// An entry without locators is the machine's Delete, and an identifier has locators exactly where the map has it.
+pub fn delete_refines_delete()
+    // An identifier that the map has gets an entry without locators: that is the machine's Delete.
+    ensures deleted { (x : ExtentsState) (g : GraphState) (i j : IndexState) (s : State) (id : ℕ)
+        → ArePartsOf x g i s → map_now s id ≢ None → IsSet i id [] j
+        → (t : State) × Does (shape x) (formats_of (shape x)) s (Delete id) (Accepted (suc (length s.commands))) t
+        × ArePartsOf x g j t }
+    ensures absent { (S : Shape) (F : Formats) (i : IndexState) (s : State) (id : ℕ)
+        → Sound S F s → IsIndexOf i s.table s.runs → (live_at (index_of i) id ≡ []) ↔ (map_now s id ≡ None) }
+{}
+
+/// Where chunks and runs may lie on one extent the run and the root that an index stages are the machine's Stage.
+pub fn stage_refines_stage()
+    // The table and as many of the newest runs as a Stage of the index merges become one run, or none where it would have no entry.
+    ensures newest { (x y : ExtentsState) (g h : GraphState) (i j : IndexState) (s : State) (v : ℕ)
+        → (shape x).apart ≡ false → IsWhole x → ArePartsOf x g i s → i.table ≢ []
+        → IsNewestStaged (stage_takes (shape x) i) i x g v (s.count + length s.commands) j y h
+        → (t : State) × Does (shape x) (formats_of (shape x)) s Stage (Staged v) t × ArePartsOf y h j t }
+    // Where a Stage merges by size, these are as many as are reached, and deletions go where that is all.
+    ensures sized { (x y : ExtentsState) (g h : GraphState) (i j : IndexState) (s : State) (v : ℕ)
+        → (shape x).apart ≡ false → IsWhole x → ArePartsOf x g i s → (shape x).by_size ≡ true → i.table ≢ []
+        → IsPartStaged (nat_le (length i.runs) (reached (shape x) i)) (reached (shape x) i) i x g ForRun v (s.count + length s.commands) j y h
+        → (t : State) × Does (shape x) (formats_of (shape x)) s Stage (Staged v) t × ArePartsOf y h j t }
+    // Where it doesn't and there are fewer than four runs, the table becomes one.
+    ensures table { (x y : ExtentsState) (g h : GraphState) (i j : IndexState) (s : State) (v : ℕ)
+        → (shape x).apart ≡ false → IsWhole x → ArePartsOf x g i s → (shape x).by_size ≡ false → i.table ≢ [] → length i.runs < 4
+        → IsTableStaged i x g v (s.count + length s.commands) j y h
+        → (t : State) × Does (shape x) (formats_of (shape x)) s Stage (Staged v) t × ArePartsOf y h j t }
+    // Where there are four or more then, one run of all that is live takes the place of everything, or none where nothing is live.
+    ensures merged { (x y : ExtentsState) (g h : GraphState) (i j : IndexState) (s : State) (v : ℕ)
+        → (shape x).apart ≡ false → IsWhole x → ArePartsOf x g i s → (shape x).by_size ≡ false → i.table ≢ [] → 4 ≤ length i.runs
+        → IsMergeStaged i x g ForRun v (s.count + length s.commands) j y h
+        → (t : State) × Does (shape x) (formats_of (shape x)) s Stage (Staged v) t × ArePartsOf y h j t }
+{}
+
+/// Where chunks and runs may lie on one extent a chunk that a sweep moves is the machine's MoveOne, where what lay there could be read.
+pub fn move_refines_move()
+    ensures { (x y : ExtentsState) (g h : GraphState) (i j : IndexState) (s : State) (e id chunk : ℕ) (payload : List ℕ)
+        → (shape x).apart ≡ false → IsWhole x → ArePartsOf x g i s → s.world.extents.swept e ≡ true
+        → (moved : IsMoved i x g e id chunk payload j y h)
+        → s.opening.damage moved.from ≡ None → ReadsNow (shape x) (formats_of (shape x)) s moved.from ChunkFrame payload
+        → (t : State) × Does (shape x) (formats_of (shape x)) s (MoveOne e) (Moved id chunk) t × ArePartsOf y h j t }
+{}
+
+/// Where chunks and runs may lie on one extent a retired extent is the machine's Retire.
+pub fn retire_refines_retire()
+    ensures { (x y : ExtentsState) (g h : GraphState) (i j : IndexState) (s : State) (e v : ℕ)
+        → (shape x).apart ≡ false → IsWhole x → ArePartsOf x g i s → s.world.extents.swept e ≡ true → e < (shape x).extents → shape y ≡ shape x
+        → NothingLive (index_of i) e → IsRetired i x g e v (s.count + length s.commands) j y h
+        → (t : State) × Does (shape x) (formats_of (shape x)) s (Retire e) (Retired v) t × ArePartsOf y h j t }
+{}
+
+/// A mark that is set where an extent may be swept is the machine's BeginSweep where chunks and runs may lie on one extent, and one that is
+/// taken off its Abandon by either rule.
+pub fn marks_refine_sweeps()
+    ensures begun { (x y : ExtentsState) (g : GraphState) (i : IndexState) (s : State) (e : ℕ)
+        → (shape x).apart ≡ false → ArePartsOf x g i s → ¬ IsNotSweepable (shape x) (extents_of x) e → shape y ≡ shape x → extents_of y ≡ marked (extents_of x) e true
+        → Does (shape x) (formats_of (shape x)) s (BeginSweep e) Sweeping (mark s e true) × ArePartsOf y g i (mark s e true) }
+    ensures abandoned { (x y : ExtentsState) (g : GraphState) (i : IndexState) (s : State) (e : ℕ)
+        → ArePartsOf x g i s → s.world.extents.swept e ≡ true → shape y ≡ shape x → extents_of y ≡ marked (extents_of x) e false
+        → Does (shape x) (formats_of (shape x)) s (Abandon e) Abandoned (mark s e false) × ArePartsOf y g i (mark s e false) }
+{}

@@ -1,0 +1,92 @@
+//! The machine's world, and the extents and the graph that a store has: the same appends, resets, roots and rounds.
+ghost use Rattle.std.specs.Prelude.{◌≡◌, ◌↔◌, ◌<◌, ◌++◌, ℕ, Bool, true, List, [], length, map, Some, slice_index};
+ghost use Rattle.cs_deps.specs.declared.elements.Element.{Element as Name};
+ghost use Rattle.cs_deps.specs.Named.{Named, Names};
+ghost use Rattle.cs_deps.specs.Pending.{WaitsAt};
+ghost use Rattle.cs_deps.specs.declared.elements.Element.TheVariants.{Version};
+ghost use Rattle.cs_deps.specs.Staging.{IsVersionStaged, settled};
+ghost use Rattle.law_machine.specs.Machine.{World, BeginRound, EndRound, ResetExtent, StageRoot, happens, root_now};
+ghost use Rattle.law_machine.specs.Element.{Element, A_root, Map, Run};
+ghost use Rattle.law_machine.specs.Device.{Shape, Page};
+ghost use Rattle.law_machine.specs.Formats.{Formats};
+ghost use Rattle.law_machine.specs.Cut.{Cut};
+ghost use Rattle.law_machine.specs.State.{State};
+ghost use Rattle.law_machine.specs.Sound.{Sound};
+ghost use Rattle.law_machine.specs.Append.{Append, AppendAll};
+ghost use Rattle.law_machine.specs.Extents.{Purpose as Reason, emptied, forgotten, marked};
+ghost use Rattle.cs_deps.specs.State.{AddsNone, IsWhole as IsWholeGraph, KeepsBytes, AddsOnly, State as GraphState, write_of};
+ghost use Rattle.cs_frame.specs.declared.locators.Locator.{Locator};
+ghost use Rattle.cs_extent.specs.Appended.{AreAppended, IsAppended};
+ghost use Rattle.cs_extent.specs.Frames.{IsRootNeed, IsSectionNeed, family_of, root_family, root_pages};
+ghost use Rattle.law_refinement.specs.Images.{by_family};
+ghost use Rattle.law_machine.specs.Open.{extents_read, opened_world};
+ghost use Rattle.law_machine.specs.Recovery.{Recovers};
+ghost use Rattle.law_machine.specs.Disk.{page_write};
+ghost use Rattle.cs_frame.specs.Formats.{formats_of, place_of};
+ghost use Rattle.cs_extent.specs.State.{State as ExtentsState, IsWhole, extents_of, need_of, shape};
+ghost use Rattle.law_refinement.specs.Stores.{AreMemberNames, IsWorldOf};
+ghost use Rattle.law_refinement.specs.Bridge.{name, AreNames, IsWaiting};
+
+/// What an append does to the extents and the graph of a store is what the machine's append does to its world.
+pub fn append_refines_append()
+    ensures { (x y : ExtentsState) (g h : GraphState) (w : World) (reason : Reason) (frame : List (List ℕ)) (l : Locator)
+        → IsWhole x → IsWorldOf x g w → IsAppended x g reason frame l y h
+        → (after : World) × Append (shape x) w reason frame (place_of l) after × IsWorldOf y h after }
+{}
+
+/// What a reset does to the extents of a store, under the last version of the root, the machine's reset does to its world; where chunks
+/// and runs lie apart nothing is noted of the extent then.
+pub fn reset_refines_reset()
+    ensures { (x y : ExtentsState) (g : GraphState) (w : World) (e : ℕ) → IsWorldOf x g w → shape y ≡ shape x
+        → extents_of y ≡ forgotten (shape x).apart (emptied (extents_of x) e w.root) e
+        → IsWorldOf y g (happens (shape x) w (ResetExtent e)) }
+{}
+
+/// A version of the root that is staged in the graph, and needs the versions of all sections so far and, where page writes don't come
+/// first, all plain writes so far, is the machine's root.
+pub fn root_refines_root()
+    ensures { (x : ExtentsState) (g h : GraphState) (w : World) (v : ℕ) (needs : Named) (n : ℕ) (runs : List Run) (m : Map) (pointers : ℕ → ℕ)
+        → IsWhole x → IsWorldOf x g w → IsVersionStaged g.staging root_family v needs h.staging
+        → ((z : Name) → Names needs z ↔ IsRootNeed (root_pages (shape x).pages_first g.staging.staged) g.staging.latest z)
+        → write_of h (Version root_family v) ≡ Some (page_write (shape x) (formats_of (shape x)) (A_root (root_now (shape x) w n runs m pointers))) → AddsOnly g h (Version root_family v)
+        → IsWorldOf x h (happens (shape x) w (StageRoot n runs m pointers)) }
+{}
+
+/// Frames that are appended one after another are appended one after another in the machine.
+pub fn appends_refine_appends()
+    ensures { (x y : ExtentsState) (g h : GraphState) (w : World) (reason : Reason) (frames : List (List (List ℕ))) (ls : List Locator)
+        → IsWhole x → IsWorldOf x g w → AreAppended x g reason frames ls y h
+        → (after : World) × AppendAll (shape x) w reason frames (map place_of ls) after × IsWorldOf y h after }
+{}
+
+/// A store keeps its world as a round goes out and ends, and as an extent is marked.
+pub fn stores_keep_their_worlds()
+    // A round goes out: what was staged stays as it is, and no write is kept that wasn't kept before.
+    ensures begun { (x : ExtentsState) (g h : GraphState) (w : World) (R : Cut) → IsWorldOf x g w → h.staging ≡ g.staging → AddsNone g h → IsWorldOf x h (happens (shape x) w (BeginRound R)) }
+    // A round ends: its members are settled, and no write is kept that wasn't kept before.
+    ensures ended { (F : Formats) (s : State) (x : ExtentsState) (g h : GraphState) (round : List Name) → Sound (shape x) F s → IsWorldOf x g s.world → AreMemberNames (shape x) s.world round
+        → h.staging ≡ record { pending = settled g.staging.pending round; staged = g.staging.staged; latest = g.staging.latest } → AddsNone g h → IsWorldOf x h (happens (shape x) s.world EndRound) }
+    // The names of those left of a round that is out and of those issued are the names of its members.
+    ensures members { (S : Shape) (F : Formats) (s : State) (round : List Name) → Sound S F s → s.round_out ≡ true → AreNames (s.left ++ s.issued) round → AreMemberNames S s.world round }
+    // An extent is marked as being swept, or no longer.
+    ensures marked { (x y : ExtentsState) (g : GraphState) (w : World) (e : ℕ) (mark : Bool) → IsWorldOf x g w → shape y ≡ shape x → extents_of y ≡ marked (extents_of x) e mark
+        → IsWorldOf y g (record w { extents = marked w.extents e mark }) }
+{}
+
+/// What is kept for an element that waits and keeps its bytes is what the machine writes for it, and each version of a section
+/// that waits needs staged plain writes, and no later version of the root than the section's next one.
+pub fn what_waits_is_of_the_world()
+    ensures writes { (x : ExtentsState) (g : GraphState) (w : World) (element : Element) → IsWorldOf x g w → IsWholeGraph g → IsWaiting w element → KeepsBytes g (name element)
+        → write_of g (name element) ≡ Some (page_write (shape x) (formats_of (shape x)) element) }
+    ensures needs { (x : ExtentsState) (g : GraphState) (w : World) (section k v : ℕ) (d : Named) (z : Name) → IsWorldOf x g w
+        → WaitsAt g.staging.pending k (Version (family_of section) v) d → Names d z → IsSectionNeed 1 g.staging.staged (need_of x section) z }
+{}
+
+/// A store that is opened, where nothing waits and no extent was reset, has the machine's world at open.
+pub fn opened_stores_have_worlds()
+    ensures { (x : ExtentsState) (g : GraphState) (F : Formats) (img : ℕ → Page) (n : ℕ) (m : Map) (found : Recovers (shape x) F img n m) (versions : List ℕ)
+        → IsWhole x → length versions ≡ (shape x).sections → ((section : ℕ) → section < (shape x).sections → found.versions section ≡ slice_index versions section)
+        → extents_of x ≡ extents_read (shape x) F img n m found
+        → (let numbers : List ℕ = by_family versions found.version in g.staging ≡ record { pending = record { persistent = numbers; waiting = [] }; staged = 0; latest = numbers })
+        → IsWorldOf x g (opened_world (shape x) F img n m found) }
+{}

@@ -1,0 +1,59 @@
+-- Calls of reclaim, one after another.
+use Rattle.std.specs.Prelude.{◌≡◌, ◌⊎◌, ◌∷◌, ◌+◌, ◌<◌, ℕ, zero, suc, false, List, [], Option, Some, None}
+use Rattle.cs_chunk.specs.Newest.{AreNewest}
+use Rattle.cs_deps.specs.State.{IsWhole as IsWholeGraph}
+use Rattle.cs_disk.specs.declared.disk.PageDisk.{Ghosts as PageDisk}
+use Rattle.cs_disk.specs.Disk.{Rises, seen}
+use Rattle.cs_extent.specs.State.{IsWhole, extents_of, shape}
+use Rattle.cs_index.specs.State.{index_of}
+use Rattle.law_machine.specs.Element.{Map}
+use Rattle.law_machine.specs.Index.{NoneDamaged, names}
+use Rattle.cs_core.specs.Views.{View}
+use Rattle.cs_inspect.specs.Chunks.{AreLiveChunks, Chunk}
+use Rattle.cs_inspect.specs.declared.extent_uses.ExtentUse.{ExtentUse}
+use Rattle.cs_inspect.specs.Uses.{heads_of}
+use Rattle.cs_writeback.specs.Runs.{Ran}
+use Rattle.cs_writeback.specs.Syncs.{Syncs}
+use Rattle.cs_store.specs.declared.reclaims.Reclaimed.{Reclaimed}
+use Rattle.cs_store.specs.Maps.{HasMap}
+use Rattle.cs_store.specs.Reclaims.{Reclaims, reclaimed_extent}
+use Rattle.cs_inspect.specs.Choices.{GoesBy, ReadsOn}
+
+-- no sweep goes on, and none was given up since the last root
+pub record IsIdle {D : Type 0} (v : View D) : Type 0 where
+  pub none_swept : (e : ℕ) → e < (shape v.store.extents).extents → (extents_of v.store.extents).swept e ≡ false
+  pub none_opened : (extents_of v.store.extents).fresh ≡ None
+
+module _ {D : Type 0} (disks : PageDisk D) where
+  -- What a call of reclaim did that answered this: its clauses `chosen` and `ran`, of a store with the clauses `whole` and `graph` of `found` and with a map
+  -- of which no shard is damaged.
+  pub record IsReclaim (v : View D) (found : Option Reclaimed) (w : View D) : Type 0 where
+    pub whole : IsWhole v.store.extents
+    pub graph : IsWholeGraph v.store.graph
+    pub shards : Map
+    pub has_map : HasMap v shards
+    pub undamaged : NoneDamaged shards
+    pub chosen : disks.honest v.disk → (view : ℕ → List ℕ) (chunks : List Chunk) → AreNewest v.store.graph (seen (disks.state v.disk)) view
+        → AreLiveChunks (index_of v.store.index) chunks
+        → (read : View D) × ReadsOn disks v read × Reclaims disks read found w
+        × GoesBy disks (heads_of v.store.extents view chunks) (names (index_of v.store.index)) v read (reclaimed_extent found)
+    pub ran : Ran disks v w
+
+  -- no call of the disk failed from v to w: its count of failures hasn't risen, nor does it stand at its end
+  abbrev pub NoneFailed : View D → View D → Type 0
+  NoneFailed v w = ¬ Rises (disks.failure_count v.disk) (disks.failure_count w.disk)
+
+  -- there was a sync, or none
+  abbrev pub AreSynced : View D → View D → Type 0
+  AreSynced v w = (w ≡ v) ⊎ (Syncs disks v w × Ran disks v w)
+
+  -- so many calls of reclaim swept an extent each, one after another, with a sync behind each or none
+  abbrev pub ReclaimsBy : ℕ → View D → View D → Type 0
+  ReclaimsBy zero v w = w ≡ v
+  ReclaimsBy (suc n) v w = (swept : Reclaimed) × (mid : View D) × (next : View D) × IsReclaim v (Some swept) mid × AreSynced mid next
+      × ReclaimsBy n next w
+
+-- how many live pages are counted on all of these extents
+abbrev pub total_live : List ExtentUse → ℕ
+total_live [] = 0
+total_live (used ∷ uses) = used.live + total_live uses
