@@ -58,11 +58,12 @@ class Calls(Store):
         return self.content_of(self.page_of(locator))[1]
 
     def open(self):
-        """Opens what is on the disk: flushes, and reads the superblock, the root and the runs."""
-        self.device_call()
-        self.disk.flush()
-        for _ in range(self.sections + 1):
+        """Opens what is on the disk: looks at page 0, flushes, and in format 3 reads both pages of each pair, at first for the findings and then for the newest; flushes
+        again, and reads the superblock, the root and the runs."""
+        heads = self.sections + 1
+        for _ in range(3 + (5 if self.rules.apart else 1) * heads):
             self.device_call()
+        self.disk.flush()
         self.newest, self.halted, self.events = {}, False, 0
         self.opened = super().open()
         for entries, locator in self.runs:

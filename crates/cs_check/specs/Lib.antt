@@ -6,3 +6,4 @@ pub mod Names
 pub mod Documents
 pub mod Written
 pub mod Parts
+pub mod Timings

@@ -11,7 +11,7 @@ use Rattle.cs_deps.specs.Pending.{Pending, WaitsAt, Waits, IsPersistent}
 use Rattle.cs_deps.specs.Rounds.{IsListedBefore}
 use Rattle.cs_check.specs.Listing.{IsWellFormed}
 use Rattle.cs_check.specs.Names.{AreLetters, name_of}
-use Rattle.cs_check.specs.Documents.{names_data, numbers_data, letters_data, rounds_data, elements_in}
+use Rattle.cs_check.specs.Documents.{names_data, numbers_data, letters_data, rounds_data, elements_in, IsDocumentOf}
 
 -- its family has a letter
 abbrev pub HasLetter : List ℕ → Element → Type 0
@@ -76,3 +76,9 @@ pub record AgreesOnWaiting (letters : List ℕ) (g : Pending) (target : Named) (
   pub named : (y : Element) → Waits g y → Names target y ↔ Names target' y
   pub same_rounds : rounds ≡ rounds'
   pub same_chain : chain ≡ chain'
+
+-- whatever this text is read as, it agrees with what was written on all that waits
+abbrev pub ReadsAs : List ℕ → List ℕ → Pending → Named → List (List Element) → List Element → Type 0
+ReadsAs text letters g target rounds chain = (d : Data) → read text ≡ Some d
+    → (letters' : List ℕ) (h : Pending) (target' : Named) (rounds' : List (List Element)) (chain' : List Element) → IsDocumentOf d letters' h target' rounds' chain'
+    → AgreesOnWaiting letters g target rounds chain letters' h target' rounds' chain'

@@ -4,7 +4,7 @@ ghost use Rattle.serde_json.specs.Data.{Data};
 ghost use Rattle.cs_deps.specs.View.{pending_of, rounds_of};
 ghost use Rattle.cs_check.specs.Listing.{IsWellFormed};
 ghost use Rattle.cs_check.specs.Documents.{IsDocument, IsDocumentOf};
-ghost use Rattle.cs_check.specs.Written.{IsTextOf, HasDocument, AgreesOnWaiting};
+ghost use Rattle.cs_check.specs.Written.{IsTextOf, HasDocument, ReadsAs};
 ghost use Rattle.cs_deps.specs.declared.elements.Element.{Element};
 ghost use Rattle.cs_deps.specs.Named.{Named};
 ghost use Rattle.cs_deps.specs.Pending.{Pending};
@@ -95,6 +95,5 @@ pub fn to_document(
 /// A law: whatever a text that `to_document` writes is read as, it agrees with what was written on all that waits.
 pub fn reads_as_written()
     ensures { (text letters : List ℕ) (g : Pending) (target : Named) (rounds : List (List Element)) (chain : List Element) → HasDocument letters g target rounds chain → IsTextOf text letters g target rounds chain
-        → (d : Data) → read text ≡ Some d → (letters' : List ℕ) (h : Pending) (target' : Named) (rounds' : List (List Element)) (chain' : List Element) → IsDocumentOf d letters' h target' rounds' chain'
-        → AgreesOnWaiting letters g target rounds chain letters' h target' rounds' chain' }
+        → ReadsAs text letters g target rounds chain }
 {}

@@ -18,6 +18,7 @@ mod plans;
 mod readings;
 mod spelled;
 mod texts;
+mod timings;
 mod values;
 mod verdicts;
 mod writings;

@@ -39,21 +39,6 @@ pub fn is_known(needs: &Dependency, latest: &[u64]) -> bool
     needs.versions_within(latest)
 }
 
-/// Whether the element has the number that follows on the last plain write and the last versions.
-fn is_next(element: Element, plain: u64, latest: &[u64]) -> bool
-    ensures { IsTrue result ↔ IsNext plain latest.now element }
-{
-    match element {
-        Element::Plain(number) => plain < number && number < LIMIT,
-        Element::Version(family, version) => {
-            family < latest.len()
-                && version < LIMIT
-                && latest[family] < version
-                && version - latest[family] == 1
-        }
-    }
-}
-
 /// The persistent version of a family, 0 where there is no such family.
 fn persistent_of(view: &GraphView, family: usize) -> u64
     ensures { result ≡ slice_index view.now.persistent.items family }
@@ -75,59 +60,83 @@ fn names_others(view: &GraphView, element: Element, needs: &Dependency) -> bool
     }
 }
 
-/// Whether the element may stand at place k, where the last numbers before it are given.
+/// The last numbers of the elements that were read.
+#[derive(Drop)]
+struct LastNumbers {
+    /// The last plain write, 0 before the first.
+    plain: u64,
+    /// The last version of each family, before the first its persistent one.
+    versions: Vec<u64>,
+}
+
+impl LastNumbers {
+    /// The numbers before the first element of a view.
+    fn before_all(alloc: Global, view: &GraphView) -> Result<Self, AllocError>
+        ensures { IfOk result (λ last. (last.plain ≡ 0) × (last.versions.items ≡ view.now.persistent.items)) }
+    {
+        let versions = Vec::from_slice(alloc, &view.persistent)?;
+        Ok(LastNumbers { plain: 0, versions })
+    }
+
+    /// Whether the element has the number that follows on these.
+    fn come_before(&self, element: Element) -> bool
+        ensures { IsTrue result ↔ IsNext self.now.plain self.now.versions.items element }
+    {
+        match element {
+            Element::Plain(number) => self.plain < number && number < LIMIT,
+            Element::Version(family, version) => {
+                family < self.versions.len()
+                    && version < LIMIT
+                    && self.versions[family] < version
+                    && version - self.versions[family] == 1
+            }
+        }
+    }
+
+    /// Makes the element's number the last of its kind.
+    fn pass(&mut self, element: Element)
+        ensures plain { self.new.plain ≡ plain_after self.old.plain element }
+        ensures versions { self.new.versions.items ≡ latest_after self.old.versions.items element }
+    {
+        match element {
+            Element::Plain(number) => self.plain = number,
+            Element::Version(family, version) => {
+                if family < self.versions.len() {
+                    self.versions[family] = version;
+                }
+            }
+        }
+    }
+}
+
+/// Whether an element with its needs may stand at place k, after those with these last numbers.
 fn may_stand(
     view: &GraphView,
     k: usize,
-    element: Element,
-    needs: &Dependency,
+    entry: &(Element, Dependency),
     is_back: bool,
-    plain: u64,
-    latest: &[u64],
+    last: &LastNumbers,
 ) -> bool
-    requires { IsTrue is_back → ¬ NamesFrom (pending_of view.now) needs.now k }
-    ensures { IsTrue result ↔ MayStand (pending_of view.now) k plain latest.now element needs.now }
+    requires { IsTrue is_back → ¬ NamesFrom (pending_of view.now) entry.now.1 k }
+    ensures { IsTrue result ↔ MayStand (pending_of view.now) k last.now.plain last.now.versions.items entry.now.0 entry.now.1 }
 {
-    is_next(element, plain, latest)
-        && is_known(needs, latest)
-        && names_none_from(view, needs, k, is_back)
-        && names_others(view, element, needs)
-}
-
-/// The last plain write with this element.
-fn last_plain(plain: u64, element: Element) -> u64
-    ensures { result ≡ plain_after plain element }
-{
-    match element {
-        Element::Plain(number) => number,
-        Element::Version(_, _) => plain,
-    }
-}
-
-/// Makes a version the last of its family.
-fn raise(latest: &mut Vec<u64>, element: Element)
-    ensures { latest.new.items ≡ latest_after latest.old.items element }
-{
-    if let Element::Version(family, version) = element {
-        if family < latest.len() {
-            latest[family] = version;
-        }
-    }
+    last.come_before(entry.0)
+        && is_known(&entry.1, &last.versions)
+        && names_none_from(view, &entry.1, k, is_back)
+        && names_others(view, entry.0, &entry.1)
 }
 
 /// Whether the elements have the numbers that follow on one another.
 fn are_numbered(alloc: Global, view: &GraphView) -> Result<bool, AllocError>
     ensures { IfOk result (λ yes. IsListing (pending_of view.now) → IsTrue yes) }
 {
-    let mut latest = Vec::from_slice(alloc, &view.persistent)?;
-    let mut plain = 0;
+    let mut last = LastNumbers::before_all(alloc, view)?;
     for k in 0..view.waiting.len() {
         let element = view.waiting[k].0;
-        if !is_next(element, plain, &latest) {
+        if !last.come_before(element) {
             return Ok(false);
         }
-        plain = last_plain(plain, element);
-        raise(&mut latest, element);
+        last.pass(element);
     }
     Ok(true)
 }
@@ -142,15 +151,13 @@ pub fn latest_versions(alloc: Global, view: &GraphView) -> Result<Vec<u64>, Chec
         return Err(CheckFault::BadDocument);
     }
     let back = named_back(alloc, view)?;
-    let mut latest = Vec::from_slice(alloc, &view.persistent)?;
-    let mut plain = 0;
+    let mut last = LastNumbers::before_all(alloc, view)?;
     for k in 0..view.waiting.len() {
         let entry = &view.waiting[k];
-        if !may_stand(view, k, entry.0, &entry.1, back[k], plain, &latest) {
+        if !may_stand(view, k, entry, back[k], &last) {
             return Err(CheckFault::BadDocument);
         }
-        plain = last_plain(plain, entry.0);
-        raise(&mut latest, entry.0);
+        last.pass(entry.0);
     }
-    Ok(latest)
+    Ok(last.versions)
 }

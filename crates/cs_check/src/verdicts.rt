@@ -8,13 +8,13 @@ ghost use Rattle.cs_check.specs.Faults.{FirstFailed};
 ghost use Rattle.cs_check.specs.Progress.{AreLatest, HaveFamilies, elements_of};
 
 use crate::chains::is_chain;
-use crate::coverings::{are_in_time, is_covered};
 use crate::earliest::first_rounds;
 use crate::faults::CheckFault;
 use crate::listings::{LIMIT, latest_versions};
 use crate::nestings::is_nested;
 use crate::noted::places_of;
 use crate::plans::{all_wait, are_rounds};
+use crate::timings::Timing;
 use cs_deps::{Dependency, Element, GraphView, Plan};
 use std::alloc::Global;
 
@@ -83,11 +83,16 @@ fn test(
         Ok(firsts) => firsts,
         Err(_) => return Err(CheckFault::OutOfMemory),
     };
-    let firsts = firsts.as_slice();
-    if !is_covered(view, &places, latest, firsts, rounds, target) {
+    let timing = Timing {
+        view,
+        places: &places,
+        rounds,
+        firsts: firsts.as_slice(),
+    };
+    if !timing.covers(target, latest) {
         return Err(CheckFault::Uncovered);
     }
-    if !are_in_time(view, &places, firsts, rounds) {
+    if !timing.are_in_time() {
         return Err(CheckFault::TooEarly);
     }
     if !is_chain(view, &places, target, chain) {

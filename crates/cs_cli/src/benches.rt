@@ -8,8 +8,7 @@ use crate::progress::Told;
 use clap::ArgMatches;
 use cs_disk::FileFault;
 use cs_frame::Geometry;
-use cs_mount::make_store;
-use cs_options::script::limits;
+use cs_mount::MountOptions;
 use cs_options::{Measure, geometry_of, measure_of};
 use cs_refusal::Refusal;
 use cs_tools::{Known, Load, Outcome, bench, explain};
@@ -63,7 +62,7 @@ fn bench_new<R: AllocGlobal + Clock + Files<File = File> + Print + Eprint>(
         batch: measure.batch,
     };
     let disk = new_disk(rt, path, geometry, 0o600)?;
-    let ended = match make_store(rt.alloc(), disk, geometry, limits()) {
+    let ended = match MountOptions::new(rt.alloc()).create(disk, geometry) {
         Ok(mut core) => {
             let told = Told::new(rt, manner);
             let mut writer = io::writer(rt);

@@ -12,7 +12,7 @@ use cs_disk::{FileFault, SystemFault};
 use cs_frame::Geometry;
 use cs_mount::Mounted;
 use cs_refusal::Refusal;
-use cs_tools::store::{LIMITS, Store};
+use cs_tools::store::{OpenOptions, Store};
 use cs_tools::{Known, Outcome, Style, copy, explain};
 use std::fs::File;
 use std::io::Write;
@@ -174,7 +174,7 @@ fn copy_into<R: AllocGlobal + Clock + Files<File = File> + Eprint>(
         Ok(disk) => disk,
         Err(fault) => return Err(unmade(rt, &path, fault, manner)),
     };
-    let copied = match Store::make_mounted(rt.alloc(), disk, geometry, LIMITS) {
+    let copied = match OpenOptions::new(rt.alloc()).geometry(geometry).create(disk) {
         Ok(store) => fill(rt, job, &path, store, manner),
         Err((refusal, disk)) => {
             let mut disk = disk;

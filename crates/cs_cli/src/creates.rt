@@ -8,8 +8,7 @@ use crate::progress::{tell_ended, tell_making};
 use crate::warnings::explain_unopened;
 use clap::ArgMatches;
 use cs_frame::Geometry;
-use cs_mount::make_store;
-use cs_options::script::limits;
+use cs_mount::MountOptions;
 use cs_options::{Sizing, TooSmall, Wish, exact_of, geometry_for, mode_of, sizing_of, wish_of};
 use cs_refusal::Refusal;
 use cs_tools::{Known, Outcome, Style, explain, warn};
@@ -147,13 +146,13 @@ fn make<R: AllocGlobal + Files<File = File> + Eprint>(
 ) -> Result<(), Unopened> {
     let pages = geometry.device_pages();
     tell_making(rt, path, pages, manner);
-    let made = make_store_in(rt, path, geometry, mode);
+    let made = make_quietly(rt, path, geometry, mode);
     tell_ended(rt, path, pages, manner, &made);
     made
 }
 
 /// The same, without a word on it.
-fn make_store_in<R: AllocGlobal + Files<File = File>>(
+fn make_quietly<R: AllocGlobal + Files<File = File>>(
     rt: &R,
     path: &str,
     geometry: Geometry,
@@ -163,7 +162,7 @@ fn make_store_in<R: AllocGlobal + Files<File = File>>(
         Ok(disk) => disk,
         Err(fault) => return Err(Unopened::of_file(rt.alloc(), fault)),
     };
-    match make_store(rt.alloc(), disk, geometry, limits()) {
+    match MountOptions::new(rt.alloc()).create(disk, geometry) {
         Ok(_) => Ok(()),
         Err((refusal, disk)) => {
             let mut disk = disk;

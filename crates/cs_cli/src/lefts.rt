@@ -2,8 +2,7 @@
 
 use crate::files::{Place, disk_to_write};
 use cs_disk::{FileFault, SystemFault};
-use cs_mount::open_store;
-use cs_options::script::limits;
+use cs_mount::MountOptions;
 use cs_tools::{Content, known_of};
 use std::fs::File;
 use std::rt::Files;
@@ -40,7 +39,7 @@ pub fn left_in<R: AllocGlobal + Clock + Files<File = File>>(rt: &R, place: Place
         Err(FileFault::System(fault)) => return Left::Refused(fault),
         Err(_) => return Left::Nothing,
     };
-    match open_store(rt.alloc(), disk, limits()) {
+    match MountOptions::new(rt.alloc()).open(disk) {
         Ok((core, _)) => {
             let geometry = core.extents().geometry();
             let (commands, shards) = core.opened();

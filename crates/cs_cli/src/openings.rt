@@ -4,10 +4,9 @@ use crate::files::OverFile;
 use crate::heads::scan;
 use cs_disk::{FileFault, PageDisk, SystemFault};
 use cs_mount::the_core::Core;
-use cs_mount::{AsOf, Finding, Mounted, look, open_older_store, open_store};
-use cs_options::script::limits;
+use cs_mount::{AsOf, Finding, MountOptions, Mounted, look};
 use cs_refusal::Refusal;
-use cs_tools::store::Store;
+use cs_tools::store::{OpenOptions, Store};
 use cs_tools::{Known, Outcome, Scanned, known_of, may_be_lost};
 use std::alloc::Global;
 use std::time::Clock;
@@ -36,14 +35,14 @@ impl<D: OverFile + Drop> Shown for Mounted<D> {
     type Below = D;
 
     fn open_core(alloc: Global, disk: D) -> Result<(Core<Mounted<D>>, Vec<Finding>), (Refusal, D)> {
-        open_store(alloc, disk, limits())
+        MountOptions::new(alloc).open(disk)
     }
 
     fn open_typed(
         alloc: Global,
         disk: D,
     ) -> Result<(Store<Mounted<D>>, Vec<Finding>), (Refusal, D)> {
-        Store::open_mounted(alloc, disk, limits())
+        OpenOptions::new(alloc).open(disk)
     }
 
     fn into_below(self) -> D {
@@ -58,18 +57,14 @@ impl<D: OverFile + Drop> Shown for AsOf<Mounted<D>> {
         alloc: Global,
         disk: D,
     ) -> Result<(Core<AsOf<Mounted<D>>>, Vec<Finding>), (Refusal, D)> {
-        open_older_store(alloc, disk, limits())
+        MountOptions::new(alloc).open_older(disk)
     }
 
     fn open_typed(
         alloc: Global,
         disk: D,
     ) -> Result<(Store<AsOf<Mounted<D>>>, Vec<Finding>), (Refusal, D)> {
-        let (core, findings) = open_older_store(alloc, disk, limits())?;
-        match Store::open(alloc, core.into_disk(), limits()) {
-            Ok(store) => Ok((store, findings)),
-            Err((refusal, older)) => Err((refusal, older.into_below())),
-        }
+        OpenOptions::new(alloc).open_older(disk)
     }
 
     fn into_below(self) -> D {

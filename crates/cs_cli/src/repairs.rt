@@ -8,8 +8,7 @@ use crate::openings::{Opened, Shown, Unopened, open_core};
 use crate::progress::Told;
 use crate::warnings::{explain_unopened, warn_of};
 use cs_mount::the_core::Core;
-use cs_mount::{Finding, Mounted, mend};
-use cs_options::script::limits;
+use cs_mount::{Finding, LIMITS, Mounted, mend};
 use cs_refusal::Refusal;
 use cs_tools::{FoundPages, Known, Outcome, explain, may_be_lost, scrub, stop_repair};
 use std::fs::File;
@@ -83,7 +82,7 @@ fn mended<R: AllocGlobal + Files<File = File> + Eprint>(
         Loss::Accepted => kept(rt, place, store, &findings, manner)?,
     };
     match mend(core) {
-        Ok(disk) => reopened(rt, Core::open(rt.alloc(), disk, limits()), findings),
+        Ok(disk) => reopened(rt, Core::open(rt.alloc(), disk, LIMITS), findings),
         Err(refused) => reopened(rt, Err(refused), findings),
     }
 }

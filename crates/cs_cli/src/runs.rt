@@ -11,8 +11,8 @@ use crate::watchers::Reporter;
 use clap::ArgMatches;
 use cs_disk::{Access, CrashDisk, SystemFault};
 use cs_mount::the_core::Core;
-use cs_mount::{AsOf, Mounted, make_store};
-use cs_options::script::{Onward, limits, new_in_memory, print_no_store, run_over_watched};
+use cs_mount::{AsOf, MountOptions, Mounted};
+use cs_options::script::{Onward, print_no_store, run_over_watched};
 use cs_options::{geometry_of, wait_of};
 use cs_refusal::Refusal;
 use cs_tools::{Known, Outcome, Style, tell};
@@ -56,7 +56,7 @@ where
     let onward = onward_of(options);
     let Some(path) = options.get_str("file") else {
         let store = match geometry_of(options) {
-            Ok(geometry) => new_in_memory(rt.alloc(), geometry),
+            Ok(geometry) => MountOptions::new(rt.alloc()).create_in_memory(geometry),
             Err(refusal) => Err(refusal),
         };
         return run_over_a(rt, told(rt, store), onward, writer);
@@ -189,7 +189,7 @@ fn in_new_file<R: AllocGlobal + Clock + Files<File = File> + Eprint>(
     match (disk, left) {
         (Ok(disk), _) => {
             tell_left(rt, place.path, left);
-            match make_store(rt.alloc(), disk, geometry, limits()) {
+            match MountOptions::new(rt.alloc()).create(disk, geometry) {
                 Ok(core) => Ok(core),
                 Err((refusal, _)) => told(rt, Err(refusal)),
             }

@@ -1,5 +1,5 @@
 -- A get is a step of the machine.
-use Rattle.std.proofs.Common.{◌≡◌, ◌≢◌, ◌⊎◌, inl, inr, ℕ, ◌≤◌, ◌==◌, true, false, eqb-true, eq-eqb, List, [], ◌∷◌, Some, None, Ok, Err, length, map, refl, sym, ap, ◌∙◌, subst, arith}
+use Rattle.std.proofs.Common.{◌≡◌, ◌≢◌, ◌⊎◌, inl, inr, ℕ, ◌≤◌, List, [], Some, None, Ok, Err, length, map, refl, sym, ap, ◌∙◌, subst}
 use Rattle.std.specs.Prelude.{◌↔◌, Vec, slice_get, take}
 use Rattle.std.specs.declared.alloc.Global.{Global}
 use Rattle.cs_chunk.specs.Chunks.{AreChunksIn, AreMeant}
@@ -27,6 +27,7 @@ use Rattle.cs_core.specs.Lookups.{AreMeantBytes}
 use Rattle.cs_core.specs.Reads.{DeclinesOn, GetAnswers}
 use Rattle.cs_core.specs.States.{IsStateOf}
 use Rattle.cs_core.specs.Stored.{Stored}
+use Rattle.cs_reader.proofs.Lists.{some_places, there_and_back}
 use Rattle.cs_core.proofs.Damage.{IsDamage, read_refusal}
 use Rattle.cs_core.proofs.FramesRead.{found_as_much}
 use Rattle.cs_core.proofs.Going.{no_more, pass_found}
@@ -40,24 +41,6 @@ newest_there v whole graph disk size s is on = pages_read v.extents v.graph s (s
     (reads (shape v.extents) (formats_of (shape v.extents)) s disk on)
     (let same : length (seen disk) ≡ length disk.durable = length-applied disk.durable disk.volatile in
     subst (λ (n : ℕ). page_total (shape v.extents) ≤ n) (sym same) size)
-
--- locators as places, and back
-pub there_and_back : (ls : List Locator) → map as_locator (map place_of ls) ≡ ls
-there_and_back [] = refl
-there_and_back (l ∷ ls) = ap (λ (ks : List Locator). l ∷ ks) (there_and_back ls)
-
--- some locators are some places
-pub some_places : (ls : List Locator) → ls ≢ [] → map place_of ls ≢ []
-some_places [] some = λ e. some refl
-some_places (l ∷ ls) some = λ none. (let e : place_of l ∷ map place_of ls ≡ [] = none in cc)
-
--- a list whose length is 0, or isn't
-pub none_left : (ls : List Locator) → true ≡ (length ls == 0) → map place_of ls ≡ []
-none_left [] e = refl
-none_left (l ∷ ls) e = let z : length (l ∷ ls) ≡ 0 = eqb-true (length (l ∷ ls)) 0 (sym e) in absurd (omega (arith, z))
-
-pub some_left : (ls : List Locator) → false ≡ (length ls == 0) → ls ≢ []
-some_left ls e none = let f : false ≡ true = e ∙ eq-eqb (length ls) 0 (ap length none) in cc f
 
 -- where places were found some are live
 pub found_live : (v : Stored) (id : ℕ) (ls : List Locator) → live_at (index_of v.index) id ≡ map place_of ls → ls ≢ [] → live_at (index_of v.index) id ≢ []

@@ -7,7 +7,6 @@ pub mod Counted
 pub mod Crashes
 pub mod Damage
 pub mod Deletes
-pub mod Exactly
 pub mod FramesRead
 pub mod Gets
 pub mod Going
@@ -20,7 +19,6 @@ pub mod KeptMoves
 pub mod KeptPuts
 pub mod KeptStages
 pub mod Leaving
-pub mod Living
 pub mod Loading
 pub mod Looking
 pub mod Meant
@@ -35,9 +33,6 @@ pub mod Opens
 pub mod PieceCounts
 pub mod Puts
 pub mod PutsMeant
-pub mod Ranges
-pub mod Readying
-pub mod Recorded
 pub mod Refusing
 pub mod Replaying
 pub mod Resting
@@ -46,7 +41,6 @@ pub mod RoundSteps
 pub mod RootsRead
 pub mod RootsStay
 pub mod Saying
-pub mod SectionReads
 pub mod ServeSteps
 pub mod Settling
 pub mod Sizes
@@ -57,8 +51,6 @@ pub mod SweepSteps
 pub mod Sweepable
 pub mod TornCrashes
 pub mod Unstaged
-pub mod Versions
-pub mod Causes
 pub mod TwoTexts
 pub use Rattle.law_refinement.proofs as law_refinement
 pub use Rattle.cs_index.proofs as cs_index

@@ -57,11 +57,6 @@ relisted ms (x ∷ xs) each =
     )
 
 -- what is next of a list
-pub drop_some : {A : Type 0} (xs : List A) (k : ℕ) (x : A) → slice_get xs k ≡ Some x → (drop k xs ≡ x ∷ drop (suc k) xs) × (k < length xs)
-drop_some [] k x at = absurd (cc at)
-drop_some (y ∷ xs) zero x at = let e : y ≡ x = cc at in (ap (λ (z : _). z ∷ xs) e, omega arith)
-drop_some (y ∷ xs) (suc k) x at = let rest = drop_some xs k x at in (rest.0, omega (arith, rest.1))
-
 pub drop_none : {A : Type 0} (xs : List A) (k : ℕ) → slice_get xs k ≡ None → drop k xs ≡ []
 drop_none [] zero at = refl
 drop_none [] (suc k) at = refl
@@ -72,11 +67,6 @@ pub take_more : {A : Type 0} (xs : List A) (k : ℕ) (x : A) → slice_get xs k 
 take_more [] k x at = absurd (cc at)
 take_more (y ∷ xs) zero x at = let e : y ≡ x = cc at in ap (λ (z : _). z ∷ []) e
 take_more (y ∷ xs) (suc k) x at = ap (λ (ys : List _). y ∷ ys) (take_more xs k x at)
-
-pub drop_all : {A : Type 0} (xs : List A) (k : ℕ) → k ≡ length xs → drop k xs ≡ []
-drop_all [] k is = rw is refl
-drop_all (x ∷ xs) zero is = absurd (omega (arith, is))
-drop_all (x ∷ xs) (suc k) is = drop_all xs k (omega (arith, is))
 
 pub take_all_of : {A : Type 0} (xs : List A) (k : ℕ) → k ≡ length xs → take k xs ≡ xs
 take_all_of [] zero is = refl

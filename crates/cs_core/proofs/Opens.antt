@@ -30,12 +30,13 @@ use Rattle.law_machine.specs.Recovery.{Recovers}
 use Rattle.law_machine.specs.State.{State}
 use Rattle.cs_core.specs.declared.events.Event.{Event}
 use Rattle.cs_core.specs.declared.events.Reply.{Reply}
-use Rattle.cs_core.specs.Openings.{AreExtentsOpened, IsOpened, IsStoreMade, IsStoreReadBy, IsWhyNotOpened, opened_stored}
+use Rattle.cs_reader.specs.Openings.{AreExtentsOpened, IsStoreReadBy, IsWhyNotOpened}
+use Rattle.cs_core.specs.Openings.{IsOpened, IsStoreMade, opened_stored}
 use Rattle.cs_core.specs.States.{IsStateOf}
 use Rattle.cs_core.specs.Stored.{Stored, but_for_room}
 use Rattle.cs_core.specs.Views.{IsCore, IsFound, IsReached}
-use Rattle.cs_core.proofs.Exactly.{none_fails, recovers_here, same_numbers}
-use Rattle.cs_core.proofs.Readying.{hidden_gone, hidden_stand}
+use Rattle.cs_reader.proofs.Exactly.{none_fails, recovers_here, same_numbers}
+use Rattle.cs_reader.proofs.Readying.{hidden_gone, hidden_stand}
 use Rattle.cs_core.proofs.RootsRead.{noted, read_alone}
 
 module _ (image : Image) (format : ℕ) (versions records : List ℕ) (pages : ℕ) (written : List (ℕ × ℕ)) (root commands : ℕ) (runs : List StoredRun) (y : ExtentsState)

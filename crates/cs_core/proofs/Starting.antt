@@ -41,7 +41,7 @@ use Rattle.cs_core.specs.Views.{IsCore, IsReached}
 use Rattle.cs_core.proofs.Heads.{head_page}
 use Rattle.cs_core.proofs.Noted.{noted_alone}
 use Rattle.cs_core.proofs.RootsRead.{noted, read_alone}
-use Rattle.cs_core.proofs.SectionReads.{in_push}
+use Rattle.cs_reader.proofs.SectionReads.{in_push}
 
 -- what stands in a list of equal items
 all_default : {X : Type 0} (n e : ℕ) (d : X) → slice_index_or (replicate n d) e d ≡ d

@@ -1,5 +1,5 @@
 -- What places mean is one text, or two at one place agree in eight bytes of their digests.
-use Rattle.std.proofs.Common.{◌≡◌, ◌∙◌, ◌⊎◌, ℕ, true, List, map, sym, ap, inl, inr, ⊎_elim}
+use Rattle.std.proofs.Common.{◌≡◌, ◌∙◌, ℕ, true, List, map, sym, ap, inl, inr, ⊎_elim}
 use Rattle.cs_chunk.proofs.Digests.{agree, one_or_two}
 use Rattle.cs_chunk.specs.Chunks.{TwoAgree}
 use Rattle.cs_extent.specs.State.{shape}

@@ -22,6 +22,7 @@ pub mod Unstaged
 pub mod Views
 pub mod Writebacks
 pub use Rattle.law_refinement.specs as law_refinement
+pub use Rattle.cs_reader.specs as cs_reader
 pub use Rattle.cs_chunk.specs as cs_chunk
 pub use Rattle.cs_extent.specs as cs_extent
 pub use Rattle.cs_index.specs as cs_index

@@ -1,160 +1,38 @@
 //! Stores that are read from their disk.
-ghost use Rattle.std.specs.Prelude.{◌≡◌, ◌+◌, ◌*◌, ◌<◌, ◌≤◌, ◌⊎◌, ◌↔◌, ℕ, List, IfErr, IfOk, MatchBool, MatchResult, length, map, slice_index};
-ghost use Rattle.cs_chunk.specs.Reads.{IsCaused, IsNoAnswer, IsOfFault};
+ghost use Rattle.std.specs.Prelude.{◌≡◌, ◌+◌, ◌≤◌, ◌⊎◌, ◌↔◌, ℕ, List, IfErr, IfOk, MatchResult, length, ◌≢◌, ◌^◌, ◌<◌, [], ◌∷◌, OnOk, map};
+ghost use Rattle.cs_chunk.specs.Reads.{IsCaused, IsNoAnswer};
 ghost use Rattle.cs_disk.specs.Disk.{LeavesOnly, MayLeave, flushed, page, seen};
 ghost use Rattle.cs_disk.specs.Reads.{OnlyReads};
-ghost use Rattle.cs_extent.specs.Sections.{AreSections, format_of, pages_of, rows_of};
-ghost use Rattle.cs_frame.specs.FirstFormat.{SpellsPageZero};
-ghost use Rattle.cs_frame.specs.Roots.{SpellsRoot, root_fault};
-ghost use Rattle.cs_frame.specs.Geometries.{IsKnown, device_pages};
-ghost use Rattle.law_refinement.specs.ImageReads.{AreSectionsRead};
-ghost use Rattle.cs_core.specs.Openings.{AreRecordedBy, IsOpeningRefusal, IsStoreMade, IsWhyNotOpened};
+ghost use Rattle.cs_frame.specs.Geometries.{device_pages};
+ghost use Rattle.cs_reader.specs.Heads.{IsHeadRead};
+ghost use Rattle.cs_reader.specs.Openings.{IsOpeningRefusal, IsWhyNotOpened, AreLocatedBy};
+ghost use Rattle.cs_core.specs.Openings.{IsStoreMade, IsLoaded};
+ghost use Rattle.std.specs.List.{AllByRecursion};
+ghost use Rattle.cs_extent.specs.State.{shape};
+ghost use Rattle.cs_frame.specs.Locators.{KeepFormat};
+ghost use Rattle.cs_frame.specs.Runs.{IsRun};
+ghost use Rattle.law_refinement.specs.Counts.{HasCount};
+ghost use Rattle.law_refinement.specs.Images.{graph_at, index_at};
+ghost use Rattle.law_refinement.specs.ImageReads.{IsLocated, extents_at};
+ghost use Rattle.cs_index.specs.State.{newest_first};
+ghost use Rattle.law_machine.specs.Index.{entries_of, live_at, named_weight};
 
-use crate::families::new_graph;
-use crate::loads::{OpenedStore, load_store};
-use crate::run_readings::read_runs;
-use crate::sections::{read_first, read_sections};
+use crate::parts::Store;
+use crate::roots::{Root as Noted, first_root};
+use cs_deps::Graph;
 use cs_disk::{PageDisk, refusal_of_disk};
 use cs_extent::Extents;
-use cs_frame::{Format, Root, Superblock, decode_root, device_pages, refusal_of_fault};
+use cs_frame::Root;
+use cs_index::{Index, StoredRun};
+use cs_reader::{Head, live_count, load_index, read_head, read_runs, ready_extents};
 use cs_refusal::Refusal;
+use law_refinement::reclaim::Copies;
 use std::alloc::Global;
+use std::collections::VecDeque;
 
-/// The root that a page spells in this format.
-fn decoded_root(alloc: Global, page: &[u8; 4096], format: Format) -> Result<Root, Refusal>
-    requires { IsKnown format }
-    ensures spelled { IfOk result (λ it. SpellsRoot page.now format it.version it.commands it.runs.items) }
-    ensures fault { IfErr result (λ r. (r ≡ Refusal.OutOfMemory) ⊎ IsOfFault (root_fault format page.now) r) }
-    ensures number { IfErr result IsOpeningRefusal }
-{
-    match decode_root(alloc, page, format) {
-        Ok(root) => Ok(root),
-        Err(fault) => Err(refusal_of_fault(fault)),
-    }
-}
-
-/// The root that page 1 spells in this format. Refused 20 to 24 by the first test that fails, 1 DeviceFault, and 9 OutOfMemory; the disk is only read.
-pub fn read_root<D: PageDisk>(alloc: Global, disk: &mut D, format: Format) -> Result<Root, Refusal>
-    requires known { IsKnown format }
-    requires enough { 1 < D.page_count disk.old }
-    ensures read { D.honest disk.old → IfOk result (λ it. SpellsRoot (page (seen (D.state disk.old)) 1) format it.version it.commands it.runs.items) }
-    ensures some { IfOk result (λ it. (bytes : List ℕ) × SpellsRoot bytes format it.version it.commands it.runs.items) }
-    ensures fault { D.honest disk.old → IfErr result (λ r. IsNoAnswer r ⊎ IsOfFault (root_fault format (page (seen (D.state disk.old)) 1)) r) }
-    ensures number { IfErr result IsOpeningRefusal }
-    ensures disk { OnlyReads D.PageDisk disk.old disk.new }
-    ensures cause { IsCaused (D.failure_count disk.old) (D.failure_count disk.new) result }
-{
-    let mut buffer = [0; 4096];
-    match disk.read(1, &mut buffer) {
-        Ok(()) => decoded_root(alloc, &buffer, format),
-        Err(fault) => Err(refusal_of_disk(fault)),
-    }
-}
-
-/// How many pages a device has whose superblock has this section.
-pub fn pages_of_device(superblock: &Superblock) -> u64
-    ensures { result ≡ device_pages superblock.now.format superblock.now.extent_count superblock.now.pages superblock.now.sections }
-{
-    device_pages(
-        superblock.format,
-        superblock.extent_count,
-        superblock.pages,
-        superblock.sections,
-    )
-}
-
-/// The format that sections of a superblock say.
-pub fn format_of_sections(sections: &[Superblock]) -> Format
-    requires { 0 < length sections.now }
-    ensures { result ≡ format_of sections.now }
-{
-    sections[0].format
-}
-
-/// Whether a section records a later root than one of this version.
-pub fn is_root_lost(sections: &[Superblock], root: u64) -> bool
-    ensures { MatchBool result ((j : ℕ) × (j < length sections.now) × (root < slice_index (map (λ it. it.recorded) sections.now) j))
-        (AreRecordedBy (length sections.now) (map (λ it. it.recorded) sections.now) root) }
-{
-    for k in 0..sections.len() {
-        let section = &sections[k];
-        if root < section.recorded {
-            return true;
-        }
-    }
-    false
-}
-
-/// Reads what the root locates, and makes a store of it.
-fn read_index<D: PageDisk>(
-    alloc: Global,
-    disk: &mut D,
-    sections: &[Superblock],
-    root: &Root,
-) -> Result<OpenedStore, Refusal>
-    requires are { AreSections sections.now }
-    requires some_root { (bytes : List ℕ) × SpellsRoot bytes (format_of sections.now) root.now.version root.now.commands root.now.runs.items }
-    requires sized { D.page_count disk.old ≡ device_pages (format_of sections.now) (length (rows_of sections.now)) (pages_of sections.now) (length sections.now) }
-    requires sections { D.honest disk.old → AreSectionsRead (page (seen (D.state disk.old))) (format_of sections.now) (map (λ it. it.version) sections.now) (map (λ it. it.recorded) sections.now) (pages_of sections.now) (rows_of sections.now) }
-    requires root { D.honest disk.old → SpellsRoot (page (seen (D.state disk.old)) 1) (format_of sections.now) root.now.version root.now.commands root.now.runs.items }
-    requires newest { AreRecordedBy (length sections.now) (map (λ it. it.recorded) sections.now) root.now.version }
-    ensures made { IfOk result (λ found. IsStoreMade (D.honest disk.old) (page (seen (D.state disk.old))) (format_of sections.now) (map (λ it. it.version) sections.now) (map (λ it. it.recorded) sections.now) (pages_of sections.now) (rows_of sections.now) found.commands found.live found.store) }
-    ensures why { D.honest disk.old → IfErr result (λ r. IsNoAnswer r ⊎ IsWhyNotOpened (D.page_count disk.old) (page (seen (D.state disk.old))) r) }
-    ensures number { IfErr result IsOpeningRefusal }
-    ensures disk { OnlyReads D.PageDisk disk.old disk.new }
-    ensures cause { IsCaused (D.failure_count disk.old) (D.failure_count disk.new) result }
-{
-    let extents = match Extents::of(alloc, sections) {
-        Ok(extents) => extents,
-        Err(_) => return Err(Refusal::OutOfMemory),
-    };
-    let graph = match new_graph(alloc, sections, root.version) {
-        Ok(graph) => graph,
-        Err(_) => return Err(Refusal::OutOfMemory),
-    };
-    match read_runs(alloc, &extents, &graph, disk, &root.runs) {
-        Ok(runs) => load_store(alloc, extents, graph, root, runs),
-        Err(refusal) => Err(refusal),
-    }
-}
-
-/// Reads root and runs, and makes a store of them. Refused 27 RootLost before the runs are read where a section records a later root.
-fn read_rest<D: PageDisk>(
-    alloc: Global,
-    disk: &mut D,
-    sections: &[Superblock],
-) -> Result<OpenedStore, Refusal>
-    requires are { AreSections sections.now }
-    requires enough { 1 < D.page_count disk.old }
-    requires sized { D.page_count disk.old ≡ device_pages (format_of sections.now) (length (rows_of sections.now)) (pages_of sections.now) (length sections.now) }
-    requires sections { D.honest disk.old → AreSectionsRead (page (seen (D.state disk.old))) (format_of sections.now) (map (λ it. it.version) sections.now) (map (λ it. it.recorded) sections.now) (pages_of sections.now) (rows_of sections.now) }
-    ensures made { IfOk result (λ found. IsStoreMade (D.honest disk.old) (page (seen (D.state disk.old))) (format_of sections.now) (map (λ it. it.version) sections.now) (map (λ it. it.recorded) sections.now) (pages_of sections.now) (rows_of sections.now) found.commands found.live found.store) }
-    ensures why { D.honest disk.old → IfErr result (λ r. IsNoAnswer r ⊎ IsWhyNotOpened (D.page_count disk.old) (page (seen (D.state disk.old))) r) }
-    ensures number { IfErr result IsOpeningRefusal }
-    ensures disk { OnlyReads D.PageDisk disk.old disk.new }
-    ensures cause { IsCaused (D.failure_count disk.old) (D.failure_count disk.new) result }
-{
-    let root = match read_root(alloc, disk, format_of_sections(sections)) {
-        Ok(root) => root,
-        Err(refusal) => return Err(refusal),
-    };
-    if is_root_lost(sections, root.version) {
-        return Err(Refusal::RootLost);
-    }
-    read_index(alloc, disk, sections, &root)
-}
-
-/// Reads the further sections, root and runs, and makes a store of them.
-fn read_behind<D: PageDisk>(
-    alloc: Global,
-    disk: &mut D,
-    first: Superblock,
-) -> Result<OpenedStore, Refusal>
-    requires enough { 10 ≤ D.page_count disk.old }
-    requires place { first.section ≡ 0 }
-    requires some { (bytes : List ℕ) × SpellsPageZero bytes first.format first.version first.recorded first.extent_count first.pages first.sections first.section first.extents.items }
-    requires sized { D.page_count disk.old ≡ device_pages first.format first.extent_count first.pages first.sections }
-    requires read { D.honest disk.old → SpellsPageZero (page (seen (D.state disk.old)) 0) first.format first.version first.recorded first.extent_count first.pages first.sections first.section first.extents.items }
+/// Reads the runs of a root, and makes a store of them. Refused 27 RootLost before they are read if a section records a later root.
+fn read_rest<D: PageDisk>(alloc: Global, disk: &mut D, head: Head) -> Result<OpenedStore, Refusal>
+    requires { IsHeadRead (D.honest disk.old) (D.page_count disk.old) (page (seen (D.state disk.old))) head }
     ensures made { IfOk result (λ found. (format : ℕ) × (versions : List ℕ) × (records : List ℕ) × (pages : ℕ) × (written : List (ℕ × ℕ)) × (D.page_count disk.old ≡ device_pages format (length written) pages (length versions))
         × IsStoreMade (D.honest disk.old) (page (seen (D.state disk.old))) format versions records pages written found.commands found.live found.store) }
     ensures why { D.honest disk.old → IfErr result (λ r. IsNoAnswer r ⊎ IsWhyNotOpened (D.page_count disk.old) (page (seen (D.state disk.old))) r) }
@@ -162,8 +40,11 @@ fn read_behind<D: PageDisk>(
     ensures disk { OnlyReads D.PageDisk disk.old disk.new }
     ensures cause { IsCaused (D.failure_count disk.old) (D.failure_count disk.new) result }
 {
-    match read_sections(alloc, disk, first) {
-        Ok(sections) => read_rest(alloc, disk, &sections),
+    if head.root_lost {
+        return Err(Refusal::RootLost);
+    }
+    match read_runs(alloc, &head.extents, &head.graph, disk, &head.root.runs) {
+        Ok(runs) => load_store(alloc, head.extents, head.graph, &head.root, runs),
         Err(refusal) => Err(refusal),
     }
 }
@@ -178,14 +59,10 @@ fn read_store<D: PageDisk>(alloc: Global, disk: &mut D) -> Result<OpenedStore, R
     ensures disk { OnlyReads D.PageDisk disk.old disk.new }
     ensures cause { IsCaused (D.failure_count disk.old) (D.failure_count disk.new) result }
 {
-    let superblock = match read_first(alloc, disk) {
-        Ok(superblock) => superblock,
-        Err(refusal) => return Err(refusal),
-    };
-    if disk.pages() != pages_of_device(&superblock) {
-        return Err(Refusal::NotAStore);
+    match read_head(alloc, disk) {
+        Ok(head) => read_rest(alloc, disk, head),
+        Err(refusal) => Err(refusal),
     }
-    read_behind(alloc, disk, superblock)
 }
 
 /// Flushes, and reads the store.
@@ -207,4 +84,94 @@ pub fn flush_and_read<D: PageDisk>(alloc: Global, disk: &mut D) -> Result<Opened
         Ok(()) => read_store(alloc, disk),
         Err(failed) => Err(refusal_of_disk(failed)),
     }
+}
+
+/// A store that was opened, how many commands its root counts, and how many shards it has.
+#[derive(Drop)]
+pub struct OpenedStore {
+    pub store: Store,
+    pub commands: u64,
+    pub live: usize,
+}
+
+/// What a store has beside its extents and its graph: the index of these runs, and the root as it notes it.
+fn load_parts(
+    alloc: Global,
+    extents: &Extents,
+    root: &Root,
+    runs: Vec<StoredRun>,
+) -> Result<(Index, VecDeque<Noted>), Refusal>
+    requires few { length runs.items ≤ 24 }
+    requires runs { AllByRecursion (λ run. IsRun (shape extents.now).format (record { entries = run.entries })) runs.items }
+    requires marks { KeepFormat (shape extents.now).format (map (λ run. run.place) runs.items) }
+    ensures loaded { IfOk result (λ made. made.0 ≡ index_at (newest_first runs.items) (shape extents.now).format (shape extents.now).most_weight) }
+    ensures noted { IfOk result (λ made. made.1.items ≡ record { version = root.now.version; commands = 0 } ∷ []) }
+    ensures located { OnOk result (AreLocatedBy extents.now runs.items) }
+    ensures named { OnOk result (named_weight (shape extents.now).weigh (entries_of (newest_first runs.items)) ≤ (shape extents.now).most_weight) }
+    ensures number { IfErr result IsOpeningRefusal }
+    ensures why { IfErr result (λ r. (r ≡ Refusal.OutOfMemory) ⊎ ((r ≡ Refusal.NotAStore) × ((¬ AreLocatedBy extents.now runs.items) ⊎ ((shape extents.now).most_weight < named_weight (shape extents.now).weigh (entries_of (newest_first runs.items)))))) }
+{
+    let index = match load_index(alloc, extents, runs) {
+        Ok(index) => index,
+        Err(refusal) => return Err(refusal),
+    };
+    match first_root(alloc, root.version) {
+        Ok(roots) => Ok((index, roots)),
+        Err(_) => Err(Refusal::OutOfMemory),
+    }
+}
+
+/// A store of these extents and this graph, on which nothing was staged, and of this root's runs, oldest first.
+///
+/// Refused 43 NotAStore where a locator of an entry isn't located or the newest entries weigh more than those of one run may, and 9
+/// OutOfMemory.
+pub fn load_store(
+    alloc: Global,
+    mut extents: Extents,
+    graph: Graph,
+    root: &Root,
+    runs: Vec<StoredRun>,
+) -> Result<OpenedStore, Refusal>
+    requires extents { extents ≡ extents_at extents.format extents.pages extents.sections extents.written }
+    requires graph { (versions : List ℕ) × (length versions ≡ extents.sections) × (graph ≡ graph_at versions root.now.version) }
+    requires version { root.now.version < 2 ^ 63 }
+    requires commands { root.now.commands < 2 ^ 63 }
+    requires few { length runs.items ≤ 24 }
+    requires runs { AllByRecursion (λ run. IsRun (shape extents).format (record { entries = run.entries })) runs.items }
+    requires marks { KeepFormat (shape extents).format (map (λ run. run.place) runs.items) }
+    requires places { AllByRecursion (λ run. IsLocated extents run.place) runs.items }
+    ensures made { IfOk result (λ found. IsLoaded extents graph root.now.version root.now.commands runs.items found.store) }
+    ensures commands { IfOk result (λ found. found.commands ≡ root.now.commands) }
+    ensures live { IfOk result (λ found. HasCount (λ id. live_at (entries_of (newest_first runs.items)) id ≢ []) found.live) }
+    ensures located { OnOk result (AreLocatedBy extents runs.items) }
+    ensures named { OnOk result (named_weight (shape extents).weigh (entries_of (newest_first runs.items)) ≤ (shape extents).most_weight) }
+    ensures number { IfErr result IsOpeningRefusal }
+    ensures why { IfErr result (λ r. (r ≡ Refusal.OutOfMemory) ⊎ ((r ≡ Refusal.NotAStore) × ((¬ AreLocatedBy extents runs.items) ⊎ ((shape extents).most_weight < named_weight (shape extents).weigh (entries_of (newest_first runs.items)))))) }
+{
+    // Called for its contract alone: what all extents keep.
+    extents.extent_count();
+    let (index, roots) = match load_parts(alloc, &extents, root, runs) {
+        Ok(made) => made,
+        Err(refusal) => return Err(refusal),
+    };
+    let live = live_count(&index);
+    let copies = Copies::none(alloc);
+    ready_extents(&index, &mut extents, &copies, root.version);
+    Ok(OpenedStore {
+        store: Store {
+            alloc,
+            graph,
+            extents,
+            index,
+            copies,
+            roots,
+            issued: 0,
+            base: root.commands,
+            accepted: 0,
+            frontier: 0,
+            halted: false,
+        },
+        commands: root.commands,
+        live,
+    })
 }

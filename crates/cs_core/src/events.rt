@@ -1,12 +1,12 @@
-//! What a core is asked, and what it answers.
-ghost use Rattle.std.specs.Prelude.{◌≡◌, IfOk, MatchBool};
+//! What a core is asked, and what it answers, once to tell and once to keep.
+ghost use Rattle.std.specs.Prelude.{◌≡◌, IfOk, MatchBool, ◌≢◌, MatchResult};
 ghost use Rattle.cs_core.specs.Answered.{IsForDevice, IsLimited};
 
 use crate::contents::{Bytes, Elements};
 use cs_deps::Element;
 use cs_frame::ShardId;
 use cs_refusal::Refusal;
-use std::alloc::{AllocError, AllocFailed};
+use std::alloc::{AllocError, AllocFailed, Global};
 
 /// Memory was asked for and refused; nothing has changed.
 #[derive(Clone, Copy, Debug, PartialEq, Eq)]
@@ -160,4 +160,23 @@ pub enum Reply {
     /// The event was refused, and nothing has changed; but after 1 DeviceFault an Issue or End has halted the core, and the write that
     /// failed may be among the volatile ones.
     Refused(Refusal),
+}
+
+/// The reply with the bytes of a shard, twice.
+pub fn found(alloc: Global, bytes: Vec<u8>) -> Result<(Reply, Reply), OutOfMemory>
+    ensures { IfOk result (λ r. (r.0 ≡ Reply.Found bytes.items) × (r.1 ≡ Reply.Found bytes.items)) }
+{
+    let told = Bytes::new(alloc, bytes)?;
+    let noted = told.share()?;
+    Ok((Reply::Found(told), Reply::Found(noted)))
+}
+
+/// The reply to a refused event, twice. Want of memory has no reply: it is the `Err`.
+pub fn refused(refusal: Refusal) -> Result<(Reply, Reply), OutOfMemory>
+    ensures { MatchResult result (λ r. (r.0 ≡ Reply.Refused refusal) × (r.1 ≡ Reply.Refused refusal) × (refusal ≢ Refusal.OutOfMemory)) (λ _. refusal ≡ Refusal.OutOfMemory) }
+{
+    match refusal {
+        Refusal::OutOfMemory => Err(OutOfMemory),
+        other => Ok((Reply::Refused(other), Reply::Refused(other))),
+    }
 }

@@ -5,13 +5,13 @@ ghost use Rattle.cs_frame.specs.Geometries.{IsGeometry, device_pages, section_le
 ghost use Rattle.cs_frame.specs.Superblocks.{SpellsSuperblock};
 ghost use Rattle.cs_core.specs.Started.{AreNew, AreNewWritten, IsHeadWritten, IsNewOn, IsNewSection, new_stored};
 
-use crate::families::new_graph;
 use crate::parts::Store;
 use crate::roots::first_root;
 use cs_disk::{DiskFault, PageDisk};
 use cs_extent::Extents;
 use cs_frame::{Geometry, Root, Superblock, encode_root, encode_superblock};
 use cs_index::Index;
+use cs_reader::new_graph;
 use cs_refusal::Refusal;
 use law_refinement::reclaim::Copies;
 use std::alloc::{AllocError, Global};

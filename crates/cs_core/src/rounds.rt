@@ -1,20 +1,27 @@
-//! Rounds of writeback.
-ghost use Rattle.std.specs.Prelude.{◌≡◌, ◌≢◌, ◌+◌, ◌^◌, ◌<◌, ◌≤◌, ◌⊎◌, [], IfOk, IfErr, IfSome, MatchBool, MatchOption, MatchResult, OnErr, IsErrOf, None, Some, false, true, length, slice_get};
-ghost use Rattle.cs_extent.specs.State.{shape};
+//! Rounds of writeback, what of them is persistent, and whether any of it is left to do.
+ghost use Rattle.std.specs.Prelude.{◌≡◌, ◌≢◌, ◌+◌, ◌^◌, ◌<◌, ◌≤◌, ◌⊎◌, [], IfOk, IfErr, IfSome, MatchBool, MatchOption, MatchResult, OnErr, IsErrOf, None, Some, false, true, length, slice_get, ◌↔◌, ◌∷◌, List, IsTrue, slice_index, ℕ};
+ghost use Rattle.cs_extent.specs.State.{shape, extents_of};
 ghost use Rattle.cs_core.specs.Disks.{WritesAsTold};
 ghost use Rattle.cs_core.specs.Replies.{MayRefuse};
 ghost use Rattle.cs_core.specs.Rounds.{BeginAnswers, EndAnswers, IssueAnswers};
 ghost use Rattle.cs_core.specs.Stored.{members_of, but_for_room};
 ghost use Rattle.cs_core.specs.Writebacks.{IsMemberIssued, IsRoundBegun, IsRoundEnded, StaysRefused};
 ghost use Rattle.law_refinement.specs.ImageReads.{page_total};
+ghost use Rattle.cs_extent.specs.Frames.{root_family};
+ghost use Rattle.cs_core.specs.declared.roots.Root.{Root};
+ghost use Rattle.cs_core.specs.Frontiers.{LetsGo};
+ghost use Rattle.cs_core.specs.Checkpoints.{IsSettled};
 
 use crate::events::{Event, Reply};
-use crate::frontiers::let_go;
 use crate::parts::Store;
-use cs_deps::Element;
+use crate::roots::Root;
+use cs_deps::{Dependency, Element, Graph};
 use cs_disk::{DiskFault, PageDisk};
+use cs_extent::ROOT;
 use cs_plan::next_round;
 use cs_refusal::Refusal;
+use std::alloc::Global;
+use std::collections::VecDeque;
 
 impl Store {
     /// Takes the next round of the plan of all that waits, and gives its members twice; None where nothing waits.
@@ -146,5 +153,64 @@ impl Store {
             Some(round) => self.issued == round.len(),
             None => false,
         }
+    }
+}
+
+/// Lets go of the roots before the newest that is persistent; the first of them is. It asks the graph of at most one root more than it
+/// lets go of.
+pub fn let_go(alloc: Global, graph: &Graph, roots: &mut VecDeque<Root>)
+    requires some { 0 < length roots.old.items }
+    requires settled { (r : Root) (rs : List Root) → roots.old.items ≡ r ∷ rs → r.version ≤ slice_index graph.now.staging.pending.persistent root_family }
+    ensures { LetsGo (slice_index graph.now.staging.pending.persistent root_family) roots.old.items roots.new.items }
+{
+    for _ in 1..roots.len() {
+        if !is_persistent(alloc, graph, roots[1]) {
+            return;
+        }
+        roots.pop_front();
+    }
+}
+
+/// Whether a root is persistent.
+fn is_persistent(alloc: Global, graph: &Graph, root: Root) -> bool
+    ensures { IsTrue result ↔ (root.version ≤ slice_index graph.now.staging.pending.persistent root_family) }
+{
+    // Called for its contract alone: what every graph keeps.
+    graph.families();
+    match Dependency::on_version(alloc, ROOT, root.version) {
+        Ok(version) => graph.is_persistent(&version),
+        Err(_) => unreachable!(),
+    }
+}
+
+impl Store {
+    /// Whether nothing waits, no round is out, the index has no change that isn't staged, and no extent is being swept.
+    pub fn is_settled(&self) -> bool
+        ensures { MatchBool result (IsSettled self.now) (¬ IsSettled self.now) }
+    {
+        self.is_at_rest() && self.swept_extent().is_none()
+    }
+
+    /// Whether nothing waits, no round is out, and the index has no change that isn't staged.
+    fn is_at_rest(&self) -> bool
+        ensures { IsTrue result ↔ ((self.now.graph.staging.pending.waiting ≡ []) × (self.now.out ≡ None) × (self.now.index.table ≡ [])) }
+    {
+        match self.graph.round() {
+            Some(_) => false,
+            None => !self.graph.has_waiting() && self.index.is_table_empty(),
+        }
+    }
+
+    /// The lowest extent that is being swept, None where none is.
+    pub fn swept_extent(&self) -> Option<usize>
+        ensures { MatchOption result ((e : ℕ) → (extents_of self.now.extents).swept e ≡ false)
+            (λ e. ((extents_of self.now.extents).swept e ≡ true) × ((k : ℕ) → k < e → (extents_of self.now.extents).swept k ≡ false)) }
+    {
+        for extent in 0..self.extents.extent_count() {
+            if self.extents.is_swept(extent) {
+                return Some(extent);
+            }
+        }
+        None
     }
 }

@@ -1,16 +1,23 @@
-//! Sweeps: which extent is being swept.
-ghost use Rattle.std.specs.Prelude.{◌≡◌, ◌≢◌, ◌⊎◌, IfErr, IsTrue, OnErr, OnOk, false, true};
+//! Sweeps: an extent is marked, what lives on it goes elsewhere chunk by chunk, and it is emptied or given up.
+ghost use Rattle.std.specs.Prelude.{◌≡◌, ◌≢◌, ◌⊎◌, IfErr, IsTrue, OnErr, OnOk, false, true, None, []};
 ghost use Rattle.cs_extent.specs.State.{shape};
-ghost use Rattle.law_machine.specs.State.{Abandon, Abandoned, BeginSweep, Sweeping};
+ghost use Rattle.law_machine.specs.State.{Abandon, Abandoned, BeginSweep, Sweeping, Retire, Retired};
 ghost use Rattle.cs_core.specs.Puts.{MeansTheSame};
 ghost use Rattle.cs_core.specs.Replies.{MayRefuse};
 ghost use Rattle.cs_core.specs.Steps.{Answers};
 ghost use Rattle.cs_core.specs.Stored.{but_for_room};
 ghost use Rattle.cs_core.specs.Sweepable.{IsUnsweepable};
-ghost use Rattle.cs_core.specs.Writebacks.{KeepsRound, KeepsStaging};
+ghost use Rattle.cs_core.specs.Writebacks.{KeepsRound, KeepsStaging, Stages};
+ghost use Rattle.cs_chunk.specs.Reads.{IsCaused};
+ghost use Rattle.cs_disk.specs.Reads.{OnlyReads};
+ghost use Rattle.cs_core.specs.Reads.{MoveAnswers};
+ghost use Rattle.law_refinement.specs.ImageReads.{page_total};
 
 use crate::events::Event;
 use crate::parts::Store;
+use crate::roots::Root;
+use cs_disk::PageDisk;
+use cs_frame::ShardId;
 use cs_refusal::Refusal;
 use law_refinement::reclaim::{Sweep, is_sweepable};
 
@@ -106,6 +113,217 @@ impl Store {
             self.copies.may_begin(&self.extents, extent)
         } else {
             is_sweepable(&self.extents, extent)
+        }
+    }
+}
+
+impl Store {
+    /// Moves the first live chunk off an extent that is being swept, and tells which it was; None where none is live. Where chunks and runs
+    /// lie apart it copies the first one that isn't copied, which counts where it lay until the extent is retired; None where all are.
+    ///
+    /// Refused 33 NotSweepable where it isn't being swept, 1 DeviceFault, 20 to 24 where the chunk is damaged, 26 where
+    /// another frame lies at its place, 30 Full, 35 WornOut, and 9 OutOfMemory.
+    pub fn move_one<D: PageDisk>(
+        &mut self,
+        disk: &mut D,
+        extent: usize,
+    ) -> Result<Option<(ShardId, usize)>, Refusal>
+        requires device { page_total (shape self.old.extents) ≡ D.page_count disk.old }
+        ensures none { result ≡ Ok None → but_for_room self.new ≡ but_for_room self.old }
+        ensures step { self.old.halted ≡ false → D.honest disk.old → MoveAnswers self.old (D.state disk.old) extent result self.new }
+        ensures round { KeepsRound self.old self.new }
+        ensures behind { OnOk result (Stages self.old self.new) }
+        ensures meaning { OnOk result (MeansTheSame self.old.index self.new.index) }
+        ensures refused { OnErr result (but_for_room self.new ≡ but_for_room self.old) }
+        ensures refusals { IfErr result (λ r. (r ≡ Refusal.OutOfMemory) ⊎ MayRefuse (Event.MoveOne extent) r) }
+        ensures shape { shape self.new.extents ≡ shape self.old.extents }
+        ensures frontier { self.new.frontier ≡ self.old.frontier }
+        ensures disk { OnlyReads D.PageDisk disk.old disk.new }
+        ensures cause { IsCaused (D.failure_count disk.old) (D.failure_count disk.new) result }
+    {
+        if self.extents.is_apart() {
+            self.move_apart(disk, extent)
+        } else {
+            self.move_together(disk, extent)
+        }
+    }
+
+    /// Moves it where chunks and runs may lie on one extent.
+    fn move_together<D: PageDisk>(
+        &mut self,
+        disk: &mut D,
+        extent: usize,
+    ) -> Result<Option<(ShardId, usize)>, Refusal>
+        requires rule { (shape self.old.extents).apart ≡ false }
+        requires device { page_total (shape self.old.extents) ≡ D.page_count disk.old }
+        ensures none { result ≡ Ok None → but_for_room self.new ≡ but_for_room self.old }
+        ensures step { self.old.halted ≡ false → D.honest disk.old → MoveAnswers self.old (D.state disk.old) extent result self.new }
+        ensures round { KeepsRound self.old self.new }
+        ensures behind { OnOk result (Stages self.old self.new) }
+        ensures meaning { OnOk result (MeansTheSame self.old.index self.new.index) }
+        ensures refused { OnErr result (but_for_room self.new ≡ but_for_room self.old) }
+        ensures refusals { IfErr result (λ r. (r ≡ Refusal.OutOfMemory) ⊎ MayRefuse (Event.MoveOne extent) r) }
+        ensures shape { shape self.new.extents ≡ shape self.old.extents }
+        ensures frontier { self.new.frontier ≡ self.old.frontier }
+        ensures disk { OnlyReads D.PageDisk disk.old disk.new }
+        ensures cause { IsCaused (D.failure_count disk.old) (D.failure_count disk.new) result }
+    {
+        // Called for their contracts alone: what all extents and every graph keep.
+        self.extents.extent_count();
+        self.graph.families();
+        let Some(sweep) = Sweep::resume(&self.extents, extent) else {
+            return Err(Refusal::NotSweepable);
+        };
+        sweep.move_one(
+            self.alloc,
+            &mut self.index,
+            &mut self.extents,
+            &mut self.graph,
+            disk,
+        )
+    }
+
+    /// Copies it where chunks and runs lie apart.
+    fn move_apart<D: PageDisk>(
+        &mut self,
+        disk: &mut D,
+        extent: usize,
+    ) -> Result<Option<(ShardId, usize)>, Refusal>
+        requires rule { (shape self.old.extents).apart ≡ true }
+        requires device { page_total (shape self.old.extents) ≡ D.page_count disk.old }
+        ensures none { result ≡ Ok None → but_for_room self.new ≡ but_for_room self.old }
+        ensures step { self.old.halted ≡ false → D.honest disk.old → MoveAnswers self.old (D.state disk.old) extent result self.new }
+        ensures round { KeepsRound self.old self.new }
+        ensures behind { OnOk result (Stages self.old self.new) }
+        ensures meaning { OnOk result (MeansTheSame self.old.index self.new.index) }
+        ensures refused { OnErr result (but_for_room self.new ≡ but_for_room self.old) }
+        ensures refusals { IfErr result (λ r. (r ≡ Refusal.OutOfMemory) ⊎ MayRefuse (Event.MoveOne extent) r) }
+        ensures shape { shape self.new.extents ≡ shape self.old.extents }
+        ensures frontier { self.new.frontier ≡ self.old.frontier }
+        ensures disk { OnlyReads D.PageDisk disk.old disk.new }
+        ensures cause { IsCaused (D.failure_count disk.old) (D.failure_count disk.new) result }
+    {
+        // Called for their contracts alone: what all extents and every graph keep.
+        self.extents.extent_count();
+        self.graph.families();
+        if Sweep::resume(&self.extents, extent).is_none() {
+            return Err(Refusal::NotSweepable);
+        }
+        self.copies.copy_one(
+            self.alloc,
+            extent,
+            &self.index,
+            &mut self.extents,
+            &mut self.graph,
+            disk,
+        )
+    }
+}
+
+impl Store {
+    /// Stages one run of all that is live and the root over it, and empties an extent that is being swept; where chunks and runs lie apart
+    /// what was copied counts, and a root is staged as `stage` does. Gives the root's version.
+    ///
+    /// Refused 33 NotSweepable where it isn't being swept, 34 StillLive, 30 Full, 35 WornOut, and 9 OutOfMemory.
+    pub fn retire(&mut self, extent: usize) -> Result<u64, Refusal>
+        ensures staged { OnOk result (self.new.index.table ≡ []) }
+        ensures step { self.old.halted ≡ false → Answers self.old (Retire extent) (λ v. Retired v) result self.new }
+        ensures round { KeepsRound self.old self.new }
+        ensures behind { OnOk result (Stages self.old self.new) }
+        ensures meaning { OnOk result (MeansTheSame self.old.index self.new.index) }
+        ensures refused { OnErr result (but_for_room self.new ≡ but_for_room self.old) }
+        ensures refusals { IfErr result (λ r. (r ≡ Refusal.OutOfMemory) ⊎ MayRefuse (Event.Retire extent) r) }
+        ensures shape { shape self.new.extents ≡ shape self.old.extents }
+        ensures frontier { self.new.frontier ≡ self.old.frontier }
+        ensures no_fault { IfErr result (λ r. r ≢ Refusal.DeviceFault) }
+    {
+        if self.extents.is_apart() {
+            self.retire_apart(extent)
+        } else {
+            self.retire_together(extent)
+        }
+    }
+
+    /// Retires it where chunks and runs may lie on one extent.
+    fn retire_together(&mut self, extent: usize) -> Result<u64, Refusal>
+        requires { (shape self.old.extents).apart ≡ false }
+        ensures staged { OnOk result (self.new.index.table ≡ []) }
+        ensures step { self.old.halted ≡ false → Answers self.old (Retire extent) (λ v. Retired v) result self.new }
+        ensures round { KeepsRound self.old self.new }
+        ensures behind { OnOk result (Stages self.old self.new) }
+        ensures meaning { OnOk result (MeansTheSame self.old.index self.new.index) }
+        ensures refused { OnErr result (but_for_room self.new ≡ but_for_room self.old) }
+        ensures refusals { IfErr result (λ r. (r ≡ Refusal.OutOfMemory) ⊎ MayRefuse (Event.Retire extent) r) }
+        ensures shape { shape self.new.extents ≡ shape self.old.extents }
+        ensures frontier { self.new.frontier ≡ self.old.frontier }
+        ensures no_fault { IfErr result (λ r. r ≢ Refusal.DeviceFault) }
+    {
+        // Called for their contracts alone: what all extents and every graph keep.
+        self.extents.extent_count();
+        self.graph.families();
+        let Some(sweep) = Sweep::resume(&self.extents, extent) else {
+            return Err(Refusal::NotSweepable);
+        };
+        if self.roots.reserve(1).is_err() {
+            return Err(Refusal::OutOfMemory);
+        }
+        let commands = self.base + self.accepted;
+        match sweep.retire(
+            &mut self.index,
+            &mut self.extents,
+            &mut self.graph,
+            commands,
+        ) {
+            Ok(version) => {
+                self.roots.push_back_reserved(Root {
+                    version,
+                    commands: self.accepted,
+                });
+                Ok(version)
+            }
+            Err((refusal, _sweep)) => Err(refusal),
+        }
+    }
+
+    /// Retires it where chunks and runs lie apart.
+    fn retire_apart(&mut self, extent: usize) -> Result<u64, Refusal>
+        requires { (shape self.old.extents).apart ≡ true }
+        ensures staged { OnOk result (self.new.index.table ≡ []) }
+        ensures step { self.old.halted ≡ false → Answers self.old (Retire extent) (λ v. Retired v) result self.new }
+        ensures round { KeepsRound self.old self.new }
+        ensures behind { OnOk result (Stages self.old self.new) }
+        ensures meaning { OnOk result (MeansTheSame self.old.index self.new.index) }
+        ensures refused { OnErr result (but_for_room self.new ≡ but_for_room self.old) }
+        ensures refusals { IfErr result (λ r. (r ≡ Refusal.OutOfMemory) ⊎ MayRefuse (Event.Retire extent) r) }
+        ensures shape { shape self.new.extents ≡ shape self.old.extents }
+        ensures frontier { self.new.frontier ≡ self.old.frontier }
+        ensures no_fault { IfErr result (λ r. r ≢ Refusal.DeviceFault) }
+    {
+        // Called for their contracts alone: what all extents and every graph keep.
+        self.extents.extent_count();
+        self.graph.families();
+        if Sweep::resume(&self.extents, extent).is_none() {
+            return Err(Refusal::NotSweepable);
+        }
+        if self.roots.reserve(1).is_err() {
+            return Err(Refusal::OutOfMemory);
+        }
+        let commands = self.base + self.accepted;
+        match self.copies.retire(
+            extent,
+            &mut self.index,
+            &mut self.extents,
+            &mut self.graph,
+            commands,
+        ) {
+            Ok(version) => {
+                self.roots.push_back_reserved(Root {
+                    version,
+                    commands: self.accepted,
+                });
+                Ok(version)
+            }
+            Err(refusal) => Err(refusal),
         }
     }
 }

@@ -4,7 +4,6 @@ use Rattle.std.proofs.Math.Seq.{take-append_seam}
 use Rattle.std.proofs.lemmas.Option.{slice_get-get_or}
 use Rattle.std.specs.Prelude.{slice_get}
 use Rattle.std.specs.List.{AllByRecursion}
-use Rattle.cs_chunk.specs.Chunks.{end_in}
 use Rattle.cs_chunk.specs.Lengths.{header_fault_in, length_at}
 use Rattle.cs_chunk.specs.Newest.{AreNewest}
 use Rattle.cs_chunk.specs.Reads.{IsNoAnswer, IsOfFault}
@@ -23,7 +22,7 @@ use Rattle.cs_frame.specs.Frames.{page_count}
 use Rattle.cs_index.specs.declared.live.LiveChunk.{LiveChunk}
 use Rattle.law_machine.specs.Device.{Shape}
 use Rattle.cs_inspect.specs.Chunks.{BeginsInside, chunk_of}
-use Rattle.cs_inspect.specs.Uses.{AreRead, AreReadAs, AreSums, AreTallied, Head, head_of, heads_of, lost_in, lost_one, pages_counted, unless_fault}
+use Rattle.cs_inspect.specs.Uses.{AreRead, AreReadAs, AreSums, AreTallied, Head, head_of, heads_of, IsReadAs, lost_in, lost_one, pages_said, unless_fault}
 use Rattle.cs_inspect.specs.Failures.{RisesBy}
 use Rattle.cs_inspect.proofs.Risen.{risen_none, risen_one, risen_so, risen_still}
 use Rattle.cs_inspect.proofs.Tallied.{lost_at_most, lost_more, lost_none, read_more}
@@ -127,14 +126,14 @@ module _ (heads read : List Head) (e : ℕ) (said pages : Option ℕ) (a b d : �
 pub heads_step : (x y : Extents) (view : ℕ → List ℕ) (cs : List LiveChunk) (k : ℕ) (c : LiveChunk) (read : List Head) (pages : Option ℕ) (a b d : ℕ) → y ≡ x → slice_get cs k ≡ Some c
     → a ≤ b → b ≤ d
     → AreRead a b (heads_of x view (map chunk_of (take k cs))) read
-    → (pages ≡ pages_counted (shape y).format c.place.mark (view ((shape y).address c.place.extent c.place.page)) (end_in y c.place - c.place.page)) ⊎ ((pages ≡ None) × Rises b d)
+    → IsReadAs (Rises b d) (pages_said y view c.place) pages
     → AreRead a d (heads_of x view (map chunk_of (take (k + 1) cs))) (read ++ (c.place.extent, pages) ∷ [])
 heads_step x y view cs k c read pages a b d same at le le' was here =
     subst (λ (hs : List Head). AreRead a d hs (read ++ (c.place.extent, pages) ∷ [])) (sym (heads_more x view cs k c at))
-    (one_read (heads_of x view (map chunk_of (take k cs))) read c.place.extent (pages_counted (shape x).format c.place.mark (view ((shape x).address c.place.extent c.place.page)) (end_in x c.place - c.place.page)) pages a b d was
+    (one_read (heads_of x view (map chunk_of (take k cs))) read c.place.extent (pages_said x view c.place) pages a b d was
     (⊎_elim
-    (λ (is : pages ≡ pages_counted (shape y).format c.place.mark (view ((shape y).address c.place.extent c.place.page)) (end_in y c.place - c.place.page)).
-    inl (is ∙ ap (λ (z : Extents). pages_counted (shape z).format c.place.mark (view ((shape z).address c.place.extent c.place.page)) (end_in z c.place - c.place.page)) same))
+    (λ (is : pages ≡ pages_said y view c.place).
+    inl (is ∙ ap (λ (z : Extents). pages_said z view c.place) same))
     (λ (lost : (pages ≡ None) × Rises b d). inr lost)
     here)
     le le')
@@ -147,7 +146,7 @@ none_read a = record { each = tt; lost = risen_none 0 a refl }
 
 module _ (x : Extents) (view : ℕ → List ℕ) (l : Locator) where
   abbrev counted : Option ℕ
-  counted = pages_counted (shape x).format l.mark (view ((shape x).address l.extent l.page)) (end_in x l - l.page)
+  counted = pages_said x view l
 
   pub told_pages : (pages count : ℕ) → pages ≡ page_count count → count ≡ length_at (shape x) view l → header_fault_in x view ChunkKind l ≡ None → Some pages ≡ counted
   told_pages pages count is told none = ap Some (is ∙ ap page_count told) ∙ sym (ap (λ (o : Option FormatFault). unless_fault o (page_count (length_at (shape x) view l))) none)

@@ -1,27 +1,26 @@
 -- How an extent is chosen to be swept.
 use Rattle.std.specs.Prelude.{◌≡◌, ◌-◌, ◌<◌, ◌≤◌, ℕ, Bool, true, false, List, Option, Some, None, slice_get}
-use Rattle.cs_chunk.specs.Newest.{AreNewest}
 use Rattle.cs_core.specs.Views.{View}
-use Rattle.cs_disk.specs.Disk.{seen}
 use Rattle.cs_disk.specs.Reads.{OnlyReads}
 use Rattle.cs_disk.specs.declared.disk.PageDisk.{Ghosts as PageDisk}
 use Rattle.cs_extent.specs.State.{extents_of, shape}
 use Rattle.cs_frame.specs.Frames.{page_count}
 use Rattle.cs_frame.specs.Geometries.{run_bytes}
 use Rattle.cs_index.specs.State.{index_of}
+use Rattle.law_machine.specs.Device.{Shape}
 use Rattle.law_machine.specs.Index.{names}
-use Rattle.cs_inspect.specs.Chunks.{AreLiveChunks, Chunk}
 use Rattle.cs_inspect.specs.declared.choices.Choice.{Choice}
 use Rattle.cs_inspect.specs.declared.choices.SweepRule.{SweepRule}
 use Rattle.cs_inspect.specs.declared.choices.SweepRule.TheVariants.{FewestLive, MostGarbage}
 use Rattle.cs_inspect.specs.declared.extent_uses.ExtentUse.{ExtentUse}
 use Rattle.cs_inspect.specs.Fewest.{IsFewestLive, NoTwoFit}
-use Rattle.cs_inspect.specs.Uses.{AreCountedAsRead, AreExtents, Head, IsMostGarbage, garbage, heads_of}
+use Rattle.cs_inspect.specs.Kinds.{LieApart, LieTogether}
+use Rattle.cs_inspect.specs.Uses.{AreCountedAsRead, AreExtents, Head, HoldsOfHeads, IsMostGarbage, garbage}
 
--- by which rule extents are chosen, by whether chunks and runs lie apart
-abbrev pub IsRule : (apart : Bool) → SweepRule → Type 0
-IsRule apart FewestLive = apart ≡ true
-IsRule apart MostGarbage = apart ≡ false
+-- by which rule extents of this shape are chosen
+abbrev pub IsRule : Shape → SweepRule → Type 0
+IsRule S FewestLive = LieApart S
+IsRule S MostGarbage = LieTogether S
 
 -- how many pages a run with so many entries takes
 abbrev pub run_pages : ℕ → ℕ
@@ -32,19 +31,19 @@ abbrev pub chosen_extent : Option Choice → Option (ℕ × ℕ)
 chosen_extent None = None
 chosen_extent (Some choice) = Some (choice.extent, choice.dead)
 
--- what is chosen of extents that are used so: the first with most garbage, where that is more than so many pages; None where no extent has more
+-- what is chosen by most garbage, in stores of formats 1 and 2: the first extent with most, if that is more than so many pages; None where none has more
 abbrev pub ChoosesTogether : List ExtentUse → (pages : ℕ) → Option (ℕ × ℕ) → Type 0
 ChoosesTogether uses pages None = (e : ℕ) (used : ExtentUse) → slice_get uses e ≡ Some used → garbage used ≤ pages
 ChoosesTogether uses pages (Some (extent, dead)) = (best : IsMostGarbage uses extent) × (garbage best.its ≡ dead) × (pages < dead)
 
--- what is chosen where chunks and runs lie apart: the first with fewest live pages, but not the last one, where these and those of another one have room on
--- one extent; None where of no two extents they have
+-- what is chosen by fewest live pages: the first extent with fewest, but not the last one, where these and those of another one have room on one extent;
+-- None where of no two extents they have
 abbrev pub ChoosesApart : List ExtentUse → (last : Option ℕ) → (pages : ℕ) → Option (ℕ × ℕ) → Type 0
 ChoosesApart uses last pages None = NoTwoFit uses pages
 ChoosesApart uses last pages (Some (extent, dead)) = (chosen : IsFewestLive uses last pages extent) × (chosen.best.its.pointer - chosen.best.its.live ≡ dead)
 
--- by which rule, with an index that takes so many pages
-abbrev pub ChoosesBy : (apart : Bool) → List ExtentUse → (index_pages : ℕ) → (last : Option ℕ) → (pages : ℕ) → Option (ℕ × ℕ) → Type 0
+-- what is chosen: by fewest live pages (true), or by most garbage (false), with an index that takes so many pages
+abbrev pub ChoosesBy : Bool → List ExtentUse → (index_pages : ℕ) → (last : Option ℕ) → (pages : ℕ) → Option (ℕ × ℕ) → Type 0
 ChoosesBy false uses index_pages last pages chosen = ChoosesTogether uses index_pages chosen
 ChoosesBy true uses index_pages last pages chosen = ChoosesApart uses last pages chosen
 
@@ -54,7 +53,7 @@ module _ {D : Type 0} (disks : PageDisk D) where
   ReadsOn old new = (new ≡ record old { disk = new.disk }) × OnlyReads disks old.disk new.disk
 
   -- An extent is chosen, or none, by how the extents are used as these headers say, where one whose read failed says nothing, and by the rule of the
-  -- format; where chunks and runs may lie on one extent it has more garbage than a run takes that has so many entries.
+  -- format; in formats 1 and 2 it has more garbage than a run takes that has so many entries.
   pub record GoesBy (heads : List Head) (entries : ℕ) (old new : View D) (chosen : Option (ℕ × ℕ)) : Type 0 where
     pub uses : List ExtentUse
     pub extents : AreExtents (shape old.store.extents).extents (extents_of old.store.extents) uses
@@ -63,6 +62,4 @@ module _ {D : Type 0} (disks : PageDisk D) where
 
   -- on an honest disk it is chosen so by the headers of all live chunks, and by as many entries as the index names
   abbrev pub Chooses : (old new : View D) → (chosen : Option (ℕ × ℕ)) → Type 0
-  Chooses old new chosen = disks.honest old.disk
-      → (view : ℕ → List ℕ) (chunks : List Chunk) → AreNewest old.store.graph (seen (disks.state old.disk)) view → AreLiveChunks (index_of old.store.index) chunks
-      → GoesBy (heads_of old.store.extents view chunks) (names (index_of old.store.index)) old new chosen
+  Chooses old new chosen = disks.honest old.disk → HoldsOfHeads disks old (λ heads. GoesBy heads (names (index_of old.store.index)) old new chosen)

@@ -1,4 +1,4 @@
--- Which extent is swept where chunks and runs lie apart.
+-- Which extent is swept: one with few live pages.
 use Rattle.std.specs.Prelude.{◌≡◌, ◌≢◌, ◌⊎◌, ◌+◌, ◌<◌, ◌≤◌, ℕ, false, List, Option, Some, slice_get}
 use Rattle.cs_inspect.specs.declared.extent_uses.ExtentUse.{ExtentUse}
 

@@ -3,6 +3,7 @@ pub mod Choices
 pub mod Chunks
 pub mod Failures
 pub mod Fewest
+pub mod Kinds
 pub mod Listings
 pub mod Stats
 pub mod Uses

@@ -16,7 +16,7 @@ abbrev pub newest_uses : List RunUse → List (Place × ℕ)
 newest_uses [] = []
 newest_uses (used ∷ uses) = newest_uses uses ++ (place_of used.place, used.entries) ∷ []
 
--- How many extents hold chunks and runs where these lie apart, and how many may: all but those for runs and two hold chunks.
+-- How many extents hold chunks, how many hold runs, and how many may: all but those for runs and two may hold chunks.
 pub record IsQuota (S : Shape) (x : Extents) (quota : Quota) : Type 0 where
   pub chunks : quota.chunks ≡ chunk_extents x S.extents
   pub most_chunks : quota.most_chunks ≡ S.extents - S.run_extents - 2

@@ -1,14 +1,19 @@
 -- How the extents of a store are used.
 use Rattle.std.specs.Prelude.{◌≡◌, ◌⊎◌, ◌↔◌, ◌+◌, ◌-◌, ◌^◌, ◌<◌, ◌≤◌, ◌==◌, ℕ, List, [], ◌∷◌, Option, Some, None, IsTrue, if◌then◌else◌, length, map, min, slice_get, slice_index}
 use Rattle.cs_chunk.specs.Chunks.{end_in}
-use Rattle.cs_disk.specs.Disk.{Rises}
+use Rattle.cs_chunk.specs.Newest.{AreNewest}
+use Rattle.cs_core.specs.Views.{View}
+use Rattle.cs_disk.specs.Disk.{Rises, seen}
+use Rattle.cs_disk.specs.declared.disk.PageDisk.{Ghosts as PageDisk}
 use Rattle.cs_extent.specs.State.{State as ExtentsState, shape}
 use Rattle.cs_frame.specs.declared.faults.FormatFault.{FormatFault}
 use Rattle.cs_frame.specs.declared.frames.FrameKind.TheVariants.{Chunk as ChunkKind}
+use Rattle.cs_frame.specs.declared.locators.Locator.{Locator}
 use Rattle.cs_frame.specs.Formats.{as_locator}
 use Rattle.cs_frame.specs.Frames.{kind_byte, meant_header_fault, page_count, payload_length}
+use Rattle.cs_index.specs.State.{index_of}
 use Rattle.law_machine.specs.Extents.{Extents}
-use Rattle.cs_inspect.specs.Chunks.{Chunk}
+use Rattle.cs_inspect.specs.Chunks.{AreLiveChunks, Chunk}
 use Rattle.cs_inspect.specs.declared.extent_uses.ExtentUse.{ExtentUse}
 use Rattle.cs_inspect.specs.Failures.{RisesBy}
 
@@ -28,9 +33,13 @@ unless_fault (Some f) pages = None
 abbrev pub pages_counted : (format mark : ℕ) → (first : List ℕ) → (at_most : ℕ) → Option ℕ
 pages_counted format mark first at_most = unless_fault (meant_header_fault format (kind_byte ChunkKind) mark first at_most) (page_count (payload_length first))
 
--- what the header of a chunk says, whose frame reaches no further than it may in these extents
+-- how many pages the header at a place counts of a chunk's frame, which reaches no further than it may in these extents
+abbrev pub pages_said : ExtentsState → (view : ℕ → List ℕ) → Locator → Option ℕ
+pages_said x view l = pages_counted (shape x).format l.mark (view ((shape x).address l.extent l.page)) (end_in x l - l.page)
+
+-- what the header of a chunk says
 abbrev pub head_of : ExtentsState → (view : ℕ → List ℕ) → Chunk → Head
-head_of x view c = (c.place.extent, pages_counted (shape x).format c.place.mark (view ((shape x).address c.place.extent c.place.page)) (end_in x (as_locator c.place) - c.place.page))
+head_of x view c = (c.place.extent, pages_said x view (as_locator c.place))
 
 -- what the headers of these chunks say, one after another
 abbrev pub heads_of : ExtentsState → (view : ℕ → List ℕ) → List Chunk → List Head
@@ -56,6 +65,12 @@ live_on e heads = sum_on pages_in e heads
 -- how many headers on extent e say nothing
 abbrev pub unreadable_on : (e : ℕ) → List Head → ℕ
 unreadable_on e heads = sum_on missing_in e heads
+
+module _ {D : Type 0} (disks : PageDisk D) where
+  -- this holds of what the headers of all live chunks say
+  abbrev pub HoldsOfHeads : View D → (List Head → Type 0) → Type 0
+  HoldsOfHeads v Holds = (view : ℕ → List ℕ) (chunks : List Chunk) → AreNewest v.store.graph (seen (disks.state v.disk)) view → AreLiveChunks (index_of v.store.index) chunks
+      → Holds (heads_of v.store.extents view chunks)
 
 -- ---- the use of an extent
 
@@ -96,6 +111,10 @@ abbrev pub AreUses : (extents : ℕ) → Extents → (live unreadable : List ℕ
 AreUses extents x live unreadable uses = (length uses ≡ extents) × ((e : ℕ) (used : ExtentUse) → slice_get uses e ≡ Some used
     → IsExtent x e used × (used.live ≡ slice_index live e) × (used.unreadable ≡ slice_index unreadable e))
 
+-- a header was read as it says, or, where a read failed, as saying nothing
+abbrev pub IsReadAs : (failed : Type 0) → (said read : Option ℕ) → Type 0
+IsReadAs failed said read = (read ≡ said) ⊎ ((read ≡ None) × failed)
+
 -- each was read as it says, or, where a read failed, as saying nothing
 abbrev pub AreReadAs : (failed : Type 0) → (heads read : List Head) → Type 0
 AreReadAs failed [] [] = Unit {0}
@@ -124,8 +143,7 @@ AreCountedAsRead before after heads uses = (read : List Head) × AreRead before 
 
 -- ---- what to sweep
 
--- the pages that a sweep could free: those that are given and not live; none where frames are appended, none where a sweep goes on, and none where
--- runs lie apart from chunks
+-- the pages that a sweep could free: those that are given and not live; none where frames are appended, where a sweep goes on, or on an extent of runs
 abbrev pub garbage : ExtentUse → ℕ
 garbage used = if used.is_open then 0 else if used.is_swept then 0 else if used.holds_runs then 0 else used.pointer - used.live
 

@@ -1,15 +1,15 @@
 //! Which extent to sweep, and whether that gains.
 ghost use Rattle.std.specs.Prelude.{IfOk};
 ghost use Rattle.cs_extent.specs.State.{shape};
-ghost use Rattle.cs_inspect.specs.Choices.{Chooses, ChoosesApart, ChoosesTogether, IsRule, ReadsOn, chosen_extent};
+ghost use Rattle.cs_inspect.specs.Choices.{Chooses, ChoosesApart, IsRule, ReadsOn, chosen_extent};
 
-use crate::extent_uses::{ExtentUse, most_garbage};
+use crate::choices_v2::{choose_most_garbage, index_pages};
+use crate::extent_uses::ExtentUse;
 use crate::fewest::fewest_live;
 use crate::surveys::uses;
 use cs_core::Core;
 use cs_disk::PageDisk;
 use cs_extent::Extents;
-use cs_frame::{frame_pages, weight_bytes};
 use std::alloc::{AllocError, Global};
 
 /// An extent that is worth sweeping.
@@ -24,16 +24,16 @@ pub struct Choice {
 /// By which rule a store's extents are chosen.
 #[derive(Clone, Copy, Debug, PartialEq, Eq)]
 pub enum SweepRule {
-    /// The extent with fewest live pages: in stores of format 3, where chunks and runs lie apart.
+    /// The extent with fewest live pages.
     FewestLive,
-    /// The extent with most garbage: in stores of formats 1 and 2, where chunks and runs may lie on one extent.
+    /// The extent with most garbage: the rule of formats 1 and 2.
     MostGarbage,
 }
 
 impl SweepRule {
     /// The rule of a store with these extents.
     pub fn of(extents: &Extents) -> Self
-        ensures { IsRule (shape extents.now).apart result }
+        ensures { IsRule (shape extents.now) result }
     {
         if extents.is_apart() {
             SweepRule::FewestLive
@@ -43,13 +43,13 @@ impl SweepRule {
     }
 }
 
-/// Chooses the extent to sweep, by the rule of the store's format. It returns None if no sweep gains anything.
+/// Chooses the extent to sweep. It returns None if no sweep gains anything.
 ///
-/// In stores of format 3 that is the extent with fewest live pages of those that hold chunks, if these and the live pages of another one have room on
-/// one extent (`fewest_live`). Sweeps of such two give an extent, the first one or the second.
+/// That is the extent of chunks with fewest live pages, if these and the live pages of another one fit on one extent
+/// (`fewest_live`). Two such sweeps free an extent: the first one or the second.
 ///
-/// In stores of formats 1 and 2 it is the extent with most garbage (`most_garbage`), if that is more than the index takes, which a sweep writes anew.
-/// So each sweep frees pages.
+/// In stores of formats 1 and 2 it is the extent with most garbage (`most_garbage`), if that is more than the index
+/// takes, which a sweep writes anew. So each sweep frees pages.
 ///
 /// It costs what `uses` costs: a read for each live chunk, and memory for all of them and for the extents.
 pub fn choose_sweep<D: PageDisk>(
@@ -64,11 +64,7 @@ pub fn choose_sweep<D: PageDisk>(
     let rule = SweepRule::of(extents);
     let last = extents.last_copied();
     let pages = extents.extent_pages();
-    let geometry = extents.geometry();
-    // Up to format 2, where chunks and runs may lie on one extent, each entry weighs one. An index names no more there than one run has room for,
-    // which takes all pages of an extent then: more of them can't be dead.
-    let named = core.index().named_count().min(geometry.most_weight());
-    let index_pages = frame_pages(weight_bytes(geometry.format(), named));
+    let index_pages = index_pages(core.index(), extents);
     let uses = uses(alloc, core)?;
     match rule {
         SweepRule::FewestLive => Ok(choose_fewest_live(&uses, last, pages)),
@@ -76,7 +72,7 @@ pub fn choose_sweep<D: PageDisk>(
     }
 }
 
-/// The extent with fewest live pages, if these and those of another one have room on one of so many pages.
+/// The extent with fewest live pages, if these and those of another one fit on one of so many pages.
 fn choose_fewest_live(uses: &[ExtentUse], last: Option<usize>, pages: usize) -> Option<Choice>
     ensures { ChoosesApart uses.now last pages (chosen_extent result) }
 {
@@ -85,19 +81,4 @@ fn choose_fewest_live(uses: &[ExtentUse], last: Option<usize>, pages: usize) -> 
     };
     let dead = uses[extent].dead();
     Some(Choice { extent, dead })
-}
-
-/// The extent with most garbage, if that is more than so many pages.
-fn choose_most_garbage(uses: &[ExtentUse], index_pages: usize) -> Option<Choice>
-    ensures { ChoosesTogether uses.now index_pages (chosen_extent result) }
-{
-    let Some(extent) = most_garbage(uses) else {
-        return None;
-    };
-    let dead = uses[extent].dead();
-    if dead > index_pages {
-        Some(Choice { extent, dead })
-    } else {
-        None
-    }
 }

@@ -10,8 +10,8 @@ use cs_frame::{Locator, ShardId};
 use cs_index::{Index, LiveChunk};
 use std::alloc::{AllocError, Global};
 
-/// All chunks of all shards that are there, by rising identifiers, and those of a shard in their order. Takes memory for all of them, and time for
-/// all entries of the index.
+/// All chunks of all shards that are there, by rising identifiers, and those of a shard in their order. Takes memory
+/// for all of them, and time for all entries of the index.
 pub fn live_chunks(alloc: Global, index: &Index) -> Result<Vec<LiveChunk>, AllocError>
     ensures { IfOk result (λ chunks. AreLiveChunks (index_of index.now) (map chunk_of chunks.items)) }
 {
@@ -40,8 +40,8 @@ fn add_chunks(
     Ok(())
 }
 
-/// The first chunk that lives on an extent, by identifier and then by number, None where none lives there. Takes no memory, and time for the
-/// entries up to it.
+/// The first chunk that lives on an extent, by identifier and then by number, None where none lives there. Takes no
+/// memory, and time for the entries up to it.
 pub fn first_on(index: &Index, extent: usize) -> Option<LiveChunk>
     ensures { MatchOption result (NothingLive (index_of index.now) extent) (λ found. FirstLive (index_of index.now) extent (id_number found.id) found.chunk (place_of found.place)) }
 {

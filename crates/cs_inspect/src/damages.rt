@@ -5,7 +5,7 @@ use cs_refusal::Refusal;
 /// A frame that can't be read, and the refusal of its read.
 #[derive(Clone, Copy, Debug, PartialEq, Eq)]
 pub enum Damage {
-    /// The frame of a chunk: whose it is, the how manyth of the shard's chunks it is, counted from 0, and where it begins.
+    /// The frame of a chunk: its shard, its number among the shard's chunks, counted from 0, and where it begins.
     Chunk {
         id: ShardId,
         chunk: usize,
@@ -19,13 +19,13 @@ pub enum Damage {
     },
 }
 
-/// What a scrub went through, and what it found.
+/// What a scrub read, and what it found.
 #[derive(Debug, Drop)]
 pub struct Scrubbed {
     /// How many chunks there are. The frame of each was read.
     pub chunks: usize,
     /// How many runs the index has. The frame of each was read.
     pub runs: usize,
-    /// The frames that can't be read: those of chunks by rising identifiers and by number, then those of runs from the oldest on.
+    /// The frames that can't be read: those of chunks by identifier and number, then those of runs, oldest first.
     pub damages: Vec<Damage>,
 }

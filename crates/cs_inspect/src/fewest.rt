@@ -1,16 +1,19 @@
-//! Which extent to sweep where chunks and runs lie apart.
+//! The extent with fewest live pages.
 ghost use Rattle.std.specs.Prelude.{◌≡◌, ◌+◌, ◌↔◌, ◌<◌, ◌≤◌, ℕ, IsTrue, MatchBool, MatchOption, Some, length};
 ghost use Rattle.cs_inspect.specs.Fewest.{HasFewer, HasNoFewer, IsFewest, IsFewestLive, NoOther, NoTwoFit};
 
 use crate::extent_uses::ExtentUse;
 
-/// The extent to sweep where chunks and runs lie apart, so that fewer extents hold chunks: the one with fewest live pages, the first of them where
-/// several have as few, if these and the live pages of another one have room on one extent of so many pages. None where of no two extents they have.
+/// The extent to sweep, so that fewer extents hold chunks: the one with fewest live pages, the first of them if several
+/// have as few. It is chosen if these and the live pages of another extent fit on one of so many pages. It returns None
+/// if no two extents fit on one.
 ///
-/// Extents count from which all may be moved: that hold chunks, of which none has an unreadable header, and that aren't being swept. `last`, the
-/// extent to which the last copy of any sweep went, counts as the other one alone, so that the copies of the next sweep go behind those of this one.
+/// Only extents count from which all may be moved: they hold chunks, each of their headers can be read, and they aren't
+/// being swept. `last`, the extent to which the last copy of any sweep went, counts only as the other one, so that the
+/// copies of the next sweep are appended to it.
 ///
-/// Sweeps of such two give an extent: the first sweep, or the second (the law `two_sweeps_gain` of law_room). Costs two passes over the extents.
+/// Two such sweeps free an extent: the first sweep, or the second (the law `two_sweeps_gain` of law_room). It costs two
+/// passes over the extents.
 pub fn fewest_live(uses: &[ExtentUse], last: Option<usize>, pages: usize) -> Option<usize>
     ensures { MatchOption result (NoTwoFit uses.now pages) (IsFewestLive uses.now last pages) }
 {
@@ -27,7 +30,7 @@ pub fn fewest_live(uses: &[ExtentUse], last: Option<usize>, pages: usize) -> Opt
     }
 }
 
-/// Whether so many pages and so many have room on one extent.
+/// Whether so many pages and so many fit on one extent.
 fn fit_on_one(one: usize, other: usize, pages: usize) -> bool
     ensures { IsTrue result ↔ (one + other ≤ pages) }
 {
@@ -37,7 +40,7 @@ fn fit_on_one(one: usize, other: usize, pages: usize) -> bool
     }
 }
 
-/// The first extent with fewest live pages of those but this one from which all may be moved.
+/// The first extent with fewest live pages, of those from which all may be moved, without this one.
 fn fewest_but(uses: &[ExtentUse], but: Option<usize>) -> Option<usize>
     ensures { MatchOption result (NoOther uses.now but) (IsFewest uses.now but) }
 {
@@ -50,7 +53,8 @@ fn fewest_but(uses: &[ExtentUse], but: Option<usize>) -> Option<usize>
     found
 }
 
-/// Whether an extent is another one than this, all may be moved from it, and it has fewer live pages than the one that was found, where one was.
+/// Whether an extent is another one than this, all may be moved from it, and it has fewer live pages than the one found
+/// so far, if there is one.
 fn is_fewer(uses: &[ExtentUse], but: Option<usize>, found: Option<usize>, extent: usize) -> bool
     requires extent { extent < length uses.now }
     requires found { (e : ℕ) → found ≡ Some e → e < length uses.now }

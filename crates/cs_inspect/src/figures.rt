@@ -1,7 +1,6 @@
 //! The figures of a store.
 ghost use Rattle.std.specs.Prelude.{◌≡◌, ◌≢◌, IfOk, [], List, ℕ, false, length, map};
-ghost use Rattle.cs_chunk.specs.Newest.{AreNewest};
-ghost use Rattle.cs_disk.specs.Disk.{Rises, seen};
+ghost use Rattle.cs_disk.specs.Disk.{Rises};
 ghost use Rattle.cs_disk.specs.Reads.{OnlyReads};
 ghost use Rattle.cs_extent.specs.State.{extents_of, shape};
 ghost use Rattle.cs_index.specs.State.{index_of, newest_first};
@@ -11,7 +10,7 @@ ghost use Rattle.law_machine.specs.Index.{live_at, named_weight, names};
 ghost use Rattle.cs_inspect.specs.Chunks.{AreLiveChunks, Chunk};
 ghost use Rattle.cs_inspect.specs.Listings.{AreAll};
 ghost use Rattle.cs_inspect.specs.Stats.{newest_uses, run_figure};
-ghost use Rattle.cs_inspect.specs.Uses.{AreBounded, AreCounted, AreCountedAsRead, AreExtents, heads_of};
+ghost use Rattle.cs_inspect.specs.Uses.{AreBounded, AreCounted, AreCountedAsRead, AreExtents, HoldsOfHeads};
 
 use crate::chunk_lists::live_chunks;
 use crate::extent_uses::ExtentUse;
@@ -43,7 +42,7 @@ pub struct Stats {
     pub runs: Vec<RunUse>,
     /// How many identifiers have an entry, deletions included.
     pub named: usize,
-    /// What the newest entry of each weighs, all together: up to format 2 each weighs one.
+    /// What the newest entry of each weighs, all together. In formats 1 and 2 each weighs one.
     pub weight: usize,
     /// What they may weigh.
     pub weight_limit: usize,
@@ -59,16 +58,13 @@ impl Stats {
         ensures extents { IfOk result (λ stats. AreExtents (shape core.old.store.extents).extents (extents_of core.old.store.extents) stats.extents.items) }
         // Whatever reads failed, the counts are those of what was read.
         ensures read { D.honest core.old.disk
-            → (view : ℕ → List ℕ) (chunks : List Chunk) → AreNewest core.old.store.graph (seen (D.state core.old.disk)) view → AreLiveChunks (index_of core.old.store.index) chunks
-            → IfOk result (λ stats. AreCountedAsRead (D.failure_count core.old.disk) (D.failure_count core.new.disk) (heads_of core.old.store.extents view chunks) stats.extents.items) }
+            → HoldsOfHeads D.PageDisk core.old (λ heads. IfOk result (λ stats. AreCountedAsRead (D.failure_count core.old.disk) (D.failure_count core.new.disk) heads stats.extents.items)) }
         // So where none failed they are those of the headers.
         ensures counted { D.honest core.old.disk → ¬ Rises (D.failure_count core.old.disk) (D.failure_count core.new.disk)
-            → (view : ℕ → List ℕ) (chunks : List Chunk) → AreNewest core.old.store.graph (seen (D.state core.old.disk)) view → AreLiveChunks (index_of core.old.store.index) chunks
-            → IfOk result (λ stats. AreCounted (heads_of core.old.store.extents view chunks) stats.extents.items) }
+            → HoldsOfHeads D.PageDisk core.old (λ heads. IfOk result (λ stats. AreCounted heads stats.extents.items)) }
         // And else a chunk whose read failed isn't live, and counts as unreadable.
         ensures bounded { D.honest core.old.disk
-            → (view : ℕ → List ℕ) (chunks : List Chunk) → AreNewest core.old.store.graph (seen (D.state core.old.disk)) view → AreLiveChunks (index_of core.old.store.index) chunks
-            → IfOk result (λ stats. AreBounded (heads_of core.old.store.extents view chunks) stats.extents.items) }
+            → HoldsOfHeads D.PageDisk core.old (λ heads. IfOk result (λ stats. AreBounded heads stats.extents.items)) }
         ensures empty { IfOk result (λ stats. stats.empty ≡ empties (extents_of core.old.store.extents).pointer (shape core.old.store.extents).extents) }
         ensures runs { IfOk result (λ stats. newest_uses stats.runs.items ≡ map run_figure core.old.store.index.runs) }
         ensures named { IfOk result (λ stats. stats.named ≡ names (index_of core.old.store.index)) }

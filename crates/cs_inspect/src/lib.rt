@@ -1,8 +1,9 @@
-//! What is in a store, and whether it can still be read: its identifiers, its chunks, how its extents are used, and a scrub of each live
-//! chunk and each run of the index. Nothing here is kept in the history.
+//! What is in a store, and whether it can still be read: its identifiers, its chunks, how its extents are used, and a
+//! scrub of each live chunk and each run of the index. Nothing here is kept in the history.
 #![tactic(auto)]
 
 mod choices;
+mod choices_v2;
 mod chunk_lists;
 mod damages;
 mod extent_uses;
@@ -18,10 +19,11 @@ mod surveys;
 mod tallies;
 
 pub use choices::{Choice, SweepRule, choose_sweep};
+pub use choices_v2::most_garbage;
 pub use chunk_lists::{first_on, live_chunks};
 pub use cs_core as the_core;
 pub use damages::{Damage, Scrubbed};
-pub use extent_uses::{ExtentUse, most_garbage};
+pub use extent_uses::ExtentUse;
 pub use fewest::fewest_live;
 pub use figures::{RunUse, Stats};
 pub use listings::{ids, ids_from};

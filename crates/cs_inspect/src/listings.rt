@@ -8,8 +8,8 @@ use cs_frame::ShardId;
 use cs_index::Index;
 use std::alloc::{AllocError, Global};
 
-/// The identifiers of the first so many shards that are there, from one on, by rising bytes. Takes memory for them, and time for their entries and the
-/// deletions between them.
+/// The identifiers of the first so many shards that are there, from one on, by rising bytes. Takes memory for them, and
+/// time for their entries and the deletions between them.
 pub fn ids_from(
     alloc: Global,
     index: &Index,

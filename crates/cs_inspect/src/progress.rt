@@ -1,12 +1,12 @@
-//! What is told of a long call while it goes on.
+//! Reports of how far a long call has come.
 
-/// Who is told how far a call has come.
+/// Receives the reports.
 pub trait Progress {
-    /// So many are done, of so many in all.
+    /// So many steps are done, of so many in all.
     fn tell(&self, done: usize, all: usize);
 }
 
-/// Nobody.
+/// Ignores the reports.
 #[derive(Clone, Copy, Debug)]
 pub struct Nobody;
 

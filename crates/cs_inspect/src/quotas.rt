@@ -1,11 +1,12 @@
 //! How many extents may hold chunks, and how many runs.
-ghost use Rattle.std.specs.Prelude.{◌≡◌, MatchOption, false, true};
+ghost use Rattle.std.specs.Prelude.{◌≡◌, MatchOption};
 ghost use Rattle.cs_extent.specs.State.{extents_of, shape};
+ghost use Rattle.cs_inspect.specs.Kinds.{LieApart, LieTogether};
 ghost use Rattle.cs_inspect.specs.Stats.{IsQuota};
 
 use cs_extent::Extents;
 
-/// How many extents hold chunks and runs where these lie apart, and how many may once no sweep is unfinished.
+/// How many extents hold chunks and how many hold runs, and how many may once no sweep is unfinished.
 #[derive(Clone, Copy, Debug)]
 pub struct Quota {
     /// How many extents hold chunks.
@@ -19,9 +20,10 @@ pub struct Quota {
 }
 
 impl Quota {
-    /// The quota of a store; None where chunks and runs may lie on one extent. Costs two passes over the extents.
+    /// The quota of a store, None in formats 1 and 2, where an extent may hold both. It costs two passes over the
+    /// extents.
     pub fn of(extents: &Extents) -> Option<Self>
-        ensures { MatchOption result ((shape extents.now).apart ≡ false) (λ quota. ((shape extents.now).apart ≡ true) × IsQuota (shape extents.now) (extents_of extents.now) quota) }
+        ensures { MatchOption result (LieTogether (shape extents.now)) (λ quota. LieApart (shape extents.now) × IsQuota (shape extents.now) (extents_of extents.now) quota) }
     {
         if !extents.is_apart() {
             return None;

@@ -6,7 +6,8 @@ ghost use Rattle.cs_index.specs.State.{State as Index};
 ghost use Rattle.cs_inspect.specs.Scrubs.{AreCaused, HidesNothing, IsScrubbed, NamesNoOther};
 ghost use Rattle.cs_inspect.specs.declared.damages.Scrubbed.{Scrubbed};
 
-/// Whatever reads failed, a scrub names each shard that has a damaged chunk; where the device refused no read, it names no other.
+/// Whatever reads failed, a scrub names each shard that has a damaged chunk; where the device refused no read, it names
+/// no other.
 pub fn damaged_shards_are_named()
     ensures hides { (x : ExtentsState) (view : ℕ → List ℕ) (index : Index) (found : Scrubbed) → IsScrubbed x view index found → HidesNothing x view index found.damages.items }
     ensures others { (x : ExtentsState) (view : ℕ → List ℕ) (index : Index) (found : Scrubbed) (before after : ℕ) → IsScrubbed x view index found

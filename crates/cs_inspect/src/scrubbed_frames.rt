@@ -45,11 +45,13 @@ fn read_place<D: PageDisk>(
     }
 }
 
-/// Reads the frame of a chunk, to see whether it can be read. Reads each of its pages once, and takes memory for them. No event is kept of
-/// it, and a halted core answers it too.
+/// Reads the frame of a chunk, to see whether it can be read. Reads each of its pages once, and takes memory for them.
+/// No event is kept of it, and a halted core answers it too.
 ///
-/// Refused 43 NotAStore where the place is on no extent, which no chunk of the core's index is; 20 BadMagic, 21 BadDigest, 22 BadLength,
-/// 23 BadPadding or 24 BadVersion, the first test that fails, where the frame is damaged; 26 Misplaced, in format 3 alone, where it is whole and another one; 1 DeviceFault where a read failed; 9 OutOfMemory.
+/// It is refused 20 BadMagic, 21 BadDigest, 22 BadLength, 23 BadPadding or 24 BadVersion if the frame is damaged, by
+/// the first test that fails. 26 Misplaced: another frame lies there, and is whole. 1 DeviceFault: a read failed. 9
+/// OutOfMemory. 43 NotAStore: the place is on no extent, which no chunk of the core's index is. Formats 1 and 2 don't
+/// report 26.
 pub fn read_chunk<D: PageDisk>(core: &mut Core<D>, chunk: &LiveChunk) -> Result<(), Refusal>
     ensures told { D.honest core.old.disk → (view : ℕ → List ℕ) → AreNewest core.old.store.graph (seen (D.state core.old.disk)) view
         → TellsFrame core.old.store.extents view FrameKind.Chunk chunk.now.place result }

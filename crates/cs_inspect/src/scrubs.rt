@@ -33,7 +33,8 @@ fn run_places(alloc: Global, runs: &[StoredRun]) -> Result<Vec<Locator>, AllocEr
     Ok(found)
 }
 
-/// Why a frame can't be read, None where it was read. Want of memory says nothing of the frame.
+/// The refusal of a frame that can't be read, None if it was read. If memory was refused, nothing is known of the
+/// frame.
 fn why(read: Result<(), Refusal>) -> Result<Option<Refusal>, AllocError>
     ensures { IfOk result (λ found. MatchOption found (IsOk read) (λ r. (read ≡ Err r) × (r ≢ Refusal.OutOfMemory))) }
 {
@@ -97,14 +98,15 @@ fn damaged_runs<D: PageDisk>(
     Ok(damages)
 }
 
-/// Reads the frame of each live chunk and of each run of the index, and names those that can't be read. It goes on after each of them. Each page
-/// is read once, from the newest write to it that waits, else from the device. Nothing is changed or kept in the history, and a halted core is
-/// scrubbed too. It takes memory for the list of all live chunks, for the damages, and for one frame at a time. Ahead of each chunk it is told how
-/// many of them were read.
+/// Reads the frame of each live chunk and of each run of the index, and lists those that can't be read. It goes on
+/// after each of them. Each page is read once, from the newest write to it that waits, else from the device. Nothing is
+/// changed or kept in the history, and a halted core is scrubbed too. It takes memory for the list of all live chunks,
+/// for the damages, and for one frame at a time. It reports its progress before each chunk.
 ///
-/// A damage has 20 BadMagic, 21 BadDigest, 22 BadLength, 23 BadPadding, 24 BadVersion or, in format 3 alone, 26 Misplaced where another
-/// frame lies there, the first test of the frame that fails; 43 NotAStore, of a run alone, whose place is on no extent; or 1 DeviceFault, where the device refused a read: then the frame may be whole. `AllocError` ends
-/// the scrub where memory was asked for and refused.
+/// A damage has the refusal of the first test of the frame that fails: 20 BadMagic, 21 BadDigest, 22 BadLength, 23
+/// BadPadding, 24 BadVersion, or 26 Misplaced if another frame lies there (never in formats 1 and 2). A run whose place
+/// is on no extent has 43 NotAStore. 1 DeviceFault: the device refused a read, and the frame may be whole. `AllocError`
+/// ends the scrub if memory was refused.
 pub fn scrub<D: PageDisk, P: Progress>(
     alloc: Global,
     core: &mut Core<D>,

@@ -1,14 +1,12 @@
 //! The use of all extents.
-ghost use Rattle.std.specs.Prelude.{◌≡◌, ◌≢◌, ◌⊎◌, ◌-◌, ◌<◌, ℕ, IfOk, List, MatchBool, None, Option, length, map};
+ghost use Rattle.std.specs.Prelude.{◌≡◌, ◌≢◌, ◌<◌, ℕ, IfOk, List, MatchBool, None, Option, length, map};
 ghost use Rattle.std.specs.List.{AllByRecursion};
-ghost use Rattle.cs_chunk.specs.Chunks.{end_in};
 ghost use Rattle.cs_chunk.specs.Newest.{AreNewest};
 ghost use Rattle.cs_disk.specs.Disk.{Rises, seen};
 ghost use Rattle.cs_disk.specs.Reads.{OnlyReads};
 ghost use Rattle.cs_extent.specs.State.{extents_of, shape};
-ghost use Rattle.cs_index.specs.State.{index_of};
-ghost use Rattle.cs_inspect.specs.Chunks.{AreLiveChunks, BeginsInside, Chunk, chunk_of};
-ghost use Rattle.cs_inspect.specs.Uses.{AreBounded, AreCounted, AreCountedAsRead, AreExtents, AreRead, AreTallied, Head, heads_of, pages_counted};
+ghost use Rattle.cs_inspect.specs.Chunks.{BeginsInside, Chunk, chunk_of};
+ghost use Rattle.cs_inspect.specs.Uses.{AreBounded, AreCounted, AreCountedAsRead, AreExtents, AreRead, AreTallied, Head, HoldsOfHeads, IsReadAs, heads_of, pages_said};
 
 use crate::chunk_lists::live_chunks;
 use crate::extent_uses::ExtentUse;
@@ -20,23 +18,21 @@ use cs_index::LiveChunk;
 use cs_refusal::Refusal;
 use std::alloc::{AllocError, Global};
 
-/// How each extent is used, in the order of the extents. A chunk counts where it begins. Its header's page is read once, from the newest write
-/// to it that waits, else from the device; where the header fails a test, and where the device refuses the read, the chunk counts as
-/// unreadable. Costs a read for each live chunk, and memory for all of them and for the extents.
+/// How each extent is used, in the order of the extents. A chunk counts on the extent where it begins. The page of its
+/// header is read once, from the newest write to it that waits, else from the device. If the header fails a test, or
+/// the device refuses the read, the chunk counts as unreadable. It costs a read for each live chunk, and memory for all
+/// of them and for the extents.
 pub fn uses<D: PageDisk>(alloc: Global, core: &mut Core<D>) -> Result<Vec<ExtentUse>, AllocError>
     ensures extents { IfOk result (λ uses. AreExtents (shape core.old.store.extents).extents (extents_of core.old.store.extents) uses.items) }
     // Whatever reads failed, the counts are those of what was read.
     ensures read { D.honest core.old.disk
-        → (view : ℕ → List ℕ) (chunks : List Chunk) → AreNewest core.old.store.graph (seen (D.state core.old.disk)) view → AreLiveChunks (index_of core.old.store.index) chunks
-        → IfOk result (λ uses. AreCountedAsRead (D.failure_count core.old.disk) (D.failure_count core.new.disk) (heads_of core.old.store.extents view chunks) uses.items) }
+        → HoldsOfHeads D.PageDisk core.old (λ heads. IfOk result (λ uses. AreCountedAsRead (D.failure_count core.old.disk) (D.failure_count core.new.disk) heads uses.items)) }
     // So where none failed they are those of the headers.
     ensures counted { D.honest core.old.disk → ¬ Rises (D.failure_count core.old.disk) (D.failure_count core.new.disk)
-        → (view : ℕ → List ℕ) (chunks : List Chunk) → AreNewest core.old.store.graph (seen (D.state core.old.disk)) view → AreLiveChunks (index_of core.old.store.index) chunks
-        → IfOk result (λ uses. AreCounted (heads_of core.old.store.extents view chunks) uses.items) }
+        → HoldsOfHeads D.PageDisk core.old (λ heads. IfOk result (λ uses. AreCounted heads uses.items)) }
     // And else a chunk whose read failed isn't live, and counts as unreadable.
     ensures bounded { D.honest core.old.disk
-        → (view : ℕ → List ℕ) (chunks : List Chunk) → AreNewest core.old.store.graph (seen (D.state core.old.disk)) view → AreLiveChunks (index_of core.old.store.index) chunks
-        → IfOk result (λ uses. AreBounded (heads_of core.old.store.extents view chunks) uses.items) }
+        → HoldsOfHeads D.PageDisk core.old (λ heads. IfOk result (λ uses. AreBounded heads uses.items)) }
     ensures same { core.new ≡ record core.old { disk = core.new.disk } }
     ensures disk { OnlyReads D.PageDisk core.old.disk core.new.disk }
 {
@@ -78,13 +74,13 @@ fn tally_chunks<D: PageDisk>(
     Ok(Tally { live, unreadable })
 }
 
-/// How many pages the header counts of the chunk that begins at a place; None where it fails a test, and where it isn't read.
+/// How many pages the chunk has that begins at a place, by its header. None if the header fails a test, or can't be
+/// read.
 fn pages_at<D: PageDisk>(core: &mut Core<D>, place: Locator) -> Result<Option<usize>, AllocError>
     requires extent { place.extent < (shape core.old.store.extents).extents }
     requires page { place.page < (shape core.old.store.extents).pages }
     ensures read { D.honest core.old.disk → (view : ℕ → List ℕ) → AreNewest core.old.store.graph (seen (D.state core.old.disk)) view
-        → IfOk result (λ pages. (pages ≡ pages_counted (shape core.old.store.extents).format place.mark (view ((shape core.old.store.extents).address place.extent place.page)) (end_in core.old.store.extents place - place.page))
-        ⊎ ((pages ≡ None) × Rises (D.failure_count core.old.disk) (D.failure_count core.new.disk))) }
+        → IfOk result (IsReadAs (Rises (D.failure_count core.old.disk) (D.failure_count core.new.disk)) (pages_said core.old.store.extents view place)) }
     ensures same { core.new ≡ record core.old { disk = core.new.disk } }
     ensures disk { OnlyReads D.PageDisk core.old.disk core.new.disk }
 {

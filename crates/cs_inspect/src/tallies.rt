@@ -15,7 +15,7 @@ fn add(counts: &mut [usize], k: usize, amount: usize)
     counts[k] = counts[k].saturating_add(amount);
 }
 
-/// Counts a chunk that begins on an extent and has so many pages, or a header that can't be read.
+/// Counts a chunk that begins on this extent: its pages, or None if its header can't be read.
 pub fn count(live: &mut [usize], unreadable: &mut [usize], extent: usize, pages: Option<usize>)
     requires live { extent < length live.old }
     requires unreadable { extent < length unreadable.old }

@@ -3,8 +3,10 @@
 
 mod as_of;
 mod looks;
+mod memories;
 mod mends;
 mod mount_laws;
+mod mount_options;
 mod mounts;
 mod older;
 mod pair_laws;
@@ -16,8 +18,8 @@ pub use cs_twin::Finding;
 pub use looks::look;
 pub use mends::mend;
 pub use mount_laws::a_torn_crash_is_opened;
-pub use mounts::{Mounted, make_store, open_store};
-pub use older::open_older_store;
+pub use mount_options::{LIMITS, MountOptions};
+pub use mounts::Mounted;
 pub use pair_laws::{
     the_geometry_is_found, torn_disks_show_a_crash, torn_stores_are_found_again,
     torn_stores_show_a_crash,

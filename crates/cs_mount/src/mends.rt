@@ -16,7 +16,7 @@ use cs_refusal::Refusal;
 ///
 /// It takes an opened store, so that nothing is written over which an opening would be refused without: a damaged page may have held a newer root or section than the
 /// whole one. An opening is refused 27 RootLost where a section records a later root than the newest that is whole, 43 NotAStore where an older section doesn't show a place
-/// that the root names, and by the number of its fault where neither page of a pair is whole; the pages stay as they are then, for a reader by hand or `open_older_store`.
+/// that the root names, and by the number of its fault where neither page of a pair is whole; the pages stay as they are then, for a reader by hand or `MountOptions::open_older`.
 /// Where an opening can't tell, as of a root that no section records yet, the store was opened as of the older one, and that is what is written.
 ///
 /// Refused 1 DeviceFault, and 9 OutOfMemory, with the disk: some of the damaged pages may be written anew then and the rest not, and what shows is the same, so the

@@ -14,7 +14,7 @@ use cs_core::Core;
 use cs_disk::PageDisk;
 
 /// Where a crash of the device below tears the pages that were being written, of extents and of pairs, what an opening shows of what it leaves recovers the map after the first n
-/// commands, n from the frontier to all: `recovers` of `open_store` says that it is opened as that. A torn page of a pair is assumed not to be whole, and page 0 not in any format.
+/// commands, n from the frontier to all: `recovers` of `MountOptions::open` says that it is opened as that. A torn page of a pair is assumed not to be whole, and page 0 not in any format.
 ///
 /// It says so of a store of format 3, opened with no shard damaged, over a device that is honest but for these tears. The crash comes between two calls.
 pub fn a_torn_crash_is_opened<D: PageDisk>(core: &Core<Mounted<D>>)

@@ -1,7 +1,8 @@
 // Stores that are opened as of an older root.
 ghost use Rattle.std.specs.Prelude.{◌≡◌, ◌≢◌, ◌⊎◌, ◌↔◌, ◌+◌, ◌<◌, ◌≤◌, [], Err, IfErr, IfOk, MatchResult, None, OnOk, Some};
 ghost use Rattle.cs_core.specs.cs_chunk.Reads.{IsNoAnswer};
-ghost use Rattle.cs_core.specs.Openings.{IsOpened, IsOpeningRefusal, IsWhyNotOpened};
+ghost use Rattle.cs_reader.specs.Openings.{IsOpeningRefusal, IsWhyNotOpened};
+ghost use Rattle.cs_core.specs.Openings.{IsOpened};
 ghost use Rattle.cs_disk.specs.Disk.{flushed, page, seen};
 ghost use Rattle.cs_disk.specs.Reads.{OnlyReads};
 ghost use Rattle.cs_mount.specs.Older.{older_on, root_found};
@@ -11,9 +12,10 @@ ghost use Rattle.cs_mount.specs.Showing.{findings_on};
 ghost use Rattle.cs_mount.specs.StorePairs.{dimensions_on, pages_of};
 
 use crate::as_of::AsOf;
+use crate::mount_options::MountOptions;
 use crate::mounts::Mounted;
 use crate::store_pairs::{find_geometry, open_pairs};
-use cs_core::{Core, Limits};
+use cs_core::Core;
 use cs_disk::{PageDisk, refusal_of_disk};
 use cs_frame::Geometry;
 use cs_refusal::Refusal;
@@ -49,7 +51,8 @@ fn find_older<D: PageDisk>(alloc: Global, disk: &mut D) -> Result<Geometry, Refu
     }
 }
 
-/// The disk of the store of this geometry as of the newest root that is whole, and what the pages hold that it has twice. The disk comes back where it is refused.
+/// The disk of the store of this geometry as of the newest root that is whole, and what the pages hold that it has
+/// twice. The disk comes back where it is refused.
 fn show_older<D: PageDisk + Drop>(
     alloc: Global,
     disk: D,
@@ -76,46 +79,50 @@ fn show_older<D: PageDisk + Drop>(
     }
 }
 
-/// Opens the store of format 3 on a disk as of the newest root that is whole, though a newer one was persistent: so some commands that were acknowledged are lost. Nothing is
-/// written, here or by way of it. It tells what the pages hold that the store has twice.
-///
-/// What that root names may have been written over since: then the opening is refused, or the shards that are so. The disk comes back where it is refused: 43 NotAStore where there
-/// is no store of format 3, and as `open_store`, but for 27 RootLost.
-pub fn open_older_store<D: PageDisk + Drop>(
-    alloc: Global,
-    disk: D,
-    limits: Limits,
-) -> Result<(Core<AsOf<Mounted<D>>>, Vec<Finding>), (Refusal, D)>
-    ensures new { IfOk result (λ opened. (opened.0.history ≡ []) × (opened.0.base ≡ 0) × (opened.0.limit ≡ limits.history)) }
-    // What it shows, by which it is opened: no section of it records a later root than the newest that is whole.
-    ensures image { D.honest disk → IfOk result (λ opened. (opened.0.opened ≡ older_on (D.page_count disk) (seen (D.state disk))) × (state_lowered opened.0.disk ≡ record { durable = older_on (D.page_count disk) (seen (D.state disk)); volatile = [] })) }
-    ensures store { IfOk result (λ opened. IsOpened (D.honest disk) opened.0.opened opened.0.found opened.0.store) }
-    ensures there { D.honest disk → OnOk result (dimensions_on (D.page_count disk) (seen (D.state disk)) ≢ None) }
-    ensures findings { D.honest disk → IfOk result (λ opened. opened.1.items ≡ findings_on (D.page_count disk) (seen (D.state disk))) }
-    // No store of format 3 is there, or what it shows is refused by the first test that fails.
-    ensures refusals { D.honest disk → IfErr result (λ refused. IsNoAnswer refused.0 ⊎ ((refused.0 ≡ Refusal.NotAStore) × (dimensions_on (D.page_count disk) (seen (D.state disk)) ≡ None)) ⊎ IsWhyNotOpened (D.page_count disk) (page (older_on (D.page_count disk) (seen (D.state disk)))) refused.0) }
-    ensures number { IfErr result (λ refused. IsOpeningRefusal refused.0) }
-    ensures small { D.page_count disk < 10 → result ≡ Err (Refusal.NotAStore, disk) }
-    // Nothing is written, whether it is opened or not: the device holds what it held, or that made durable.
-    ensures unwritten { D.honest disk → MatchResult result (λ opened. D.state (disk_below (shown_below opened.0.disk)) ≡ flushed (D.state disk)) (λ refused. (D.state refused.1 ≡ D.state disk) ⊎ (D.state refused.1 ≡ flushed (D.state disk))) }
-    // Two flushes, and no write; where it is refused two at most.
-    ensures calls { D.honest disk → MatchResult result (λ opened. D.moment (disk_below (shown_below opened.0.disk)) ≡ D.moment disk + 2) (λ refused. D.moment refused.1 ≤ D.moment disk + 2) }
-    ensures honest { MatchResult result (λ opened. D.honest disk ↔ D.honest (disk_below (shown_below opened.0.disk))) (λ refused. D.honest disk ↔ D.honest refused.1) }
-    ensures pages { MatchResult result (λ opened. D.page_count (disk_below (shown_below opened.0.disk)) ≡ D.page_count disk) (λ refused. D.page_count refused.1 ≡ D.page_count disk) }
-{
-    if disk.pages() < 10 {
-        return Err((Refusal::NotAStore, disk));
-    }
-    let mut disk = disk;
-    let geometry = match find_older(alloc, &mut disk) {
-        Ok(geometry) => geometry,
-        Err(refusal) => return Err((refusal, disk)),
-    };
-    match show_older(alloc, disk, geometry) {
-        Ok((older, found)) => match Core::open(alloc, older, limits) {
-            Ok(core) => Ok((core, found)),
-            Err((refusal, older)) => Err((refusal, older.into_disk().into_disk())),
-        },
-        Err((refusal, disk)) => Err((refusal, disk)),
+impl MountOptions {
+    /// Opens the store of format 3 on a disk as of the newest root that is whole, though a newer one was persistent: so
+    /// some commands that were acknowledged are lost. It returns what the pages hold of which the store has two.
+    /// Nothing is written, here or through the core.
+    ///
+    /// What that root names may have been written over since: then the opening is refused, or reading the shards that
+    /// are so. If the call is refused, it returns the disk. 43 NotAStore: there is no store of format 3. The other
+    /// refusals are those of `open`, but for 27 RootLost.
+    pub fn open_older<D: PageDisk + Drop>(
+        self,
+        disk: D,
+    ) -> Result<(Core<AsOf<Mounted<D>>>, Vec<Finding>), (Refusal, D)>
+        ensures new { IfOk result (λ opened. (opened.0.history ≡ []) × (opened.0.base ≡ 0) × (opened.0.limit ≡ self.history)) }
+        // What it shows, by which it is opened: no section of it records a later root than the newest that is whole.
+        ensures image { D.honest disk → IfOk result (λ opened. (opened.0.opened ≡ older_on (D.page_count disk) (seen (D.state disk))) × (state_lowered opened.0.disk ≡ record { durable = older_on (D.page_count disk) (seen (D.state disk)); volatile = [] })) }
+        ensures store { IfOk result (λ opened. IsOpened (D.honest disk) opened.0.opened opened.0.found opened.0.store) }
+        ensures there { D.honest disk → OnOk result (dimensions_on (D.page_count disk) (seen (D.state disk)) ≢ None) }
+        ensures findings { D.honest disk → IfOk result (λ opened. opened.1.items ≡ findings_on (D.page_count disk) (seen (D.state disk))) }
+        // No store of format 3 is there, or what it shows is refused by the first test that fails.
+        ensures refusals { D.honest disk → IfErr result (λ refused. IsNoAnswer refused.0 ⊎ ((refused.0 ≡ Refusal.NotAStore) × (dimensions_on (D.page_count disk) (seen (D.state disk)) ≡ None)) ⊎ IsWhyNotOpened (D.page_count disk) (page (older_on (D.page_count disk) (seen (D.state disk)))) refused.0) }
+        ensures number { IfErr result (λ refused. IsOpeningRefusal refused.0) }
+        ensures small { D.page_count disk < 10 → result ≡ Err (Refusal.NotAStore, disk) }
+        // Nothing is written, whether it is opened or not: the device holds what it held, or that made durable.
+        ensures unwritten { D.honest disk → MatchResult result (λ opened. D.state (disk_below (shown_below opened.0.disk)) ≡ flushed (D.state disk)) (λ refused. (D.state refused.1 ≡ D.state disk) ⊎ (D.state refused.1 ≡ flushed (D.state disk))) }
+        // Two flushes, and no write; where it is refused two at most.
+        ensures calls { D.honest disk → MatchResult result (λ opened. D.moment (disk_below (shown_below opened.0.disk)) ≡ D.moment disk + 2) (λ refused. D.moment refused.1 ≤ D.moment disk + 2) }
+        ensures honest { MatchResult result (λ opened. D.honest disk ↔ D.honest (disk_below (shown_below opened.0.disk))) (λ refused. D.honest disk ↔ D.honest refused.1) }
+        ensures pages { MatchResult result (λ opened. D.page_count (disk_below (shown_below opened.0.disk)) ≡ D.page_count disk) (λ refused. D.page_count refused.1 ≡ D.page_count disk) }
+    {
+        let MountOptions { alloc, limits } = self;
+        if disk.pages() < 10 {
+            return Err((Refusal::NotAStore, disk));
+        }
+        let mut disk = disk;
+        let geometry = match find_older(alloc, &mut disk) {
+            Ok(geometry) => geometry,
+            Err(refusal) => return Err((refusal, disk)),
+        };
+        match show_older(alloc, disk, geometry) {
+            Ok((older, found)) => match Core::open(alloc, older, limits) {
+                Ok(core) => Ok((core, found)),
+                Err((refusal, older)) => Err((refusal, older.into_disk().into_disk())),
+            },
+            Err((refusal, disk)) => Err((refusal, disk)),
+        }
     }
 }

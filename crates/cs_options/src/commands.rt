@@ -8,30 +8,10 @@ use std::alloc::{AllocError, Global};
 
 /// The command line that is understood.
 pub fn command<'a>(alloc: Global) -> Result<Command<'a>, AllocError> {
-    let command = program(alloc).subcommands(shard_commands(alloc)?)?;
-    let command = command.subcommands(whole_commands(alloc)?)?;
-    let command = command.subcommands(copy_commands(alloc)?)?;
-    command.subcommands(other_commands(alloc)?)
-}
-
-/// The commands that make a store, and those over one shard.
-fn shard_commands<'a>(alloc: Global) -> Result<Vec<Command<'a>>, AllocError> {
-    commands_of(alloc, SHARD_FORMS)
-}
-
-/// The commands over the whole of a store.
-fn whole_commands<'a>(alloc: Global) -> Result<Vec<Command<'a>>, AllocError> {
-    commands_of(alloc, WHOLE_FORMS)
-}
-
-/// The commands that copy one.
-fn copy_commands<'a>(alloc: Global) -> Result<Vec<Command<'a>>, AllocError> {
-    commands_of(alloc, COPY_FORMS)
-}
-
-/// The commands that have a store of their own, or none.
-fn other_commands<'a>(alloc: Global) -> Result<Vec<Command<'a>>, AllocError> {
-    commands_of(alloc, OTHER_FORMS)
+    let command = program(alloc).subcommands(commands_of(alloc, SHARD_FORMS)?)?;
+    let command = command.subcommands(commands_of(alloc, WHOLE_FORMS)?)?;
+    let command = command.subcommands(commands_of(alloc, COPY_FORMS)?)?;
+    command.subcommands(commands_of(alloc, OTHER_FORMS)?)
 }
 
 /// The program, without its commands, one of which is required.

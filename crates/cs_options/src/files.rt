@@ -36,14 +36,15 @@ pub fn file_of<'a>(
     }
 }
 
-/// How many seconds to wait at most for a file that is in use: none where no number is there.
+/// How many seconds to wait at most for a file that is in use. Default: 0.
 pub fn wait_of(options: &ArgMatches) -> u64
     ensures { result ≡ unwrap_or (number_at options.now (codes "wait")) 0 }
 {
     number_given(options, "wait").unwrap_or(0)
 }
 
-/// The permissions of a new file: those for its owner to read and write where none are given. None where the text is no octal number of at most 0777.
+/// The permissions of a new file. Default: its owner may read and write. It returns None if the text is no octal number
+/// of at most 0777.
 pub fn mode_of(options: &ArgMatches) -> Option<u32>
     ensures default { first_value (found_of options.now) (codes "mode") ≡ None → result ≡ Some 384 }
     ensures small { IfSome result (λ mode. mode ≤ 511) }

@@ -26,8 +26,8 @@ pub struct TooSmall {
 /// The most chunks of a shard.
 const MOST_CHUNKS: u64 = 8;
 
-/// The extents that puts leave empty: up to two for the runs of the index, and two for sweeps. So a shard of some chunks that is put, and
-/// put again before its old chunks are swept, needs twice as many extents and these.
+/// The extents that puts leave empty: up to two for the runs of the index, and two for sweeps. So a shard of some
+/// chunks that is put, and put again before its old chunks are swept, needs twice as many extents and these.
 const LEFT_BY_PUTS: u64 = 4;
 
 /// The pages that a superblock of one section and the root have, with their second copies.
@@ -42,7 +42,8 @@ const MOST_PAGES: u64 = 65_535;
 /// How many extents a store gets if nothing asks for larger ones.
 const USUAL_EXTENTS: u64 = 64;
 
-/// The pages of an extent above which more extents are made before larger ones: 4 MiB, which is what a sweep moves at most.
+/// The pages of an extent above which more extents are made before larger ones: 4 MiB, which is what a sweep moves at
+/// most.
 const USUAL_PAGES: u64 = 1_024;
 
 /// The bytes of a page that no chunk has: the header of a frame and the head of a chunk.
@@ -54,8 +55,9 @@ const RUN_OVERHEAD: u64 = 45;
 /// The bytes of an entry of the index for a shard of one chunk.
 const ENTRY_BYTES: u64 = 33;
 
-/// The geometry of format 3 that a new store gets: some 64 extents; more, of 1,024 pages, from 256 MiB on; and larger ones if the shards ask
-/// for them, or if there would be too many. If none does what is wished, the least size comes with which one does.
+/// The geometry of format 3 that a new store gets: some 64 extents; more, of 1,024 pages, from 256 MiB on; and larger
+/// ones if the shards ask for them, or if there would be too many. If none does what is wished, the least size comes
+/// with which one does.
 pub fn geometry_for(wish: Wish) -> Result<Geometry, TooSmall>
     ensures suits { IfOk result (λ geometry. (chunks : ℕ) × Suits wish.size wish.shard_size wish.shards geometry.format geometry.extents geometry.pages geometry.sections chunks) }
     ensures none { IfErr result (λ _. (chunks : ℕ) → NoneSuits wish.size wish.shard_size wish.shards chunks) }
@@ -131,7 +133,8 @@ fn with_chunks(wish: Wish, chunks: u64) -> Option<Geometry>
     with_pages(wish, pages_needed(wish, chunks), chunks)
 }
 
-/// The geometry with so many pages an extent, and as many extents as the size allows; none if that doesn't do what is wished with so many chunks.
+/// The geometry with so many pages an extent, and as many extents as the size allows; none if that doesn't do what is
+/// wished with so many chunks.
 fn with_pages(wish: Wish, pages: u64, chunks: u64) -> Option<Geometry>
     requires { 2 ≤ pages }
     ensures suits { IfSome result (λ geometry. Suits wish.size wish.shard_size wish.shards geometry.format geometry.extents geometry.pages geometry.sections chunks) }

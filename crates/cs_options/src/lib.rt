@@ -14,7 +14,6 @@ mod tables;
 
 pub use commands::command;
 pub use cs_script as script;
-pub use cs_script::mount as mount;
 pub use files::{NoFile, file_of, mode_of, wait_of};
 pub use geometry_options::{TooSmall, Wish, geometry_for};
 pub use options::{Listing, Measure, from_of, geometry_of, id_of, listing_of, measure_of, race_of};

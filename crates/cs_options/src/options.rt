@@ -9,15 +9,15 @@ use cs_frame::{Geometry, ShardId};
 use cs_refusal::Refusal;
 use cs_words::Race;
 
-/// The number of an option, None where it has none.
+/// The number of an option. It returns None if the option isn't given.
 pub fn number_given(options: &ArgMatches, name: &str) -> Option<u64>
     ensures { result ≡ number_at options.now name.now }
 {
     options.get_one(name)
 }
 
-/// The geometry that the options ask for: of format 2, 6 extents of 2 pages where they aren't given, and as few sections as the extents
-/// need. Refused 7 BadGeometry alone, where there is none.
+/// The geometry that the options ask for. Defaults: format 2, 6 extents of 2 pages, and as few sections as the extents
+/// need. It is refused 7 BadGeometry alone, if there is no such geometry.
 pub fn geometry_of(options: &ArgMatches) -> Result<Geometry, Refusal>
     ensures valid { IsOk result ↔ IsGeometry (format_asked options.now) (extents_asked options.now) (pages_asked options.now) (sections_asked options.now) }
     ensures format { IfOk result (λ geometry. geometry.format ≡ format_asked options.now) }
@@ -36,8 +36,8 @@ pub fn geometry_of(options: &ArgMatches) -> Result<Geometry, Refusal>
     }
 }
 
-/// The race that the options ask for, None where a number is out of its range: 4 threads that put 10 shards each and drop no ticket,
-/// where they aren't given.
+/// The race that the options ask for. Defaults: 4 threads that put 10 shards each and drop no ticket. It returns None
+/// if a number is out of its range.
 pub fn race_of(options: &ArgMatches) -> Option<Race>
     ensures numbers { MatchOption result (¬ IsRaceable (threads_asked options.now) (puts_asked options.now) (drops_asked options.now))
         (λ race. (race.threads ≡ threads_asked options.now) × (race.puts ≡ puts_asked options.now) × (race.dropped ≡ drops_asked options.now)) }
@@ -49,18 +49,11 @@ pub fn race_of(options: &ArgMatches) -> Option<Race>
     Race::new(threads, puts, dropped, options.get_flag("stream"))
 }
 
-/// The identifier that stands alone, None where that is none.
+/// The identifier that stands as a word. It returns None if the word is no identifier, or isn't there.
 pub fn id_of(options: &ArgMatches) -> Option<ShardId>
     ensures { option_map (λ id. id.0) result ≡ id_at options.now (codes "id") }
 {
-    id_given(options, "id")
-}
-
-/// The identifier of an option, None where it has none.
-fn id_given(options: &ArgMatches, name: &str) -> Option<ShardId>
-    ensures { option_map (λ id. id.0) result ≡ id_at options.now name.now }
-{
-    match options.get_str(name) {
+    match options.get_str("id") {
         Some(text) => ShardId::parse(text).ok(),
         None => None,
     }
@@ -77,7 +70,7 @@ pub struct Listing {
     pub json: bool,
 }
 
-/// The identifiers that the options ask for, None where `--from` isn't one: all of them where nothing is given.
+/// Which identifiers the options ask for. Default: all of them. It returns None if `--from` is no identifier.
 pub fn listing_of(options: &ArgMatches) -> Option<Listing>
     ensures from { option_map (λ listing. listing.from.0) result ≡ from_asked options.now }
     ensures most { IfSome result (λ listing. listing.most ≡ limit_asked options.now) }
@@ -91,7 +84,7 @@ pub fn listing_of(options: &ArgMatches) -> Option<Listing>
     })
 }
 
-/// From which identifier on shards are asked for: the first of all where none is given, None where the text is none.
+/// The identifier from which on shards are asked for. Default: the first of all. It returns None if the text is none.
 pub fn from_of(options: &ArgMatches) -> Option<ShardId>
     ensures { option_map (λ id. id.0) result ≡ from_asked options.now }
 {
@@ -112,8 +105,8 @@ pub struct Measure {
     pub bytes: u64,
 }
 
-/// What the options ask to measure, None where a number is out of its range: 100 calls and batches of 100 puts of 4,000 bytes, where they
-/// aren't given.
+/// What the options ask to measure. Defaults: 100 calls, and batches of 100 puts of 4,000 bytes. It returns None if a
+/// number is out of its range.
 pub fn measure_of(options: &ArgMatches) -> Option<Measure>
     ensures { MatchOption result (¬ IsMeasurable (calls_asked options.now) (batch_asked options.now) (bytes_asked options.now))
         (λ measure. (measure.calls ≡ calls_asked options.now) × (measure.batch ≡ batch_asked options.now) × (measure.bytes ≡ bytes_asked options.now)

@@ -7,8 +7,8 @@ ghost use Rattle.cs_options.specs.Sizes.{digits_before, letter_unit, size_of, un
 
 use std::str;
 
-/// The number of bytes that a text stands for: decimal digits, and behind them K, M, G or T, each of which is 1,024 of the one before, or none of these. None for any
-/// other text, and from 2^64 on.
+/// The number of bytes that a text stands for: decimal digits, and behind them K, M, G or T, each of which is 1,024 of
+/// the one before, or none of these. None for any other text, and from 2^64 on.
 pub fn size_of(text: &str) -> Option<u64>
     ensures { result ≡ size_of text.now }
 {

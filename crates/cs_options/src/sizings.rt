@@ -26,7 +26,7 @@ pub enum Sizing {
     Sizes,
     /// By a geometry: `--extents`, `--pages`, `--sections`.
     Numbers,
-    /// By both, which is none.
+    /// By both, which no store is made by.
     Both,
 }
 
@@ -60,7 +60,8 @@ fn are_numbers_given(options: &ArgMatches) -> bool
         || options.contains_id("sections")
 }
 
-/// What the sizes ask for, None where a text is no size: 64 MiB for shards of 1 MiB, and room for one identifier, where they aren't given.
+/// What the sizes ask for, by default 64 MiB for shards of 1 MiB and one identifier. It returns None if a text is no
+/// size.
 pub fn wish_of(options: &ArgMatches) -> Option<Wish>
     ensures { MatchOption result (¬ IsWished options.now) (λ wish. (size_at options.now (codes "size") 67108864 ≡ Some wish.size)
         × (size_at options.now (codes "shard-size") 1048576 ≡ Some wish.shard_size) × (shards_asked options.now ≡ wish.shards)) }
@@ -74,7 +75,7 @@ pub fn wish_of(options: &ArgMatches) -> Option<Wish>
     })
 }
 
-/// The size of an option, and this where none is given; None where the text is no size.
+/// The size of an option, with this default. It returns None if the text is no size.
 fn size_given(options: &ArgMatches, name: &str, usual: u64) -> Option<u64>
     ensures { result ≡ size_at options.now name.now usual }
 {
@@ -84,7 +85,7 @@ fn size_given(options: &ArgMatches, name: &str, usual: u64) -> Option<u64>
     }
 }
 
-/// The geometry of format 3 that the numbers ask for: 64 extents of 256 pages where they aren't given. Refused 7 BadGeometry alone.
+/// The geometry that the numbers ask for, by default 64 extents of 256 pages. It is refused 7 BadGeometry alone.
 pub fn exact_of(options: &ArgMatches) -> Result<Geometry, Refusal>
     ensures valid { IsOk result ↔ IsGeometry 3 (extents_given options.now) (pages_given options.now) (sections_given options.now) }
     ensures format { IfOk result (λ geometry. geometry.format ≡ 3) }

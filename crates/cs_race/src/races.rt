@@ -10,11 +10,11 @@ ghost use Rattle.cs_race.specs.Races.{IsAnswer, IsNoRace, Races, answer_line, an
 use crate::racers::{Returned, racers_of};
 use cs_disk::{MemoryDisk, PageDisk};
 use cs_frame::Geometry;
+use cs_mount::{MountOptions, Mounted};
 use cs_node::the_core::Core;
 use cs_node::{Board, Naming, Node, Pilot, Purse, Rest, Unclosed};
 use cs_refusal::Refusal;
-use cs_script::mount::Mounted;
-use cs_script::{new_in_memory, print_acknowledged, print_no_store, print_refusal};
+use cs_script::{print_acknowledged, print_no_store, print_refusal};
 use cs_words::Race;
 use std::alloc::{AllocError, Global};
 use std::io;
@@ -63,7 +63,7 @@ pub fn new_core(alloc: Global) -> Result<Core<Mounted<MemoryDisk>>, Refusal>
     let Ok(geometry) = Geometry::new(EXTENTS, PAGES) else {
         return Err(Refusal::BadGeometry);
     };
-    new_in_memory(alloc, geometry)
+    MountOptions::new(alloc).create_in_memory(geometry)
 }
 
 /// Runs a race on a node of this board and this core.

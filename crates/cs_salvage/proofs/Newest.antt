@@ -3,33 +3,28 @@ use Rattle.std.proofs.Common.{◌≡◌, ◌≢◌, ◌∙◌, ◌⊎◌, inl, i
 use Rattle.std.specs.Prelude.{slice_get}
 use Rattle.std.specs.List.{AllByRecursion}
 use Rattle.std.specs.declared.alloc.Global.{Global}
-use Rattle.cs_chunk.specs.Chunks.{IsFrameIn}
-use Rattle.cs_chunk.specs.Reads.{IsCaused, IsNoAnswer, IsOfFault, fault_in}
+use Rattle.cs_chunk.specs.Reads.{IsCaused, IsNoAnswer}
 use Rattle.cs_refusal.specs.declared.refusals.Refusal.{Refusal}
 use Rattle.cs_refusal.specs.declared.refusals.Refusal.TheVariants.{DeviceFault, OutOfMemory}
 use Rattle.cs_extent.specs.State.{State as ExtentsState}
-use Rattle.cs_frame.specs.declared.frames.FrameKind.TheVariants.{Run}
 use Rattle.cs_frame.specs.declared.locators.Locator.{Locator}
-use Rattle.cs_frame.specs.FormatRuns.{run_fault}
 use Rattle.law_refinement.specs.ImageReads.{IsLocated, IsRunRead}
 use Rattle.cs_index.specs.declared.stored_runs.StoredRun.{StoredRun}
-use Rattle.law_machine.specs.Formats.{RunFrame}
-use Rattle.cs_core.proofs.Members.{drop_all, drop_some}
+use Rattle.cs_reader.proofs.Lists.{drop_all, drop_some}
+use Rattle.cs_reader.specs.Openings.{IsWhyNotRead}
 use Rattle.cs_salvage.specs.declared.rescued_runs.DamagedRun.{DamagedRun}
 use Rattle.cs_salvage.specs.declared.rescued_runs.NewestRuns.{NewestRuns}
 use Rattle.cs_salvage.specs.Runs.{AreNewestRead, IsDamageCaused, IsEndOf, IsWhyNoRun}
 
 -- ---- why no run is read
 
-module _ (x : ExtentsState) (view : ℕ → List ℕ) (place : Locator) (located : IsLocated x place) where
-  pub frame_not_there : (r : Refusal) → IsNoAnswer r ⊎ IsOfFault (fault_in x view Run place) r → IsNoAnswer r ⊎ IsWhyNoRun x view place r
-  frame_not_there r why = ⊎_elim (λ n. inl n) (λ f. inr (inr (inl (located, f)))) why
-
-  pub payload_not_there : (payload given : List ℕ) → given ≡ payload → IsFrameIn x view RunFrame place payload → (format : ℕ) → format ≡ x.format → (result : Result StoredRun Refusal)
-      → IfErr result (λ r. (r ≡ OutOfMemory) ⊎ IsOfFault (run_fault format given) r) → IfErr result (λ r. IsNoAnswer r ⊎ IsWhyNoRun x view place r)
-  payload_not_there payload given same frame format of_format (Ok run) why = tt
-  payload_not_there payload given same frame format of_format (Err r) why = ⊎_elim (λ m. inl (inr m))
-      (λ f. inr (inr (inr (located, (payload, frame, subst (λ (n : ℕ). IsOfFault (run_fault n payload) r) of_format (subst (λ (b : List ℕ). IsOfFault (run_fault format b) r) same f)))))) why
+-- a run that isn't read isn't there
+pub run_not_there : (x : ExtentsState) (view : ℕ → List ℕ) (place : Locator) → IsLocated x place → (result : Result StoredRun Refusal)
+    → IfErr result (λ r. IsNoAnswer r ⊎ IsWhyNotRead x view place r) → IfErr result (λ r. IsNoAnswer r ⊎ IsWhyNoRun x view place r)
+run_not_there x view place located (Ok run) why = tt
+run_not_there x view place located (Err r) (inl none) = inl none
+run_not_there x view place located (Err r) (inr (inl away)) = absurd (away.0 located)
+run_not_there x view place located (Err r) (inr (inr damaged)) = inr (inr damaged)
 
 -- ---- one after another
 

@@ -11,7 +11,7 @@ use Rattle.cs_index.specs.declared.stored_runs.StoredRun.{StoredRun}
 use Rattle.cs_index.specs.State.{newest_first}
 use Rattle.law_machine.specs.Geometry.{weigh_in}
 use Rattle.law_machine.specs.Index.{entries_of, named_weight}
-use Rattle.cs_core.specs.Openings.{AreRecordedBy, IsOtherDevice, IsOtherSection, IsRootDamaged, IsRootRead, IsSectionDamaged, IsSuperblockDamaged, IsTooSmall}
+use Rattle.cs_reader.specs.Openings.{AreRecordedBy, IsOtherDevice, IsOtherSection, IsRootDamaged, IsRootRead, IsSectionDamaged, IsSuperblockDamaged, IsTooSmall}
 use Rattle.cs_salvage.specs.declared.rescued_runs.DamagedRun.{DamagedRun}
 use Rattle.cs_salvage.specs.Founds.{Found}
 use Rattle.cs_salvage.specs.Runs.{AreNewestRead}

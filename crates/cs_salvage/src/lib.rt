@@ -1,7 +1,7 @@
 //! What can be got of a store that can't be opened as usual. Nothing is written to its disk, and nothing is flushed.
 //!
 //! A rescue goes by the index: where a run of it is damaged, where places that entries name are gone, or where the root that is there is older
-//! than one that was persistent. Sections and root are read as cs_core's opening reads them, but whatever the sections record of the root; then
+//! than one that was persistent. Superblock and root are read as at an opening, but whatever the sections record of the root; then
 //! the runs of the root, the newest first, up to one that can't be read. What these runs name is answered; what they don't name may be in one
 //! that is damaged, or older, and is refused by a name of its own.
 //!

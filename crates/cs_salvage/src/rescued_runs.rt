@@ -10,13 +10,12 @@ ghost use Rattle.law_refinement.specs.ImageReads.{IsRunRead};
 ghost use Rattle.cs_salvage.specs.Founds.{NothingWaits};
 ghost use Rattle.cs_salvage.specs.Runs.{AreNewestRead, IsDamageCaused, IsWhyNoRun};
 
-use cs_chunk::frame_at;
-use cs_core::{are_places_located, decoded_run};
 use cs_deps::Graph;
 use cs_disk::PageDisk;
 use cs_extent::Extents;
-use cs_frame::{FrameKind, Locator};
+use cs_frame::Locator;
 use cs_index::StoredRun;
+use cs_reader::{is_located, read_run};
 use cs_refusal::Refusal;
 use std::alloc::{AllocError, Global};
 
@@ -38,7 +37,7 @@ pub struct NewestRuns {
 }
 
 /// Reads the run at a place, where nothing waits. Refused 26 Misplaced where the place isn't located, before the device is asked.
-fn read_run<D: PageDisk>(
+fn read_located<D: PageDisk>(
     alloc: Global,
     extents: &Extents,
     graph: &Graph,
@@ -54,15 +53,10 @@ fn read_run<D: PageDisk>(
     ensures disk { OnlyReads D.PageDisk disk.old disk.new }
     ensures cause { IsCaused (D.failure_count disk.old) (D.failure_count disk.new) result }
 {
-    // Called for its contract alone: how many pages an extent may have.
-    extents.extent_count();
-    if !are_places_located(extents, &[place]) {
+    if !is_located(extents, place) {
         return Err(Refusal::Misplaced);
     }
-    match frame_at(alloc, extents, graph, disk, FrameKind::Run, place) {
-        Ok(frame) => decoded_run(alloc, extents.geometry().format(), place, frame.payload()),
-        Err(refusal) => Err(refusal),
-    }
+    read_run(alloc, extents, graph, disk, place)
 }
 
 /// The runs that were read before one was refused so. 9 OutOfMemory is passed on: reading again may go further.
@@ -124,7 +118,7 @@ pub fn read_newest<D: PageDisk>(
     let mut runs = no_runs(alloc);
     for k in 0..places.len() {
         let place = place_from_end(places, k);
-        match read_run(alloc, extents, graph, disk, place) {
+        match read_located(alloc, extents, graph, disk, place) {
             Ok(run) => put_first(&mut runs, run)?,
             Err(refusal) => return stopped_at(runs, place, refusal),
         }

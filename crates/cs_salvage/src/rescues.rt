@@ -10,7 +10,7 @@ ghost use Rattle.cs_frame.specs.Formats.{formats_of};
 ghost use Rattle.law_refinement.specs.ImageReads.{IsLocated};
 ghost use Rattle.cs_index.specs.State.{id_number, index_of};
 ghost use Rattle.law_machine.specs.Index.{joined_bodies, live_at};
-ghost use Rattle.cs_core.specs.Openings.{IsOpeningRefusal};
+ghost use Rattle.cs_reader.specs.Openings.{IsOpeningRefusal};
 ghost use Rattle.cs_salvage.specs.Answers.{AreMeantBytes, AreReadBytes, IsAbsent, IsUnknown, IsWhyNoChunks, places_of};
 ghost use Rattle.cs_salvage.specs.Rescued.{IsRescued, IsWhyNotRescued};
 ghost use Rattle.cs_salvage.specs.Runs.{IsDamageCaused};

@@ -6,7 +6,8 @@ use Rattle.cs_refusal.specs.declared.refusals.Refusal.TheVariants.{DeviceFault}
 use Rattle.cs_disk.specs.declared.disk.PageDisk.{Ghosts as PageDisk}
 use Rattle.cs_disk.specs.Disk.{Rises, crashed, flushed, page, seen}
 use Rattle.cs_writeback.specs.cs_extent.State.{shape}
-use Rattle.cs_writeback.specs.cs_core.Openings.{IsOpened, IsOpeningRefusal, IsWhyNotOpened}
+use Rattle.cs_writeback.specs.cs_reader.Openings.{IsOpeningRefusal, IsWhyNotOpened}
+use Rattle.cs_writeback.specs.cs_core.Openings.{IsOpened}
 use Rattle.cs_writeback.specs.cs_core.Views.{IsFound, View}
 use Rattle.cs_script.specs.Lines.{Said, says_crash}
 use Rattle.cs_script.specs.Outputs.{crash_line, open_line, refusal_line}

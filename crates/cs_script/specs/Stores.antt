@@ -1,32 +1,13 @@
 -- The stores that scripts run over.
-use Rattle.std.specs.Prelude.{◌≡◌, ℕ, List, [], Option, Result, Ok, Err, replicate}
+use Rattle.std.specs.Prelude.{◌≡◌, ℕ, List, Option, Result, Ok, Err}
 use Rattle.cs_refusal.specs.declared.refusals.Refusal.{Refusal}
 use Rattle.cs_disk.specs.declared.disk.PageDisk.{Ghosts as PageDisk}
-use Rattle.cs_disk.specs.Disk.{State as DiskState}
-use Rattle.cs_frame.specs.Geometries.{device_pages}
-use Rattle.cs_writeback.specs.cs_core.Started.{IsNewOn, new_stored}
 use Rattle.cs_writeback.specs.cs_core.Views.{View}
 use Rattle.cs_script.specs.Outputs.{refusal_line}
 use Rattle.cs_script.specs.Scripts.{Runs}
 use Rattle.cs_script.specs.Watched.{RunsInPart, RunsWatched}
 use Rattle.cs_script.specs.declared.watchers.LineFault.{LineFault}
 use Rattle.cs_script.specs.declared.watchers.Onward.{Onward}
-
--- nothing is recorded yet, and 65,536 events may be kept
-abbrev pub IsUnused : {D : Type 0} → View D → Type 0
-IsUnused core = (core.history ≡ []) × (core.base ≡ 0) × (core.limit ≡ 65536)
-
--- a store that was made, with nothing in it
-abbrev pub IsNew : {D : Type 0} → (format extents pages sections : ℕ) → View D → Type 0
-IsNew format extents pages sections core = IsUnused core × (core.store ≡ new_stored format extents pages sections)
-
--- a disk of so many pages of zeros
-abbrev pub zeros : ℕ → DiskState
-zeros pages = record { durable = replicate pages (replicate 4096 0); volatile = [] }
-
--- the disk of a new store: its superblock and its root are written and durable, and all other pages are zeros
-abbrev pub IsNewDisk : (format extents pages sections : ℕ) → DiskState → Type 0
-IsNewDisk format extents pages sections disk = IsNewOn format extents pages sections (zeros (device_pages format extents pages sections)) disk
 
 module _ {D : Type 0} (disks : PageDisk D) (can_crash : D → Type 0) (volatile_count : D → ℕ) where
   -- a script runs over the store that there is; or there is none, and that is printed

@@ -12,7 +12,7 @@ use Rattle.law_machine.specs.Index.{live_at}
 use Rattle.law_machine.specs.Lists.{◌∈◌}
 use Rattle.law_machine.specs.State.{State, map_now}
 use Rattle.law_refinement.proofs.Indexes.{absent}
-use Rattle.cs_core.proofs.Living.{all_counted}
+use Rattle.cs_reader.proofs.Living.{all_counted}
 use Rattle.cs_core.specs.Views.{IsIn, View}
 use Rattle.cs_inspect.specs.Listings.{AreAll, AreFirst, Rising}
 use Rattle.cs_store.specs.Maps.{HasMap}

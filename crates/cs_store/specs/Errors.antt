@@ -74,7 +74,6 @@ sweep_refusal sweep.HistoryFull = refusal.HistoryFull
 abbrev pub open_refusal : OpenError → Refusal
 open_refusal opening.DeviceFault = refusal.DeviceFault
 open_refusal opening.OddLength = refusal.OddLength
-open_refusal opening.BadGeometry = refusal.BadGeometry
 open_refusal opening.OutOfMemory = refusal.OutOfMemory
 open_refusal opening.BadMagic = refusal.BadMagic
 open_refusal opening.BadDigest = refusal.BadDigest
@@ -86,6 +85,7 @@ open_refusal opening.Misplaced = refusal.Misplaced
 open_refusal opening.RootLost = refusal.RootLost
 open_refusal opening.NotAStore = refusal.NotAStore
 open_refusal opening.Occupied = refusal.Occupied
+open_refusal opening.NotEmpty = refusal.NotEmpty
 
 -- the refusals that a put may have: 1, 9, 30, 31, 32, 35, 40 and 41
 abbrev pub IsPutRefusal : Refusal → Type 0
@@ -121,11 +121,10 @@ IsGetRefusal refusal.BadVersion = Unit {0}
 IsGetRefusal refusal.Misplaced = Unit {0}
 IsGetRefusal other = ⊥
 
--- the refusals that making or opening a store may have: 1, 6, 7, 9, 20, 21, 22, 23, 24, 25, 26, 27, 43 and 45
+-- the refusals that making or opening a store may have: 1, 6, 9, 20, 21, 22, 23, 24, 25, 26, 27, 43, 45 and 46
 abbrev pub IsOpenRefusal : Refusal → Type 0
 IsOpenRefusal refusal.DeviceFault = Unit {0}
 IsOpenRefusal refusal.OddLength = Unit {0}
-IsOpenRefusal refusal.BadGeometry = Unit {0}
 IsOpenRefusal refusal.OutOfMemory = Unit {0}
 IsOpenRefusal refusal.BadMagic = Unit {0}
 IsOpenRefusal refusal.BadDigest = Unit {0}
@@ -137,4 +136,5 @@ IsOpenRefusal refusal.Misplaced = Unit {0}
 IsOpenRefusal refusal.RootLost = Unit {0}
 IsOpenRefusal refusal.NotAStore = Unit {0}
 IsOpenRefusal refusal.Occupied = Unit {0}
+IsOpenRefusal refusal.NotEmpty = Unit {0}
 IsOpenRefusal other = ⊥

@@ -2,6 +2,7 @@ pub mod Errors
 pub mod Events
 pub mod Gets
 pub mod Maps
+pub mod Opening
 pub mod Reclaims
 pub mod Rooms
 pub mod Sizes

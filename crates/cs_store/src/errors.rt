@@ -244,8 +244,6 @@ pub enum OpenError {
     DeviceFault,
     /// 6 OddLength: the file's length is no multiple of 4,096 bytes.
     OddLength,
-    /// 7 BadGeometry: the number of extents or of their pages is out of range.
-    BadGeometry,
     /// 9 OutOfMemory: memory was asked for and refused.
     OutOfMemory,
     /// 20 BadMagic: a page of the superblock, the root or the index doesn't begin as its format does.
@@ -268,6 +266,8 @@ pub enum OpenError {
     NotAStore,
     /// 45 Occupied: a new store would be made over one, or over what is left of one.
     Occupied,
+    /// 46 NotEmpty: a new file was asked for, and there is one with something in it, or what is there is no file.
+    NotEmpty,
 }
 
 impl OpenError {
@@ -276,8 +276,8 @@ impl OpenError {
         ensures { result ≡ open_refusal self }
     {
         same_name!(self, OpenError => Refusal;
-            DeviceFault, OddLength, BadGeometry, OutOfMemory, BadMagic, BadDigest, BadLength,
-            BadPadding, BadVersion, OutOfOrder, Misplaced, RootLost, NotAStore, Occupied)
+            DeviceFault, OddLength, OutOfMemory, BadMagic, BadDigest, BadLength, BadPadding,
+            BadVersion, OutOfOrder, Misplaced, RootLost, NotAStore, Occupied, NotEmpty)
     }
 
     /// The error that a refusal of making or opening a store is.
@@ -286,7 +286,7 @@ impl OpenError {
         ensures { open_refusal result ≡ refusal }
     {
         same_name!(refusal, Refusal => OpenError;
-            DeviceFault, OddLength, BadGeometry, OutOfMemory, BadMagic, BadDigest, BadLength,
-            BadPadding, BadVersion, OutOfOrder, Misplaced, RootLost, NotAStore, Occupied; no other)
+            DeviceFault, OddLength, OutOfMemory, BadMagic, BadDigest, BadLength, BadPadding,
+            BadVersion, OutOfOrder, Misplaced, RootLost, NotAStore, Occupied, NotEmpty; no other)
     }
 }

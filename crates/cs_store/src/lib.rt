@@ -1,8 +1,9 @@
 //! The typed store over one core, for one thread, that programs embed: a map from identifiers to bytes over one disk.
 //!
-//! Its clauses speak of its value, that of the core (`View` of cs_core). `HasMap` says which map it has: what `make` or `open` found, changed by
-//! each put and delete that was accepted since. A `sync` makes all of it persistent; what a crash leaves at any other moment is the map after
-//! some of the commands, none of the persistent ones left out.
+//! Its clauses speak of its value, that of the core (`View` of cs_core). `HasMap` says which map it has: what
+//! `OpenOptions` found as it made or opened the store, changed by each put and delete that was accepted since. A `sync`
+//! makes all of it persistent; what a crash leaves at any other moment is the map after some of the commands, none of
+//! the persistent ones left out.
 #![tactic(auto)]
 
 mod counts;
@@ -15,7 +16,7 @@ mod gets;
 mod lists;
 mod memories;
 mod mounts;
-mod older_files;
+mod older_stores;
 mod options;
 mod puts;
 mod reclaims;
@@ -31,7 +32,7 @@ mod syncs;
 pub use errors::{DeleteError, GetError, OpenError, PutError, SweepError, SyncError};
 pub use extents::ExtentLook;
 pub use figures::StoreStats;
-pub use options::{LIMITS, Options};
+pub use options::OpenOptions;
 pub use reclaims::Reclaimed;
 pub use sizes::SizeError;
 pub use stores::Store;
@@ -43,6 +44,6 @@ pub use cs_frame::{Geometry, Locator, ShardId};
 pub use cs_index::LiveChunk;
 pub use cs_inspect::{Damage, ExtentUse, RunUse, Scrubbed, Stats};
 pub use cs_mount as mount;
-pub use cs_mount::{AsOf, Finding, Mounted};
+pub use cs_mount::{AsOf, Finding, LIMITS, Mounted};
 pub use cs_refusal::Refusal;
 pub use cs_writeback::Swept;

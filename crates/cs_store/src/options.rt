@@ -1,37 +1,86 @@
-//! How a new store lies on its disk, and how much it keeps.
+//! Options for making or opening a store.
 ghost use Rattle.std.specs.Prelude.{◌≡◌};
 
 use cs_core::Limits;
+use cs_frame::Geometry;
+use cs_mount::LIMITS;
+use std::alloc::Global;
+use std::marker::Model;
 
-/// What does for most: 65,536 events. With puts of 4,000 bytes and nobody who syncs they come to a quarter of a gigabyte, and what waits for a sync to as
-/// much again.
-pub const LIMITS: Limits = Limits { history: 65_536 };
-
-/// How a new store lies on its disk, and how many events it may keep. It has as few sections as it may; for others take `Geometry::of_format` and
-/// `Store::make`.
-#[derive(Clone, Copy, Debug, PartialEq, Eq)]
-pub struct Options {
-    /// Its format: 3, or 2, in which a store can run out of room for good, and a torn page of its superblock or its root loses it.
-    pub format: u64,
-    /// How many extents it has, 5 to 7,680, in format 2 from 4 to 2,048.
-    pub extents: u64,
-    /// How many pages of 4,096 bytes each of them has, 2 to 65,535, in format 2 to 256. They bound how many identifiers there may be, and how large a shard.
-    pub pages: u64,
-    /// How many events it may keep.
-    pub limits: Limits,
+/// Options for making or opening a store, and the calls that do it: the one way to a store. Contracts see the limits
+/// and the geometry.
+///
+/// `create`, `create_in_memory` and `create_file` make a new store of the options' geometry. `open` and `open_file`
+/// open one that is there, `open_older` and `open_older_file` as of an older root; they take the geometry from the
+/// disk.
+#[derive(Debug, Drop)]
+pub struct OpenOptions {
+    pub(crate) alloc: Global,
+    pub(crate) limits: Limits,
+    pub(crate) geometry: Geometry,
 }
 
-impl Default for Options {
-    ghost is_default = { λ options. (options.format ≡ 3) × (options.extents ≡ 64) × (options.pages ≡ 256) × (options.limits.history ≡ 65536) };
+impl Model for OpenOptions {
+    ghost use Rattle.cs_store.specs.Opening.{Opening};
 
-    /// Format 3, and 64 extents of 256 pages, which are 64 MiB of memory or of a file: room for 31,773 identifiers whose shards have one chunk each, for shards of
-    /// 8,388,072 bytes at most, and for some 30 MiB of them in all.
-    fn default() -> Self {
-        Options {
-            format: 3,
-            extents: 64,
-            pages: 256,
+    ghost Value = { Opening };
+
+    ghost view = { λ o. record { limits = o.limits; geometry = o.geometry } };
+}
+
+/// The default geometry.
+fn default_geometry() -> Geometry
+    ensures { result ≡ record { format = 3; extents = 64; pages = 256; sections = 1 } }
+{
+    match Geometry::of_format(3, 64, 256, None) {
+        Ok(geometry) => geometry,
+        Err(_) => unreachable!(),
+    }
+}
+
+impl OpenOptions {
+    /// The default options: `LIMITS`, and a geometry of format 3 with 64 extents of 256 pages.
+    ///
+    /// Such a store takes 64 MiB of memory or of a file. It has room for 31,773 identifiers if their shards have one
+    /// chunk each, for shards of 8,388,072 bytes at most, and for some 30 MiB of shards in all.
+    pub fn new(alloc: Global) -> Self
+        ensures limits { result.limits.history ≡ 65536 }
+        ensures geometry { result.geometry ≡ record { format = 3; extents = 64; pages = 256; sections = 1 } }
+    {
+        OpenOptions {
+            alloc,
             limits: LIMITS,
+            geometry: default_geometry(),
+        }
+    }
+
+    /// These options with other limits. With limits of 0 events no command is ever taken.
+    pub fn limits(self, limits: Limits) -> Self
+        ensures limits { result.limits ≡ limits }
+        ensures geometry { result.geometry ≡ self.geometry }
+    {
+        OpenOptions {
+            alloc: self.alloc,
+            limits,
+            geometry: self.geometry,
+        }
+    }
+
+    /// These options with another geometry for a new store (`Geometry::of_format`). A store that is opened keeps its
+    /// own.
+    ///
+    /// A store of format 3 has 5 to 7,680 extents of 2 to 65,535 pages.
+    /// One of format 2 has 4 to 2,048 extents of 2 to 256 pages.
+    /// The pages of an extent bound how many identifiers there may be, and how large a shard. A store of format 2 can run
+    /// out of room for good, and a torn page of its superblock or its root loses it.
+    pub fn geometry(self, geometry: Geometry) -> Self
+        ensures limits { result.limits ≡ self.limits }
+        ensures geometry { result.geometry ≡ geometry }
+    {
+        OpenOptions {
+            alloc: self.alloc,
+            limits: self.limits,
+            geometry,
         }
     }
 }

@@ -1,5 +1,5 @@
 -- What the command `reclaim` does, and what it leaves as it is.
-use Rattle.std.specs.Prelude.{◌≡◌, ◌⊎◌, ◌↔◌, ◌*◌, ◌≤◌, ℕ, zero, suc, None, Some}
+use Rattle.std.specs.Prelude.{◌≡◌, ◌⊎◌, ◌↔◌, ◌*◌, ◌≤◌, ℕ, zero, suc, None, Some, true}
 use Rattle.cs_refusal.specs.declared.refusals.Refusal.{Refusal}
 use Rattle.cs_disk.specs.declared.disk.PageDisk.{Ghosts as PageDisk}
 use Rattle.cs_core.specs.Views.{View}
@@ -13,6 +13,10 @@ use Rattle.cs_store.specs.Maps.{HasMap}
 use Rattle.cs_inspect.specs.Choices.{Chooses, ReadsOn}
 use Rattle.cs_tools.specs.declared.reclaim_command.Stop.{Stop}
 use Rattle.cs_tools.specs.declared.reclaim_command.Stop.TheVariants.{Failed, Refused}
+
+-- an extent of the store holds chunks or runs, never both, as in all formats but 1 and 2
+abbrev pub LieApart : {D : Type 0} → View D → Type 0
+LieApart v = (shape v.store.extents).apart ≡ true
 
 -- all commands that were accepted are persistent
 abbrev pub IsPersistent : {D : Type 0} → View D → Type 0

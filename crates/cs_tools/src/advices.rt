@@ -118,8 +118,8 @@ pub fn system_text(fault: SystemFault) -> &'static str
     }
 }
 
-/// What to do about a refusal, by what is known of the file. To make a store is advised only where the file has no
-/// byte.
+/// What to do about a refusal, by what is known of the file. Making a store is advised only if the file is
+/// empty.
 pub fn advice(refusal: Refusal, known: &Known) -> Todo
     ensures make { result ≡ Make → known.now.content ≡ Empty }
     ensures words { says_make (words_of result) ≡ false }
@@ -165,7 +165,7 @@ fn advice_of_store(refusal: Refusal, format: Format) -> &'static str
     advice_of_damage(refusal, other)
 }
 
-/// What to do about a damaged page, or this where the refusal is of none.
+/// What to do about a damaged page. The other advice is returned for a refusal of no page.
 fn advice_of_damage(refusal: Refusal, other: &'static str) -> &'static str
     requires some { 0 < length other.now }
     requires words { says_make other.now ≡ false }
@@ -180,7 +180,7 @@ fn advice_of_damage(refusal: Refusal, other: &'static str) -> &'static str
     }
 }
 
-/// What to do where the system refused a call so.
+/// What to do if the system refused a call for this reason.
 pub fn advice_of_system(fault: Option<SystemFault>) -> &'static str
     ensures some { 0 < length result.now }
     ensures words { says_make result.now ≡ false }

@@ -44,8 +44,8 @@ struct Measured {
     flushes: u64,
 }
 
-/// Puts with a sync each, batches of puts with a sync each, and gets, over a new store: prints of each how many there were, how many a second, and how
-/// long half and 99 of 100 of them took; and how many flushes a batch takes.
+/// Puts with a sync each, batches of puts with a sync each, and gets, over a new store: prints of each how many there
+/// were, how many a second, and how long half and 99 of 100 of them took; and how many flushes a batch takes.
 pub fn bench<D: PageDisk, R: Clock, P: Progress, W: Write>(
     rt: &R,
     alloc: Global,
@@ -191,7 +191,7 @@ fn add<R: Clock>(rt: &R, start: Instant, timings: &mut Timings) -> Result<(), St
     }
 }
 
-/// Puts these bytes under the identifier with this number. Lets go of the history before, where it is long.
+/// Puts these bytes under the identifier with this number. A long history is dropped first.
 fn put<D: PageDisk>(core: &mut Core<D>, number: u64, bytes: &Bytes) -> Result<(), Stop> {
     make_room(core);
     let Ok(bytes) = bytes.share() else {

@@ -71,8 +71,7 @@ fn put_all<D: PageDisk, E: PageDisk, P: Progress>(
     finish(to)
 }
 
-/// Puts a shard of a store into another one, where so many were put before it, and makes all persistent after every
-/// 1,000 of them.
+/// Puts a shard of a store into another one, after so many others. After every 1,000 of them all is made persistent.
 fn put_next<D: PageDisk, E: PageDisk>(
     from: &mut Store<D>,
     to: &mut Store<E>,

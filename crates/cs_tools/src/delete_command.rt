@@ -10,10 +10,11 @@ use cs_disk::PageDisk;
 use cs_frame::ShardId;
 use cs_store::Store;
 
-/// Deletes what is under an identifier, and makes that persistent. Where there is nothing under it no command is accepted, and nothing is made
-/// persistent.
+/// Deletes what is under an identifier, and makes that persistent. If there is nothing under it, no command is
+/// accepted, and nothing is made persistent.
 ///
-/// Refused as `Store::delete` is, 1 DeviceFault, 9 OutOfMemory, 30 Full, 35 WornOut, 40 Halted or 41 HistoryFull, or as `Store::sync` is behind it.
+/// It is refused as `Store::delete` is, or as the `Store::sync` after it: 1 DeviceFault, 9 OutOfMemory, 30 Full,
+/// 35 WornOut, 40 Halted or 41 HistoryFull.
 pub fn delete<D: PageDisk>(store: &mut Store<D>, id: ShardId) -> Outcome
     ensures events { Deletes D.PageDisk id store.old store.new result }
     ensures map { (m : Map) → HasMap store.old m → D.honest store.old.disk → DeletesFrom D.PageDisk m id store.old store.new result }

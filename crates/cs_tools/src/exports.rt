@@ -27,8 +27,8 @@ use std::io::Write;
 /// How many lines are between two syncs.
 pub const LINES: usize = 1_000;
 
-/// Prints a script that puts all shards that are there from one identifier on, by rising identifiers, with a sync behind each 1,000 of them and at the end. A
-/// shard that can't be read has a remark in its place.
+/// Prints a script that puts all shards that are there from one identifier on, by rising identifiers, with a sync
+/// after each 1,000 of them and at the end. A remark replaces a shard that can't be read.
 pub fn export<D: PageDisk, P: Progress, W: Write>(
     alloc: Global,
     core: &mut Core<D>,
@@ -58,7 +58,7 @@ pub fn export<D: PageDisk, P: Progress, W: Write>(
     }
 }
 
-/// Prints the lines of these shards, and tells whether all could be read.
+/// Prints the lines of these shards, and returns whether all could be read.
 fn print_shards<D: PageDisk, P: Progress, W: Write>(
     core: &mut Core<D>,
     ids: &[ShardId],
@@ -87,7 +87,7 @@ fn print_shards<D: PageDisk, P: Progress, W: Write>(
     Ok(whole)
 }
 
-/// Prints the lines of these shards and a sync, and tells whether all could be read.
+/// Prints the lines of these shards and a sync, and returns whether all could be read.
 fn print_piece<D: PageDisk, W: Write>(
     core: &mut Core<D>,
     ids: &[ShardId],
@@ -111,7 +111,7 @@ fn print_piece<D: PageDisk, W: Write>(
     Ok(whole)
 }
 
-/// Prints the line of a shard, and tells whether it could be read.
+/// Prints the line of a shard, and returns whether it could be read.
 fn print_shard<D: PageDisk, W: Write>(
     core: &mut Core<D>,
     id: ShardId,

@@ -21,9 +21,9 @@ use std::io::Write;
 /// Writes out the bytes under an identifier, and nothing else.
 pub fn get<D: PageDisk, W: Write>(store: &mut Store<D>, id: ShardId, writer: &mut W) -> Outcome
     ensures answer { (m : Map) → HasMap store.old m → D.honest store.old.disk → Gets (m (id_number id)) (W.contents writer.old) (W.contents writer.new) result }
-    // Whatever the disk does, it is told that there is nothing where the index has no places of the shard's chunks, and nowhere else.
+    // Whatever the disk does, it ends as absent exactly if the index has no places of the shard's chunks.
     ensures absent { (result ≡ Absent) ↔ (live_at (index_of store.old.store.index) (id_number id) ≡ []) }
-    // 1 is told only where the disk's count of failures rose, or stood at its end.
+    // It reports 1 only if the disk's count of failures rose, or stood at its end.
     ensures cause { result ≡ Unread DeviceFault → Rises (D.failure_count store.old.disk) (D.failure_count store.new.disk) }
     ensures same { store.new ≡ record store.old { disk = store.new.disk } }
     ensures disk { OnlyReads D.PageDisk store.old.disk store.new.disk }
@@ -45,7 +45,7 @@ pub fn write_out<W: Write>(writer: &mut W, bytes: &[u8]) -> Outcome
     }
 }
 
-/// The same, with the writer's error.
+/// Writes these bytes out, or returns the writer's error.
 fn write_and_flush<W: Write>(writer: &mut W, bytes: &[u8]) -> io::Result<()>
     ensures { OnOk result (Appends (W.contents writer.old) (W.contents writer.new) bytes.now) }
 {

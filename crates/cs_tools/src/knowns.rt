@@ -88,8 +88,8 @@ fn named_by(superblock: &Superblock) -> Option<Named> {
     })
 }
 
-/// The store that the bytes of this page name: on page 0 in any format, elsewhere in format 3, whose second copy is the
-/// last page of its store.
+/// The store that the bytes of this page name. Page 0 has the superblock of any format. Any other page may be the last
+/// one of a store, which has the second copy.
 fn named_in(alloc: Global, number: u64, bytes: &[u8; 4096]) -> Option<Named> {
     let read = if number == 0 {
         decode_superblock(alloc, bytes)

@@ -20,7 +20,7 @@ pub enum Outcome {
     Failed,
     /// What is there couldn't be read. Status 5.
     Unread(Refusal),
-    /// Some of what is there couldn't be read, and which was told. Status 5.
+    /// Some of what is there couldn't be read, and it was printed which. Status 5.
     Damaged,
     /// The operating system refused the file. Status 6 if another process has it open; 7 if it isn't there, or may not
     /// be used so; else 3.
@@ -56,7 +56,7 @@ impl Outcome {
     }
 }
 
-/// The exit status where the system refused a file.
+/// The exit status if the system refused a file.
 fn status_of_fault(fault: SystemFault) -> u8
     ensures status { result ≡ status_of_fault fault }
     ensures most { result ≤ 7 }

@@ -18,7 +18,7 @@ pub struct FoundPages<'a> {
     pub mended: bool,
 }
 
-/// 1 where a page of the pair was passed over for its damage, else 0.
+/// 1 if a page of the pair was passed over for its damage, else 0.
 fn passed_over_of(finding: Finding) -> usize
     ensures { ((result ≡ 0) × (passed_over finding ≡ None)) ⊎ ((result ≡ 1) × (passed_over finding ≢ None)) }
 {
@@ -28,7 +28,7 @@ fn passed_over_of(finding: Finding) -> usize
     }
 }
 
-/// How many pages were found not to be whole, beside their other copy that is.
+/// How many pages aren't whole while their other copy is.
 fn count_passed_over(findings: &[Finding]) -> usize
     ensures { MatchBool (result == 0) (AreWhole findings.now) (¬ AreWhole findings.now) }
 {
@@ -50,7 +50,8 @@ pub fn count_left(findings: &[Finding], mended: bool) -> usize
     }
 }
 
-/// Prints these pages, one a line: the page, that of its other copy, and the version that this holds; and whether it was written anew from it.
+/// Prints the pages that aren't whole, one a line: the page, its other copy with the version there, and whether the
+/// page was written anew from it.
 pub fn print_pages<W: Write>(
     writer: &mut W,
     findings: &[Finding],
@@ -65,7 +66,7 @@ pub fn print_pages<W: Write>(
     Ok(())
 }
 
-/// Prints the line of a pair that was found so, where a page of it isn't whole.
+/// Prints the line of a pair, if a page of it isn't whole.
 fn print_finding<W: Write>(
     writer: &mut W,
     finding: Finding,
@@ -80,7 +81,7 @@ fn print_finding<W: Write>(
     }
 }
 
-/// The line of a page that isn't whole, of a pair that was found so.
+/// Prints the line of a page that isn't whole.
 fn print_page<W: Write>(
     writer: &mut W,
     finding: Finding,

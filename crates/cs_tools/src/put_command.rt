@@ -27,11 +27,11 @@ pub fn most_bytes<D: PageDisk>(store: &Store<D>) -> usize
     8 * geometry.chunk_bytes()
 }
 
-/// Keeps all that the reader gives under an identifier, in place of what was there, and makes it persistent. Of more bytes than the store takes
-/// it reads one more, and is refused 31 TooLarge.
+/// Puts all bytes of the reader under an identifier, in place of what was there, and makes that persistent. If there
+/// are more bytes than a shard may have, it reads one more than these, and is refused 31 TooLarge.
 ///
-/// Refused as `Store::put` is, 1 DeviceFault, 9 OutOfMemory, 30 Full, 31 TooLarge, 32 IndexFull, 35 WornOut, 40 Halted or 41 HistoryFull, or as
-/// `Store::sync` is behind it.
+/// It is refused as `Store::put` is, or as the `Store::sync` after it: 1 DeviceFault, 9 OutOfMemory, 30 Full,
+/// 31 TooLarge, 32 IndexFull, 35 WornOut, 40 Halted or 41 HistoryFull.
 pub fn put<D: PageDisk, R: Read + Drop>(
     alloc: Global,
     store: &mut Store<D>,

@@ -1,13 +1,12 @@
 //! The command `reclaim`.
-ghost use Rattle.std.specs.Prelude.{◌≡◌, ◌⊎◌, ◌↔◌, Err, IfErr, IfOk, IsOk, MatchBool, None, OnOk, true};
+ghost use Rattle.std.specs.Prelude.{◌≡◌, ◌⊎◌, ◌↔◌, Err, IfErr, IfOk, IsOk, MatchBool, None, OnOk};
 ghost use Rattle.cs_refusal.specs.declared.refusals.Refusal.{Refusal as Why};
 ghost use Rattle.cs_writeback.specs.Syncs.{Syncs};
-ghost use Rattle.cs_extent.specs.State.{shape};
 ghost use Rattle.law_machine.specs.Element.{Map};
 ghost use Rattle.cs_store.specs.Maps.{HasMap};
 ghost use Rattle.cs_inspect.specs.Choices.{Chooses, ReadsOn};
 ghost use Rattle.cs_tools.specs.Changes.{LeavesPrefixAt, LeavesPrefixBetween};
-ghost use Rattle.cs_tools.specs.Reclaims.{Empties, EmptiesAll, EmptiesChosen, IsPersistent, MayRefuseReclaim, MayStop, Tidies};
+ghost use Rattle.cs_tools.specs.Reclaims.{Empties, EmptiesAll, EmptiesChosen, IsPersistent, LieApart, MayRefuseReclaim, MayStop, Tidies};
 ghost use Rattle.cs_tools.specs.declared.outcomes.Outcome.TheVariants.{Done, Failed, Refused};
 ghost use Rattle.cs_tools.specs.declared.reclaim_command.Stop.TheVariants.{Failed as StopFailed, Refused as StopRefused};
 
@@ -42,10 +41,11 @@ pub enum Stop {
     Failed,
 }
 
-/// Empties extents, each with a sync after it, and prints what it freed. What was emptied before a refusal stays emptied.
+/// Empties extents, each with a sync after it, and prints what it freed. What was emptied before a refusal stays
+/// emptied.
 ///
-/// In stores of format 3 it empties the extent that `choose_sweep` of cs_inspect chooses, again and again until that
-/// chooses none, and at most twice as often as there are extents.
+/// It empties the extent that `choose_sweep` of cs_inspect chooses, again and again until that chooses none. It does so
+/// at most twice for each extent.
 ///
 /// In stores of formats 1 and 2 it empties all extents of which half or more is garbage, those with most garbage first.
 /// After an open the pages above the write pointer of an extent aren't written any more, so they count as garbage.
@@ -60,9 +60,9 @@ pub fn reclaim<D: PageDisk, W: Write>(
     ensures refusals { (r : Why) → result ≡ Refused r → MayRefuseReclaim r }
     // Where it ends well all is persistent, or nothing was worth it and nothing but reads was done.
     ensures kept { D.honest core.old.disk → result ≡ Done → IsPersistent core.new ⊎ ReadsOn D.PageDisk core.old core.new }
-    // In stores of format 3 it empties the extents that `choose_sweep` chooses. It ends when that chooses none, or after
+    // Except in formats 1 and 2 it empties the extents that `choose_sweep` chooses. It ends when that chooses none, or after
     // two for each extent.
-    ensures chosen { (shape core.old.store.extents).apart ≡ true → result ≡ Done → EmptiesAll D.PageDisk core.old core.new }
+    ensures chosen { LieApart core.old → result ≡ Done → EmptiesAll D.PageDisk core.old core.new }
     ensures map { D.honest core.old.disk → (m : Map) → HasMap core.old m → HasMap core.new m }
     ensures honest { D.honest core.old.disk ↔ D.honest core.new.disk }
     // A crash at any moment of it leaves the map after some of the commands, none of those left out that were persistent before.
@@ -78,7 +78,7 @@ pub fn reclaim<D: PageDisk, W: Write>(
     outcome_of(ended)
 }
 
-/// How it ended.
+/// The outcome of a reclaim that ended so.
 fn outcome_of(ended: Result<(), Stop>) -> Outcome
     ensures done { result ≡ Done → IsOk ended }
     ensures refused { (r : Why) → result ≡ Refused r → ended ≡ Err (StopRefused r) }
@@ -91,7 +91,7 @@ fn outcome_of(ended: Result<(), Stop>) -> Outcome
     }
 }
 
-/// The same, with why it ended early.
+/// Empties extents and prints how many are empty. It returns why it ended early.
 fn reclaim_and_print<D: PageDisk, W: Write>(
     alloc: Global,
     core: &mut Core<D>,
@@ -99,7 +99,7 @@ fn reclaim_and_print<D: PageDisk, W: Write>(
     writer: &mut W,
 ) -> Result<(), Stop>
     ensures kept { D.honest core.old.disk → OnOk result (IsPersistent core.new ⊎ ReadsOn D.PageDisk core.old core.new) }
-    ensures chosen { (shape core.old.store.extents).apart ≡ true → OnOk result (EmptiesAll D.PageDisk core.old core.new) }
+    ensures chosen { LieApart core.old → OnOk result (EmptiesAll D.PageDisk core.old core.new) }
     ensures refusals { IfErr result MayStop }
     ensures tidies { Tidies D.PageDisk core.old core.new }
 {
@@ -109,7 +109,7 @@ fn reclaim_and_print<D: PageDisk, W: Write>(
     printed(print_empty(writer, before, after, style))
 }
 
-/// Empties what is worth it by the rule of the format.
+/// Empties the extents that the store's rule chooses.
 fn empty_by_rule<D: PageDisk, W: Write>(
     alloc: Global,
     core: &mut Core<D>,
@@ -117,7 +117,7 @@ fn empty_by_rule<D: PageDisk, W: Write>(
     writer: &mut W,
 ) -> Result<(), Stop>
     ensures kept { D.honest core.old.disk → OnOk result (IsPersistent core.new ⊎ ReadsOn D.PageDisk core.old core.new) }
-    ensures chosen { (shape core.old.store.extents).apart ≡ true → OnOk result (EmptiesAll D.PageDisk core.old core.new) }
+    ensures chosen { LieApart core.old → OnOk result (EmptiesAll D.PageDisk core.old core.new) }
     ensures refusals { IfErr result MayStop }
     ensures tidies { Tidies D.PageDisk core.old core.new }
 {
@@ -127,7 +127,7 @@ fn empty_by_rule<D: PageDisk, W: Write>(
     }
 }
 
-/// Empties the extent that is chosen, again and again until none is: at most twice as often as there are extents.
+/// Empties the extent that is chosen, until none is chosen or two were for each extent.
 fn empty_by_choice<D: PageDisk, W: Write>(
     alloc: Global,
     core: &mut Core<D>,
@@ -213,7 +213,7 @@ pub fn sync_all<D: PageDisk>(core: &mut Core<D>) -> Result<(), Stop>
     }
 }
 
-/// Sweeps an extent, makes that persistent, and gives how many chunks were moved. Lets go of the history before, where it is long.
+/// Sweeps an extent, makes that persistent, and returns how many chunks were moved. A long history is dropped first.
 fn sweep_and_sync<D: PageDisk>(core: &mut Core<D>, extent: usize) -> Result<usize, Stop>
     ensures rests { D.honest core.old.disk → OnOk result (IsPersistent core.new) }
     ensures empties { OnOk result (Empties D.PageDisk extent core.old core.new) }
@@ -229,7 +229,7 @@ fn sweep_and_sync<D: PageDisk>(core: &mut Core<D>, extent: usize) -> Result<usiz
     Ok(swept.moved)
 }
 
-/// A line was printed, or the writer failed.
+/// Why printing a line ended the command, if it did.
 fn printed(line: io::Result<()>) -> Result<(), Stop>
     ensures { IfErr result (λ stop. stop ≡ StopFailed) }
 {

@@ -1,7 +1,7 @@
 //! The command `reclaim` on stores of formats 1 and 2, where chunks and runs may lie on one extent.
 //!
-//! The command runs on a store that was just opened. The pages above an extent's write pointer aren't written then until
-//! the extent is emptied, so they count as garbage here. `choose_sweep` of cs_inspect doesn't count them.
+//! The command runs on a store that was just opened. The pages above an extent's write pointer aren't written then
+//! until the extent is emptied, so they count as garbage here. `choose_sweep` of cs_inspect doesn't count them.
 ghost use Rattle.std.specs.Prelude.{◌≡◌, ◌⊎◌, ◌<◌, IfErr, IfOk, IfSome, OnOk, Some, length};
 ghost use Rattle.cs_index.specs.State.{id_number};
 ghost use Rattle.law_machine.specs.Element.{Bytes as Held, Map};
@@ -81,7 +81,7 @@ fn empty_all<D: PageDisk, W: Write>(
     Ok(count)
 }
 
-/// The extent with most garbage, where that is half of its pages or more.
+/// The extent with most garbage, if that is half of its pages or more.
 fn worth_emptying(uses: &[ExtentUse], pages: usize) -> Option<usize>
     ensures { IfSome result (λ extent. extent < length uses.now) }
 {
@@ -93,8 +93,8 @@ fn worth_emptying(uses: &[ExtentUse], pages: usize) -> Option<usize>
     }
 }
 
-/// Puts the first shard again as it is, and makes that persistent: that an extent is empty reaches the disk with the next frame alone. Where
-/// there is no shard that can be put again nothing is done.
+/// Puts the first shard again as it is, and makes that persistent: that an extent is empty reaches the disk with the
+/// next frame alone. Where there is no shard that can be put again nothing is done.
 fn put_again<D: PageDisk>(alloc: Global, core: &mut Core<D>) -> Result<(), Stop>
     ensures rests { D.honest core.old.disk → IsPersistent core.old → OnOk result (IsPersistent core.new) }
     ensures refusals { IfErr result MayStop }
@@ -109,7 +109,7 @@ fn put_again<D: PageDisk>(alloc: Global, core: &mut Core<D>) -> Result<(), Stop>
     }
 }
 
-/// The first shard, None where it can't be had.
+/// The first shard. It returns None if there is none, or it can't be read.
 fn first_shard<D: PageDisk>(alloc: Global, core: &mut Core<D>) -> Option<(ShardId, Bytes)>
     ensures shard { D.honest core.old.disk → (m : Map) → HasMap core.new m → IfSome result (λ shard. m (id_number shard.0) ≡ Some (Held shard.1)) }
     ensures store { core.new.store ≡ core.old.store }
@@ -125,13 +125,13 @@ fn first_shard<D: PageDisk>(alloc: Global, core: &mut Core<D>) -> Option<(ShardI
     }
 }
 
-/// The first identifier, None where it can't be had.
+/// The first identifier. It returns None if there is none, or memory was refused.
 fn first_id(alloc: Global, index: &Index) -> Option<ShardId> {
     let ids = ids_from(alloc, index, ShardId([0; 16]), 1).ok()?;
     ids.first().copied()
 }
 
-/// An identifier with its bytes, None where there is no memory.
+/// An identifier with its bytes. It returns None if memory was refused.
 fn with_bytes(alloc: Global, id: ShardId, bytes: Vec<u8>) -> Option<(ShardId, Bytes)>
     ensures { IfSome result (λ shard. (shard.0 ≡ id) × (shard.1 ≡ bytes.items)) }
 {

@@ -1,8 +1,8 @@
-//! The commands `get` and `list` over a store that is read for what can be got of it.
+//! The commands `get` and `list` over a damaged store, of which what is left is read.
 ghost use Rattle.std.specs.Prelude.{◌≡◌, ◌≢◌, ◌⊎◌, ◌↔◌, ◌+◌, ◌<◌, ◌≤◌, [], Err, IfErr, IfOk, List, MatchResult, None, flat_map, map};
 ghost use Rattle.std.specs.Io.KnownBytes.{Appends};
 ghost use Rattle.cs_chunk.specs.Reads.{IsNoAnswer};
-ghost use Rattle.cs_core.specs.Openings.{IsOpeningRefusal};
+ghost use Rattle.cs_reader.specs.Openings.{IsOpeningRefusal};
 ghost use Rattle.cs_refusal.specs.declared.refusals.Refusal.{Refusal as Why};
 ghost use Rattle.cs_disk.specs.Disk.{Rises, flushed, page, seen};
 ghost use Rattle.cs_disk.specs.Reads.{OnlyReads};
@@ -35,23 +35,24 @@ use cs_salvage::{Rescue, RescueRefusal};
 use std::alloc::Global;
 use std::io::Write;
 
-/// What to do where it isn't known whether there is a shard.
+/// What to do if it isn't known whether there is a shard.
 const RUN_LOST: &str =
     "No run of the index that can be read names it, and older ones can't be read. In format 3 `export --salvage` reads the frames themselves. Else restore the file from a copy.";
 
 /// How a get ended.
 #[derive(Clone, Copy)]
 pub enum Got {
-    /// As other commands do.
+    /// As other commands end.
     Ended(Outcome),
     /// No run that was read names it, and there is one that couldn't be read. Status 5.
     RunLost,
 }
 
-/// Reads the store on a disk for what can be got of it, and tells what the pages hold that it has twice. Nothing is written.
+/// Opens a damaged store to read what is left of it, and returns what it found in the pages that are there twice.
+/// Nothing is written.
 ///
-/// The disk comes back where it is refused: 43 NotAStore where no store of that many pages is on it, 20 to 24 for a page of the superblock or the root that is damaged, where it has two for both of
-/// them, 1 DeviceFault, and 9 OutOfMemory.
+/// If the call is refused, it returns the disk. 43 NotAStore: no store of that many pages is there. 20 to 24: a page of
+/// the superblock or of the root is damaged, and so is its other copy, if it has one. 1 DeviceFault. 9 OutOfMemory.
 pub fn open_rescue<D: PageDisk + Drop>(
     alloc: Global,
     disk: D,
@@ -66,7 +67,7 @@ pub fn open_rescue<D: PageDisk + Drop>(
     ensures number { IfErr result (λ refused. IsOpeningRefusal refused.0) }
     // Nothing is written, whether it is read or not: the device holds what it held, or that made durable.
     ensures unwritten { D.honest disk → MatchResult result (λ opened. D.state (disk_below opened.0.disk) ≡ flushed (D.state disk)) (λ refused. (D.state refused.1 ≡ D.state disk) ⊎ (D.state refused.1 ≡ flushed (D.state disk))) }
-    // One flush, and no write; where it is refused one at most.
+    // One flush, and no write; at most one if it is refused.
     ensures calls { D.honest disk → MatchResult result (λ opened. D.moment (disk_below opened.0.disk) ≡ D.moment disk + 1) (λ refused. D.moment refused.1 ≤ D.moment disk + 1) }
     ensures honest { MatchResult result (λ opened. D.honest disk ↔ D.honest (disk_below opened.0.disk)) (λ refused. D.honest disk ↔ D.honest refused.1) }
     ensures pages { MatchResult result (λ opened. D.page_count (disk_below opened.0.disk) ≡ D.page_count disk) (λ refused. D.page_count refused.1 ≡ D.page_count disk) }
@@ -83,7 +84,7 @@ pub fn open_rescue<D: PageDisk + Drop>(
     }
 }
 
-/// Writes out the bytes under an identifier, as the runs have it that were read.
+/// Writes out the bytes under an identifier, by the runs that could be read.
 pub fn get_rescued<D: PageDisk, W: Write>(
     alloc: Global,
     rescue: &mut Rescue<D>,
@@ -94,7 +95,7 @@ pub fn get_rescued<D: PageDisk, W: Write>(
     // Whatever the disk does.
     ensures absent { (result ≡ Ended Absent) ↔ IsAbsent rescue.old.found (id_number id) }
     ensures run_lost { (result ≡ RunLost) ↔ IsUnknown rescue.old.found (id_number id) }
-    // 1 is told only where the disk's count of failures rose, or stood at its end.
+    // It reports 1 only if the disk's count of failures rose, or stood at its end.
     ensures cause { result ≡ Ended (Unread Refusal.DeviceFault) → Rises (D.failure_count rescue.old.disk) (D.failure_count rescue.new.disk) }
     ensures same { rescue.new.found ≡ rescue.old.found }
     ensures disk { OnlyReads D.PageDisk rescue.old.disk rescue.new.disk }
@@ -107,8 +108,8 @@ pub fn get_rescued<D: PageDisk, W: Write>(
     }
 }
 
-/// Prints the identifiers of the first so many shards that the runs name which were read, from one on, by rising bytes, one a line. Where there is a run that couldn't be read, there
-/// may be others.
+/// Prints the identifiers of the first so many shards that the readable runs name, from one on, in order, one a line.
+/// There may be others if a run couldn't be read.
 pub fn list_rescued<D: PageDisk, W: Write>(
     alloc: Global,
     rescue: &Rescue<D>,
@@ -135,7 +136,7 @@ pub fn list_rescued<D: PageDisk, W: Write>(
     }
 }
 
-/// Tells on standard error why a get ended as it did, where it was refused, and what to do; and gives the exit status.
+/// Prints on standard error why a get was refused, if it was, and what to do. It returns the exit status.
 pub fn explain_got<R: Eprint>(rt: &R, got: Got, known: &Known, style: Style) -> u8
     ensures status { result ≡ status_of_got got }
     ensures most { result ≤ 7 }
@@ -149,7 +150,7 @@ pub fn explain_got<R: Eprint>(rt: &R, got: Got, known: &Known, style: Style) -> 
     }
 }
 
-/// What is told where it isn't known whether there is a shard.
+/// The reason of a get that can't know whether there is a shard.
 fn reason_of_run() -> Reason {
     let refusal = RescueRefusal::RunLost;
     Reason {

@@ -24,17 +24,17 @@ use std::alloc::{AllocError, Global};
 use std::io;
 use std::io::Write;
 
-/// What the frames on a device spell.
+/// What the frames on a device hold.
 #[derive(Drop)]
 pub struct Salvaged {
     pub geometry: Geometry,
-    /// Of each identifier the newest shard that is whole.
+    /// The newest whole shard of each identifier.
     pub shards: Vec<WholeShard>,
     /// The newest puts that aren't whole.
     pub missing: Vec<Missing>,
 }
 
-/// What these parts on a device spell.
+/// What these parts on a device hold.
 fn spelled_by(alloc: Global, geometry: Geometry, parts: &[Part]) -> Result<Salvaged, AllocError>
     ensures geometry { IfOk result (λ found. found.geometry ≡ geometry) }
     ensures shards { IfOk result (λ found. AreNewest parts.now found.shards.items) }
@@ -49,16 +49,16 @@ fn spelled_by(alloc: Global, geometry: Geometry, parts: &[Part]) -> Result<Salva
     })
 }
 
-/// Reads all frames on a device of a store of format 3, and tells which shards they spell. Superblock and root are read for the store's geometry alone, which one whole copy of the first section
-/// tells; runs aren't.
+/// Reads all frames on a device, and returns which shards they hold. Of superblock and root only the geometry is read,
+/// for which one whole copy of the first section is enough. No run is read.
 ///
-/// Refused 43 NotAStore where there is no store of format 3 of that many pages, 1 DeviceFault, and 9 OutOfMemory.
+/// It is refused 43 NotAStore if no store of format 3 of that many pages is there, 1 DeviceFault, or 9 OutOfMemory.
 pub fn salvage<D: PageDisk>(alloc: Global, disk: &mut D) -> Result<Salvaged, Refusal>
     ensures found { D.honest disk.old → IfOk result (IsSalvaged (seen (D.state disk.old))) }
     ensures geometry { D.honest disk.old → IfOk result (λ found. dimensions_on (D.page_count disk.old) (seen (D.state disk.old)) ≡ Some found.geometry) }
     ensures room { IfOk result (λ found. 2 + found.geometry.extents * found.geometry.pages ≤ D.page_count disk.new) }
     ensures refusals { IfErr result (λ r. (r ≡ Refusal.NotAStore) ⊎ (r ≡ Refusal.DeviceFault) ⊎ (r ≡ Refusal.OutOfMemory)) }
-    // Of a device of fewer pages it is said at once that it has no store, and of another one only where it has none.
+    // A device of fewer pages is refused at once as no store, and another one only if it has none.
     ensures small { D.page_count disk.old < 10 → result ≡ Err Refusal.NotAStore }
     ensures no_store { D.honest disk.old → 10 ≤ D.page_count disk.old → result ≡ Err Refusal.NotAStore → dimensions_on (D.page_count disk.old) (seen (D.state disk.old)) ≡ None }
     ensures cause { IsCaused (D.failure_count disk.old) (D.failure_count disk.new) result }
@@ -78,8 +78,9 @@ pub fn salvage<D: PageDisk>(alloc: Global, disk: &mut D) -> Result<Salvaged, Ref
     }
 }
 
-/// Prints a script that puts these shards, by rising identifiers, with a sync behind each 1,000 of them and at the end. A shard that can't be read has a remark in its
-/// place. Shards that were deleted may be among them, and an older put of a shard whose newest is lost. If there is none it ends as damaged.
+/// Prints a script that puts these shards by identifier, with a sync after each 1,000 of them and at the end. A remark
+/// replaces a shard that can't be read. Deleted shards may be among them. A shard whose newest put is lost has an older
+/// one. It ends as damaged if there is no shard.
 pub fn export_salvaged<D: PageDisk, P: Progress, W: Write>(
     alloc: Global,
     disk: &mut D,
@@ -100,7 +101,8 @@ pub fn export_salvaged<D: PageDisk, P: Progress, W: Write>(
     }
 }
 
-/// How an export ends whose lines were written: as damaged where not all could be read, where something is missing, or where there was nothing to print.
+/// How an export ends whose lines were written: as damaged if not all could be read, something is missing, or there was
+/// nothing to print.
 fn outcome_of(whole: bool, shards: &[WholeShard], missing: &[Missing]) -> Outcome
     ensures { ((result ≡ Done) × (whole ≡ true) × (shards.now ≢ []) × (missing.now ≡ [])) ⊎ ((result ≡ Damaged) × ((whole ≡ false) ⊎ (shards.now ≡ []) ⊎ (missing.now ≢ []))) }
 {
@@ -111,7 +113,7 @@ fn outcome_of(whole: bool, shards: &[WholeShard], missing: &[Missing]) -> Outcom
     }
 }
 
-/// Prints the lines of these shards, and tells whether all could be read.
+/// Prints the lines of these shards, and returns whether all could be read.
 fn print_shards<D: PageDisk, P: Progress, W: Write>(
     alloc: Global,
     disk: &mut D,
@@ -138,7 +140,7 @@ fn print_shards<D: PageDisk, P: Progress, W: Write>(
     Ok(whole)
 }
 
-/// Prints the lines of these shards and a sync, and tells whether all could be read.
+/// Prints the lines of these shards and a sync, and returns whether all could be read.
 fn print_piece<D: PageDisk, W: Write>(
     alloc: Global,
     disk: &mut D,
@@ -163,7 +165,7 @@ fn print_piece<D: PageDisk, W: Write>(
     Ok(whole)
 }
 
-/// Prints the line of a shard, and tells whether it could be read.
+/// Prints the line of a shard, and returns whether it could be read.
 fn print_shard<D: PageDisk, W: Write>(
     alloc: Global,
     disk: &mut D,

@@ -12,11 +12,11 @@ use cs_refusal::Refusal;
 use cs_salvage::{Patience, Scanned, scan_commands};
 use std::alloc::Global;
 
-/// The greatest number of a command among the whole frames on a device of a store of format 3, extent after extent, as
-/// long as patience lasts. If it is above the number of commands that the root counts, the commands between them are
-/// lost, or were never acknowledged.
+/// The greatest number of a command among the whole frames on a device, extent after extent, as long as patience lasts.
+/// If it is above the number of commands that the root counts, the commands between them are lost, or were never
+/// acknowledged.
 ///
-/// Refused 43 NotAStore where there is no store of format 3 of that many pages, 1 DeviceFault, and 9 OutOfMemory.
+/// It is refused 43 NotAStore if no store of format 3 of that many pages is there, 1 DeviceFault, or 9 OutOfMemory.
 pub fn greatest_command<D: PageDisk, P: Patience>(
     alloc: Global,
     disk: &mut D,

@@ -19,8 +19,9 @@ use std::alloc::Global;
 use std::io;
 use std::io::Write;
 
-/// Reads each frame that the index names, prints those that can't be read, one a line, and then how many were read. Before them it prints the pages that were found
-/// not to be whole, of those that the store has twice: where they were written anew they aren't damages any more.
+/// Reads each frame that the index names, prints those that can't be read, one a line, and then how many were read.
+/// Before them it prints the pages that aren't whole, of those that the store has twice. A page that was written anew
+/// is no damage any more.
 pub fn scrub<D: PageDisk, P: Progress, W: Write>(
     alloc: Global,
     core: &mut Core<D>,

@@ -19,28 +19,30 @@ use std::alloc::Global;
 use std::io;
 use std::io::Write;
 
-/// What a core says of its history, and how many extents may hold what.
+/// What is read of a core beside its `Stats`.
 #[derive(Clone, Copy)]
 struct Kept {
+    /// How many events its history has.
     events: usize,
+    /// How many it may have.
     limit: usize,
     quota: Option<Quota>,
-    /// Up to format 2 each entry of the index weighs one: what they may weigh is how many identifiers may be named.
+    /// Whether each entry of the index weighs one, as in formats 1 and 2. Then the weight is the number of identifiers.
     by_names: bool,
 }
 
-/// How many pages of a store's extents are used how.
+/// The pages of a store's extents, counted by their use.
 #[derive(Clone, Copy)]
 struct Room {
-    /// They are given: frames lie there, or lay there since the extent was emptied.
+    /// Those below the write pointers.
     used: usize,
-    /// Frames of live chunks lie there.
+    /// Those with frames of live chunks.
     live: usize,
-    /// All of them.
+    /// All pages.
     total: usize,
 }
 
-/// How many pages of extents of so many pages are used how.
+/// The pages of these extents, counted by their use.
 fn room_of(geometry: Geometry, extents: &[ExtentUse]) -> Room {
     let mut room = Room {
         used: 0,
@@ -119,7 +121,8 @@ fn print_all<W: Write>(
     }
 }
 
-/// A line each: the geometry, the extents that aren't empty, how many are, how many may hold what, the runs, and the counts.
+/// A line each: the geometry, the extents that aren't empty, how many are, how many may hold what, the runs, and the
+/// counts.
 fn print_lines<W: Write>(
     writer: &mut W,
     geometry: Geometry,
@@ -132,7 +135,7 @@ fn print_lines<W: Write>(
     print_figures(writer, room_of(geometry, &stats.extents), kept, stats)
 }
 
-/// The lines behind the first one.
+/// The lines after the first one.
 fn print_figures<W: Write>(writer: &mut W, room: Room, kept: Kept, stats: &Stats) -> io::Result<()>
     ensures { OnOk result (GoesOn (W.contents writer.old) (W.contents writer.new)) }
 {
@@ -160,14 +163,14 @@ fn print_geometry<W: Write>(writer: &mut W, geometry: Geometry) -> io::Result<()
     writeln!(writer)
 }
 
-/// A number behind this.
+/// A number after this text.
 pub fn print_number<W: Write>(writer: &mut W, before: &str, number: u64) -> io::Result<()>
     ensures { OnOk result (Appends (W.contents writer.old) (W.contents writer.new) (number_text before.now number)) }
 {
     write!(writer, "{before}{number}")
 }
 
-/// The line of the bytes: how many are used, how many of them by live chunks and how many not, and how many are free, of how many.
+/// The line of the bytes: used, those of them that are live or dead, free, and in all.
 fn print_room<W: Write>(writer: &mut W, room: Room) -> io::Result<()>
     ensures { OnOk result (GoesOn (W.contents writer.old) (W.contents writer.new)) }
 {
@@ -192,7 +195,7 @@ fn print_run_lines<W: Write>(writer: &mut W, runs: &[RunUse]) -> io::Result<()>
     Ok(())
 }
 
-/// The line of how many extents are empty, and a warning where they are few.
+/// The line of how many extents are empty, and a warning if they are few.
 fn print_empty<W: Write>(writer: &mut W, empty: usize) -> io::Result<()>
     ensures { OnOk result (GoesOn (W.contents writer.old) (W.contents writer.new)) }
 {
@@ -204,14 +207,15 @@ fn print_empty<W: Write>(writer: &mut W, empty: usize) -> io::Result<()>
     write!(writer, "empty {empty}\n{warning}")
 }
 
-/// Whether so few extents are empty that a store may run out of room for good: a put leaves two of them empty, and a sweep may take two.
+/// Whether so few extents are empty that a store may run out of room for good: a put leaves two of them empty, and a
+/// sweep may take two.
 fn is_low(empty: usize) -> bool
     ensures { IsTrue result ↔ (empty < 4) }
 {
     empty < 4
 }
 
-/// The line of how many extents hold chunks and runs, and how many may, where these lie apart.
+/// The line of the quota, if the store has one: how many extents hold chunks and how many runs, and how many may.
 fn print_quota<W: Write>(writer: &mut W, quota: Option<Quota>) -> io::Result<()>
     ensures { OnOk result (GoesOn (W.contents writer.old) (W.contents writer.new)) }
 {
@@ -280,7 +284,7 @@ fn print_marks<W: Write>(writer: &mut W, used: ExtentUse) -> io::Result<()>
     }
 }
 
-/// This word where something is so, else none.
+/// This word if something is so, else the empty text.
 fn word_where(is_so: bool, word: &str) -> &str {
     if is_so { word } else { "" }
 }
@@ -337,7 +341,7 @@ fn print_object<W: Write>(
     print_figure_members(writer, room_of(geometry, &stats.extents), kept, stats)
 }
 
-/// The members behind those of the geometry.
+/// The members after those of the geometry.
 fn print_figure_members<W: Write>(
     writer: &mut W,
     room: Room,
@@ -395,7 +399,8 @@ fn print_uses<W: Write>(writer: &mut W, extents: &[ExtentUse]) -> io::Result<()>
     Ok(())
 }
 
-/// The JSON object of an extent that isn't empty, where so many were printed before it; and how many are printed then.
+/// Prints the JSON object of an extent after so many others, unless the extent is empty. It returns how many are
+/// printed then.
 fn print_use<W: Write>(
     writer: &mut W,
     number: usize,
@@ -412,7 +417,7 @@ fn print_use<W: Write>(
     Ok(printed.saturating_add(1))
 }
 
-/// A comma behind what was printed, where something was.
+/// A comma, if an object was printed before.
 fn print_comma<W: Write>(writer: &mut W, printed: usize) -> io::Result<()>
     ensures { OnOk result (GoesOn (W.contents writer.old) (W.contents writer.new)) }
 {
@@ -440,7 +445,8 @@ fn print_use_object<W: Write>(writer: &mut W, number: usize, used: ExtentUse) ->
     )
 }
 
-/// The end of the extents, how many are empty and whether they are few, how many may hold what, and the beginning of the runs.
+/// The end of the extents, how many are empty and whether they are few, how many may hold what, and the beginning of
+/// the runs.
 fn print_empty_members<W: Write>(
     writer: &mut W,
     empty: usize,
@@ -454,7 +460,7 @@ fn print_empty_members<W: Write>(
     write!(writer, "\"runs\":[")
 }
 
-/// The member of how many extents hold chunks and runs, and how many may, where these lie apart.
+/// The member of the quota, if the store has one.
 fn print_quota_member<W: Write>(writer: &mut W, quota: Option<Quota>) -> io::Result<()>
     ensures { OnOk result (GoesOn (W.contents writer.old) (W.contents writer.new)) }
 {
@@ -483,7 +489,7 @@ fn print_runs<W: Write>(writer: &mut W, runs: &[RunUse]) -> io::Result<()>
     Ok(())
 }
 
-/// The JSON object of a run, behind a comma where it isn't the first one.
+/// The JSON object of a run, after a comma unless it is the first one.
 fn print_run_object<W: Write>(writer: &mut W, number: usize, run: RunUse) -> io::Result<()>
     ensures { OnOk result (GoesOn (W.contents writer.old) (W.contents writer.new)) }
 {
@@ -509,8 +515,8 @@ fn print_count_members<W: Write>(writer: &mut W, kept: Kept, stats: &Stats) -> i
     )
 }
 
-/// The end of the runs, and the members of how many identifiers are named, of how many that may be where their number is limited, what
-/// their entries weigh, and how much they may.
+/// The end of the runs, and the members of how many identifiers are named, how many may be if their number is limited,
+/// what their entries weigh, and what they may weigh.
 fn print_named_members<W: Write>(writer: &mut W, by_names: bool, stats: &Stats) -> io::Result<()>
     ensures { OnOk result (GoesOn (W.contents writer.old) (W.contents writer.new)) }
 {

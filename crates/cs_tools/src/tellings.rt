@@ -1,4 +1,4 @@
-//! What is told on standard error of how a command ended.
+//! Messages on standard error: how a command ended, and what to do.
 ghost use Rattle.std.specs.Prelude.{◌≡◌, ◌≤◌, IfSome, OnOk};
 ghost use Rattle.std.specs.Io.KnownBytes.{Appends};
 ghost use Rattle.cs_refusal.specs.Refusals.{name_of, number_of};
@@ -15,7 +15,7 @@ use cs_refusal::Refusal;
 use std::io;
 use std::io::Write;
 
-/// What is told where a repair stopped.
+/// The message of a repair that stopped.
 const LOSS: &str = "the repair stopped, and nothing was written: commands may be lost by it";
 
 /// What to do then.
@@ -54,7 +54,7 @@ pub struct Reason {
 }
 
 impl Reason {
-    /// Of a refusal, by what is known of the file. Why the system refused a call is told with 1 DeviceFault alone.
+    /// The reason of a refusal, by what is known of the file. Only 1 DeviceFault reports why the system refused a call.
     fn of(refusal: Refusal, known: &Known) -> Self
         ensures number { result.number ≡ number_of refusal }
         ensures name { result.name.now ≡ name_of refusal }
@@ -72,7 +72,7 @@ impl Reason {
         }
     }
 
-    /// Of a file that the system refused.
+    /// The reason of a file that the system didn't open.
     fn of_file(fault: SystemFault) -> Self
         ensures number { result.number ≡ number_of Refusal.DeviceFault }
         ensures name { result.name.now ≡ name_of Refusal.DeviceFault }
@@ -129,7 +129,7 @@ fn print_text<W: Write>(writer: &mut W, text: &str, system: Option<SystemFault>)
     }
 }
 
-/// Prints what to do, and the end of what is told.
+/// Prints what to do, and the end of the message.
 fn print_advice<W: Write>(writer: &mut W, advice: Todo, style: Style) -> io::Result<()>
     ensures { OnOk result (GoesOn (W.contents writer.old) (W.contents writer.new)) }
 {
@@ -177,14 +177,14 @@ fn print_length<W: Write>(writer: &mut W, pages: u64, wanted: u64) -> io::Result
     )
 }
 
-/// Prints why a command ended as it did, where it was refused, and what to do.
+/// Prints why a command was refused, if it was, and what to do.
 pub fn print_outcome<W: Write>(
     writer: &mut W,
     outcome: Outcome,
     known: &Known,
     style: Style,
 ) -> io::Result<()>
-    // Each refusal is told by its own number and name.
+    // Each refusal is printed with its own number and name.
     ensures refused { IfSome (refusal_in outcome) (λ r. OnOk result (BeginsWith (W.contents writer.old) (W.contents writer.new) (head_text style (number_of r) (name_of r)))) }
 {
     match outcome {
@@ -208,17 +208,17 @@ fn print_loss<W: Write>(writer: &mut W, style: Style) -> io::Result<()> {
     }
 }
 
-/// Tells on standard error why something was refused, and what to do.
+/// Prints on standard error why something was refused, and what to do.
 pub fn tell_reason<R: Eprint>(rt: &R, reason: &Reason, style: Style) {
     let _ = print_reason(&mut Errors { rt }, reason, style);
 }
 
-/// Tells on standard error why a command ended as it did, where it was refused, and what to do.
+/// Prints on standard error why a command was refused, if it was, and what to do.
 pub fn tell<R: Eprint>(rt: &R, outcome: Outcome, known: &Known, style: Style) {
     let _ = print_outcome(&mut Errors { rt }, outcome, known, style);
 }
 
-/// The same, and gives the exit status.
+/// Does the same, and returns the exit status.
 pub fn explain<R: Eprint>(rt: &R, outcome: Outcome, known: &Known, style: Style) -> u8
     ensures status { result ≡ status_of outcome }
     ensures most { result ≤ 7 }

@@ -34,7 +34,8 @@ impl Timings {
         Ok(())
     }
 
-    /// Prints how many calls there were of this name, how many commands they did a second, and in how long half and 99 of 100 of them were done.
+    /// Prints how many calls there were of this name, how many commands they did a second, and in how long half and 99
+    /// of 100 of them were done.
     pub fn print<W: Write>(&mut self, name: &str, style: Style, writer: &mut W) -> io::Result<()> {
         self.took.sort_unstable();
         let calls = self.took.len();
@@ -61,7 +62,7 @@ impl Timings {
         u64::try_from(rate).unwrap_or(u64::MAX)
     }
 
-    /// In how long so many of 100 were done, 0 where there is none. The calls are sorted.
+    /// The time in which so many of 100 calls were done, 0 if there is no call. The calls are sorted.
     fn within(&self, percent: usize) -> u64 {
         let place = self.took.len().saturating_mul(percent) / 100;
         let last = self.took.len().saturating_sub(1);

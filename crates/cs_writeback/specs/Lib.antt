@@ -6,3 +6,4 @@ pub mod Syncs
 pub use Rattle.cs_core.specs.cs_chunk as cs_chunk
 pub use Rattle.cs_core.specs as cs_core
 pub use Rattle.cs_core.specs.cs_extent as cs_extent
+pub use Rattle.cs_core.specs.cs_reader as cs_reader

@@ -7,7 +7,6 @@ mod observers;
 mod rooms;
 mod stops;
 mod syncs;
-mod turns;
 mod whole_sweeps;
 mod writeback_laws;
 
@@ -16,7 +15,6 @@ pub use cs_core as the_core;
 pub use observers::{Observer, Silent};
 pub use rooms::make_room;
 pub use stops::Stop;
-pub use syncs::{sync, write_rounds};
-pub use turns::{end_round, finish_round, run_round};
+pub use syncs::{end_round, finish_round, run_round, sync, write_rounds};
 pub use whole_sweeps::{Swept, sweep};
 pub use writeback_laws::a_sync_is_never_out_of_turn;

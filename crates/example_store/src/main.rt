@@ -2,13 +2,13 @@
 #![tactic(auto)]
 
 use anyhow::{Result, bail};
-use cs_store::{LIMITS, Options, PageDisk, ShardId, Store};
+use cs_store::{OpenOptions, PageDisk, ShardId, Store};
 
 fn main(rt: HostRuntime) -> Result<()> {
-    let mut store = Store::in_memory(rt.alloc(), Options::default())?;
+    let mut store = OpenOptions::new(rt.alloc()).create_in_memory()?;
     use_store(&rt, &mut store)?;
-    match Store::open(rt.alloc(), store.close(), LIMITS) {
-        Ok(mut store) => use_again(&rt, &mut store),
+    match OpenOptions::new(rt.alloc()).open(store.close().into_disk()) {
+        Ok((mut store, _)) => use_again(&rt, &mut store),
         Err((refusal, _)) => bail!("no store: {refusal}"),
     }
 }

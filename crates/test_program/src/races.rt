@@ -5,9 +5,8 @@ ghost use Rattle.cs_node.specs.Starts.{start_of};
 use cs_core::Core;
 use cs_disk::{MemoryDisk, PageDisk};
 use cs_frame::Geometry;
+use cs_mount::{MountOptions, Mounted};
 use cs_node::{Board, Job, Naming, Node};
-use cs_options::mount::Mounted;
-use cs_options::script::new_in_memory;
 use cs_race::{Returned, new_core, racers_of, run_race};
 use cs_words::Race;
 use std::alloc::Global;
@@ -71,7 +70,7 @@ fn large_core(alloc: Global) -> Result<Core<Mounted<MemoryDisk>>, Fail>
     ensures { IfOk result (λ core. (core.history ≡ []) × (core.store.accepted ≡ 0)) }
 {
     let geometry = Geometry::new(64, 32)?;
-    match new_in_memory(alloc, geometry) {
+    match MountOptions::new(alloc).create_in_memory(geometry) {
         Ok(core) => Ok(core),
         Err(_) => Err(Fail::from("no core")),
     }

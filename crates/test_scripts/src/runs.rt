@@ -1,9 +1,10 @@
 //! A script's run.
 use cs_disk::CrashDisk;
 use cs_frame::Geometry;
+use cs_mount::MountOptions;
 use cs_refusal::Refusal;
 use cs_script::the_core::Core;
-use cs_script::{new_in_memory, print_no_store, run_script};
+use cs_script::{print_no_store, run_script};
 use std::alloc::Global;
 
 /// What a script printed and left behind.
@@ -35,7 +36,7 @@ pub fn run_over_new(
         Ok(geometry) => geometry,
         Err(refusal) => return Ok(refused(alloc, refusal)),
     };
-    match new_in_memory(alloc, geometry) {
+    match MountOptions::new(alloc).create_in_memory(geometry) {
         Ok(core) => Ok(run(alloc, core, script)),
         Err(refusal) => Err(refusal),
     }

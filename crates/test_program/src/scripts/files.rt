@@ -3,8 +3,8 @@ use super::{printed, script_text};
 use cs_core::Core;
 use cs_disk::{CrashDisk, FileDisk, OpenFault};
 use cs_frame::Geometry;
-use cs_options::mount::{Mounted, make_store, open_store};
-use cs_options::script::{limits, run_over};
+use cs_mount::{MountOptions, Mounted};
+use cs_options::script::run_over;
 use cs_refusal::Refusal;
 use std::alloc::Global;
 use std::fs::File;
@@ -48,7 +48,7 @@ pub fn new_in_file<R: Files<File = File>>(
     let Ok(disk) = FileDisk::create(rt, alloc, path, geometry.device_pages()) else {
         return Err(Refusal::DeviceFault);
     };
-    match make_store(alloc, disk, geometry, limits()) {
+    match MountOptions::new(alloc).create(disk, geometry) {
         Ok(core) => Ok(core),
         Err((refusal, _)) => Err(refusal),
     }
@@ -65,7 +65,7 @@ fn open_in_file<R: Files<File = File>>(
         Err(OpenFault::DeviceFault) => return Err(Refusal::DeviceFault),
         Err(OpenFault::OddLength) => return Err(Refusal::OddLength),
     };
-    match open_store(alloc, disk, limits()) {
+    match MountOptions::new(alloc).open(disk) {
         Ok((core, _)) => Ok(core),
         Err((refusal, _)) => Err(refusal),
     }

@@ -2,7 +2,7 @@
 use cs_core::{Core, Limits};
 use cs_disk::{MemoryDisk, PageDisk};
 use cs_frame::Geometry;
-use cs_options::mount::{make_store, open_pairs, open_store};
+use cs_mount::{MountOptions, open_pairs};
 use cs_refusal::Refusal;
 use std::alloc::Global;
 use std::test::{Fail, *};
@@ -11,7 +11,7 @@ const LIMITS: Limits = Limits { history: 100 };
 
 /// The disk on which a store was made, or why none was, and the disk.
 fn made<D: PageDisk + Drop>(alloc: Global, disk: D, geometry: Geometry) -> Result<D, (Refusal, D)> {
-    match make_store(alloc, disk, geometry, LIMITS) {
+    match MountOptions::new(alloc).create(disk, geometry) {
         Ok(core) => Ok(core.into_disk().into_disk()),
         Err(refused) => Err(refused),
     }
@@ -19,7 +19,7 @@ fn made<D: PageDisk + Drop>(alloc: Global, disk: D, geometry: Geometry) -> Resul
 
 /// How many commands the store on a disk includes.
 fn commands_on<D: PageDisk + Drop>(alloc: Global, disk: D) -> Option<u64> {
-    match open_store(alloc, disk, LIMITS) {
+    match MountOptions::new(alloc).open(disk) {
         Ok((core, _)) => Some(core.opened().0),
         Err(_) => None,
     }

@@ -5,7 +5,7 @@ use Rattle.std.specs.Prelude.{slice_get}
 use Rattle.cs_extent.specs.Sections.{AreSections, IsSectionAt}
 use Rattle.cs_frame.specs.declared.superblocks.Superblock.{Superblock}
 use Rattle.cs_frame.specs.Superblocks.{SpellsSuperblock}
-use Rattle.cs_core.proofs.SectionReads.{further_at}
+use Rattle.cs_reader.proofs.SectionReads.{further_at}
 
 -- the one section of a superblock is all of it
 pub one_section : (it : Superblock) → it.sections ≡ 1 → it.section ≡ 0 → (bytes : List ℕ)

@@ -5,7 +5,8 @@ use crate::typed::calls::{Call, make_call};
 use crate::typed::disks::{TrialDisk, image_after};
 use crate::typed::lines::{Between, Line, read_line};
 use cs_disk::{FailAt, MemoryDisk};
-use cs_store::{Geometry, Limits, PageDisk, Refusal, Store};
+use cs_store::{Geometry, Limits, Mounted, OpenOptions, PageDisk, Refusal, Store};
+use std::alloc::Global;
 use std::io::{BufRead, BufReader};
 use std::{io, mem};
 
@@ -15,7 +16,7 @@ enum Held<D: PageDisk> {
     /// Nothing yet.
     Nothing,
     /// A store.
-    Open(Store<D>),
+    Open(Store<Mounted<D>>),
     /// A disk whose store wasn't opened, with which limits it was to be, and why not.
     Shut {
         disk: D,
@@ -122,8 +123,7 @@ fn make<D: TrialDisk, R: AllocGlobal + Print>(
     match geometry {
         Some(geometry) => {
             let disk = D::of_zeros(rt.alloc(), geometry.device_pages())?;
-            let answer = Store::make(rt.alloc(), disk, geometry, limits);
-            hold(held, what_is_held(answer, limits));
+            hold(held, what_is_made(rt.alloc(), disk, geometry, limits));
             print_made(rt, held)
         }
         None => {
@@ -133,9 +133,15 @@ fn make<D: TrialDisk, R: AllocGlobal + Print>(
     }
 }
 
-/// What is held behind an answer of `make` or `open`.
-fn what_is_held<D: TrialDisk>(answer: Result<Store<D>, (Refusal, D)>, limits: Limits) -> Held<D> {
-    match answer {
+/// What is held after a store is made on a disk.
+fn what_is_made<D: TrialDisk>(
+    alloc: Global,
+    disk: D,
+    geometry: Geometry,
+    limits: Limits,
+) -> Held<D> {
+    let options = OpenOptions::new(alloc).limits(limits);
+    match options.geometry(geometry).create(disk) {
         Ok(store) => Held::Open(store),
         Err((refusal, disk)) => Held::Shut {
             disk,
@@ -164,7 +170,8 @@ fn reopen<D: TrialDisk, R: AllocGlobal + Print>(
         Held::Nothing => println!(rt; "no store"),
         Held::Open(store) => {
             let history = store.limit();
-            reopen_on(rt, held, store.close(), Limits { history }, between, fails)
+            let disk = store.close().into_disk();
+            reopen_on(rt, held, disk, Limits { history }, between, fails)
         }
         Held::Shut { disk, limits, .. } => reopen_on(rt, held, disk, limits, between, fails),
     }
@@ -181,9 +188,20 @@ fn reopen_on<D: TrialDisk, R: AllocGlobal + Print>(
 ) -> io::Result<()> {
     let image = image_after(rt, disk, between)?;
     let disk = D::with_image(rt.alloc(), image, fails)?;
-    let answer = Store::open(rt.alloc(), disk, limits);
-    hold(held, what_is_held(answer, limits));
+    hold(held, what_is_opened(rt.alloc(), disk, limits));
     print_opened(rt, held)
+}
+
+/// What is held after a disk is opened.
+fn what_is_opened<D: TrialDisk>(alloc: Global, disk: D, limits: Limits) -> Held<D> {
+    match OpenOptions::new(alloc).limits(limits).open(disk) {
+        Ok((store, _)) => Held::Open(store),
+        Err((refusal, disk)) => Held::Shut {
+            disk,
+            limits,
+            refusal,
+        },
+    }
 }
 
 /// What came of opening a store.

@@ -3,4 +3,4 @@ use Rattle.cs_check.specs.Progress.{IsUpTo}
 use Rattle.cs_check.proofs.listings.are_numbered.Given as goal
 
 abbrev pub invariant-loop-k : goal.invariant-loop-k
-invariant-loop-k l = IsUpTo (pending_of l.view) l.k l.plain l.latest.items
+invariant-loop-k l = IsUpTo (pending_of l.view) l.k l.last.plain l.last.versions.items

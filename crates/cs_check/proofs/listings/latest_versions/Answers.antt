@@ -1,7 +1,7 @@
 use Rattle.std.proofs.Common.{false, ◌∙◌, ◌+◌, List, length, sym, subst, inr, refl, arith, ℕ}
 use Rattle.std.proofs.lemmas.Option.{slice_get_read, get_or_from_slice_get}
 use Rattle.cs_deps.specs.View.{pending_of}
-use Rattle.cs_check.specs.Progress.{IsUpTo, MayStand, plain_after}
+use Rattle.cs_check.specs.Progress.{IsUpTo, plain_after}
 use Rattle.cs_check.proofs.ListingSteps.{up_to_none, may_stand_from, listed_from, up_to_next, listed_next, all_listed, latest_at_end}
 use Rattle.cs_check.proofs.listings.latest_versions.Goals as goal
 
@@ -21,7 +21,8 @@ returns-then-not-numbered-clause-err c = inr (refl, λ listing. absurd (cc (c.in
 
 pub loop-k-init : goal.loop-k-init
 loop-k-init c = record {
-  up = subst (λ (xs : List ℕ). IsUpTo (pending_of c.args.view.now) 0 0 xs) (sym (c.in_ok-latest.ensures.items ∙ c.deref.ensures.value)) (up_to_none (pending_of c.args.view.now));
+  up = subst (λ (n : ℕ). IsUpTo (pending_of c.args.view.now) 0 n c.in_ok-last.last.versions.items) (sym c.in_ok-last.ensures.0)
+      (subst (λ (xs : List ℕ). IsUpTo (pending_of c.args.view.now) 0 0 xs) (sym c.in_ok-last.ensures.1) (up_to_none (pending_of c.args.view.now)));
   listed = λ j x d lt at. absurd (omega (arith, lt));
 }
 
@@ -33,9 +34,7 @@ returns-then-not-may_stand-clause-err c = inr (
       let x = c.index-entry.result.now.0 in
       let d = c.index-entry.result.now.1 in
       let at = slice_get_read c.args.view.now.waiting.items (length c.args.view.now.waiting.items) c.loop-k.k c.index-entry.result.now refl (omega arith) c.index-entry.ensures in
-      let may = may_stand_from g c.loop-k.k c.loop-k.plain c.loop-k.latest.items x d listing c.loop-k.invariant.up at in
-      let given = subst (λ (xs : List ℕ). MayStand g c.loop-k.k c.loop-k.plain xs x d) (sym c.deref-in-loop-k.ensures.value) may in
-      absurd (cc (c.may_stand.ensures.1 given, c.if-not-may_stand.true)),
+      absurd (cc (c.may_stand.ensures.1 (may_stand_from g c.loop-k.k c.loop-k.last.plain c.loop-k.last.versions.items x d listing c.loop-k.invariant.up at), c.if-not-may_stand.true)),
 )
 
 pub loop-k-preserved : goal.loop-k-preserved
@@ -44,13 +43,10 @@ loop-k-preserved c =
     let x = c.index-entry.result.now.0 in
     let d = c.index-entry.result.now.1 in
     let at = slice_get_read c.args.view.now.waiting.items (length c.args.view.now.waiting.items) c.loop-k.k c.index-entry.result.now refl (omega arith) c.index-entry.ensures in
-    let said = c.may_stand.ensures.0 c.if-not-may_stand.false in
-    let may = subst (λ (xs : List ℕ). MayStand g c.loop-k.k c.loop-k.plain xs x d) c.deref-in-loop-k.ensures.value said in
-    let listed = listed_from g c.loop-k.k c.loop-k.plain c.loop-k.latest.items x d c.loop-k.invariant.up c.loop-k.invariant.listed may in
-    let next = up_to_next g c.loop-k.k c.loop-k.plain c.loop-k.latest.items x d c.loop-k.invariant.up at listed.number in
-    let moved = subst (λ (n : ℕ). IsUpTo g (c.loop-k.k + 1) n c.raise.new.latest.items) (sym c.last_plain-plain.ensures) (subst (λ (xs : List ℕ). IsUpTo g (c.loop-k.k + 1) (plain_after c.loop-k.plain x) xs) (sym c.raise.ensures) next) in
+    let listed = listed_from g c.loop-k.k c.loop-k.last.plain c.loop-k.last.versions.items x d c.loop-k.invariant.up c.loop-k.invariant.listed (c.may_stand.ensures.0 c.if-not-may_stand.false) in
+    let next = up_to_next g c.loop-k.k c.loop-k.last.plain c.loop-k.last.versions.items x d c.loop-k.invariant.up at listed.number in
     record {
-      up = moved;
+      up = subst (λ (n : ℕ). IsUpTo g (c.loop-k.k + 1) n c.pass.new.self.versions.items) (sym c.pass.ensures.plain) (subst (λ (xs : List ℕ). IsUpTo g (c.loop-k.k + 1) (plain_after c.loop-k.last.plain x) xs) (sym c.pass.ensures.versions) next);
       listed = listed_next g c.loop-k.k x d c.loop-k.invariant.listed at listed;
     }
 
@@ -60,7 +56,7 @@ returns c =
     record {
       ok = (
         all_listed g c.loop-k.k (omega arith) c.loop-k.invariant.listed,
-        latest_at_end g c.loop-k.k c.loop-k.plain c.loop-k.latest.items (omega arith) c.loop-k.invariant.up,
+        latest_at_end g c.loop-k.k c.loop-k.last.plain c.loop-k.last.versions.items (omega arith) c.loop-k.invariant.up,
       );
       err = tt;
     }

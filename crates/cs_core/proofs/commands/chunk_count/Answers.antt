@@ -3,7 +3,7 @@ use Rattle.cs_extent.specs.State.{shape}
 use Rattle.law_machine.specs.Geometry.{chunk_bytes_in}
 use Rattle.law_refinement.proofs.Shapes.{store_shape}
 use Rattle.std.specs.Int.{div_ceil}
-use Rattle.cs_core.proofs.Loading.{no_heavier}
+use Rattle.cs_reader.proofs.Loading.{no_heavier}
 use Rattle.cs_core.proofs.PieceCounts.{few_enough, piece_count}
 use Rattle.cs_core.proofs.commands.chunk_count.Goals as goal
 

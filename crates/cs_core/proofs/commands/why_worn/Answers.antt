@@ -7,7 +7,7 @@ use Rattle.law_machine.specs.Append.{chunk_frames, page_counts}
 use Rattle.law_machine.specs.Events.{ArePayloads}
 use Rattle.law_machine.specs.Extents.{FitsBy, ForPut}
 use Rattle.cs_core.specs.Stored.{IsWhyWorn}
-use Rattle.cs_core.proofs.Loading.{failed, passed}
+use Rattle.cs_reader.proofs.Loading.{failed, passed}
 use Rattle.cs_core.proofs.commands.why_worn.Goals as goal
 
 -- the frames of the chunks find places by this rule, or they don't

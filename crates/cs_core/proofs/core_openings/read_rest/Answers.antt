@@ -1,75 +1,80 @@
-use Rattle.std.proofs.Common.{◌∙◌, ◌⊎◌, ◌<◌, ℕ, List, inl, inr, ap, arith, length, map, refl, subst, sym}
-use Rattle.std.proofs.lemmas.List.{length-map}
-use Rattle.cs_chunk.specs.Reads.{IsNoAnswer, IsOfFault}
-use Rattle.cs_refusal.specs.declared.refusals.Refusal.TheVariants.{RootLost}
-use Rattle.cs_disk.proofs.OnlyRead.{reads_on}
-use Rattle.cs_disk.specs.Disk.{Image, page, seen}
-use Rattle.cs_extent.proofs.Sections.{geometry_is}
-use Rattle.cs_extent.specs.Sections.{format_of, pages_of, rows_of}
-use Rattle.cs_frame.specs.Geometries.{IsKnown, device_pages}
-use Rattle.cs_frame.specs.Roots.{SpellsRoot, root_fault}
-use Rattle.cs_frame.specs.declared.superblocks.Superblock.{Superblock}
-use Rattle.law_refinement.specs.ImageReads.{AreSectionsRead}
-use Rattle.cs_core.proofs.Opening.{made_before, root_damaged, root_lost}
+use Rattle.std.proofs.Common.{List, inl, inr, arith, sym, ap, ◌∙◌, subst}
+use Rattle.cs_disk.specs.Disk.{page, seen}
+use Rattle.cs_extent.specs.State.{State as ExtentsState}
+use Rattle.cs_frame.specs.declared.locators.Locator.{Locator}
+use Rattle.cs_frame.specs.Locators.{KeepFormat}
+use Rattle.cs_reader.proofs.Causes.{caused_loaded}
+use Rattle.cs_reader.proofs.HeadReads.{few_runs, none_waits, places_fit, room_for}
+use Rattle.cs_reader.proofs.Loading.{fits_keep}
+use Rattle.cs_reader.proofs.Readying.{extents_again}
+use Rattle.cs_core.proofs.Opening.{caused_still, index_damaged, is_newest, root_lost, run_damaged, store_made}
 use Rattle.cs_core.proofs.core_openings.read_rest.Goals as goal
 
--- the versions of these sections
-abbrev versions : List Superblock → List ℕ
-versions sections = map (λ (it : Superblock). it.version) sections
+pub read_runs-requires-clause-device : goal.read_runs-requires-clause-device
+read_runs-requires-clause-device g c = room_for (g.D.PageDisk.honest c.args.disk.now) (g.D.PageDisk.page_count c.args.disk.now) (page (seen (g.D.PageDisk.state c.args.disk.now))) c.args.head c.requires
 
--- and what they record
-abbrev records : List Superblock → List ℕ
-records sections = map (λ (it : Superblock). it.recorded) sections
+pub read_runs-requires-clause-none : goal.read_runs-requires-clause-none
+read_runs-requires-clause-none g c = none_waits (g.D.PageDisk.honest c.args.disk.now) (g.D.PageDisk.page_count c.args.disk.now) (page (seen (g.D.PageDisk.state c.args.disk.now))) c.args.head c.requires
 
-pub read_root-requires-clause-known : goal.read_root-requires-clause-known
-read_root-requires-clause-known g c = subst (λ (f : ℕ). IsKnown f) (sym c.format_of_sections.ensures) (geometry_is c.args.sections.now c.requires.are).known
+pub load_store-requires-clause-extents : goal.load_store-requires-clause-extents
+load_store-requires-clause-extents g c = extents_again c.args.head.extents c.requires.format c.requires.pages _ c.requires.written c.requires.extents
 
-pub read_index-requires-clause-some_root : goal.read_index-requires-clause-some_root
-read_index-requires-clause-some_root g c = (
-  c.in-Ok.ensures.some.0,
-  subst (λ (f : ℕ). SpellsRoot c.in-Ok.ensures.some.0 f c.in-Ok.root.version c.in-Ok.root.commands c.in-Ok.root.runs.items) c.format_of_sections.ensures c.in-Ok.ensures.some.1,
-)
+pub load_store-requires-clause-graph : goal.load_store-requires-clause-graph
+load_store-requires-clause-graph g c = (c.requires.versions, sym (ap (λ (y : ExtentsState). y.sections) c.requires.extents), c.requires.graph)
 
-pub read_index-requires-clause-root : goal.read_index-requires-clause-root
-read_index-requires-clause-root g c = λ h.
-    let before = c.read_root.ensures.disk.honesty.1 h in
-    subst (λ (f : ℕ). SpellsRoot (page (seen (g.D.PageDisk.state c.read_root.new.disk)) 1) f c.in-Ok.root.version c.in-Ok.root.commands c.in-Ok.root.runs.items) c.format_of_sections.ensures
-    (subst (λ (i : Image). SpellsRoot (page i 1) c.format_of_sections.result c.in-Ok.root.version c.in-Ok.root.commands c.in-Ok.root.runs.items) (sym (ap seen (c.read_root.ensures.disk.same before))) (c.in-Ok.ensures.read before))
+pub load_store-requires-clause-few : goal.load_store-requires-clause-few
+load_store-requires-clause-few g c =
+    let few = few_runs (g.D.PageDisk.honest c.args.disk.now) (g.D.PageDisk.page_count c.args.disk.now) (page (seen (g.D.PageDisk.state c.args.disk.now))) c.args.head c.requires in
+    omega (arith, c.in-Ok.ensures.count, few)
 
-pub read_index-requires-clause-sized : goal.read_index-requires-clause-sized
-read_index-requires-clause-sized g c = c.read_root.ensures.disk.pages ∙ c.requires.sized
+pub load_store-requires-clause-commands : goal.load_store-requires-clause-commands
+load_store-requires-clause-commands g c = c.requires.some_root.1.fits.last_command
 
-pub read_index-requires-clause-sections : goal.read_index-requires-clause-sections
-read_index-requires-clause-sections g c = λ h.
-    let before = c.read_root.ensures.disk.honesty.1 h in
-    let sections : List Superblock = c.args.sections.now in
-    subst (λ (i : Image). AreSectionsRead (page i) (format_of sections) (versions sections) (records sections) (pages_of sections) (rows_of sections)) (sym (ap seen (c.read_root.ensures.disk.same before))) (c.requires.sections before)
+pub load_store-requires-clause-version : goal.load_store-requires-clause-version
+load_store-requires-clause-version g c = c.requires.some_root.1.fits.last_version
 
-pub returns-clause-made : goal.returns-clause-made
-returns-clause-made g c =
-    made_before (g.D.PageDisk.state c.args.disk.now) (g.D.PageDisk.state c.read_root.new.disk) (g.D.PageDisk.honest c.args.disk.now) (g.D.PageDisk.honest c.read_root.new.disk) (λ h. c.read_root.ensures.disk.honesty.0 h) (λ h. ap seen (c.read_root.ensures.disk.same h))
-    (format_of c.args.sections.now) (versions c.args.sections.now) (records c.args.sections.now) (pages_of c.args.sections.now) (rows_of c.args.sections.now) c.read_index.result c.read_index.ensures.made
+pub load_store-requires-clause-marks : goal.load_store-requires-clause-marks
+load_store-requires-clause-marks g c =
+    let head = c.args.head in
+    let fits = places_fit (g.D.PageDisk.honest c.args.disk.now) (g.D.PageDisk.page_count c.args.disk.now) (page (seen (g.D.PageDisk.state c.args.disk.now))) head c.requires in
+    subst (λ (ls : List Locator). KeepFormat head.extents.format ls) (sym (c.in-Ok.ensures.listed ∙ c.deref.ensures.value)) (fits_keep head.extents.format head.root.runs.items fits)
+
+pub load_store-requires-clause-places : goal.load_store-requires-clause-places
+load_store-requires-clause-places g c = c.in-Ok.ensures.places
+
+pub returns-in-Ok-clause-made : goal.returns-in-Ok-clause-made
+returns-in-Ok-clause-made g c =
+    let honest = g.D.PageDisk.honest c.args.disk.now in
+    let count = g.D.PageDisk.page_count c.args.disk.now in
+    let view = page (seen (g.D.PageDisk.state c.args.disk.now)) in
+    store_made honest count view c.args.head c.requires (is_newest honest count view c.args.head c.requires c.if-head.false) c.deref.result.now c.deref.ensures.value c.in-Ok.runs.items c.in-Ok.ensures.read
+    c.load_store.result c.load_store.ensures.made c.load_store.ensures.commands c.load_store.ensures.live c.load_store.ensures.located c.load_store.ensures.named
+
+pub returns-in-Ok-clause-why : goal.returns-in-Ok-clause-why
+returns-in-Ok-clause-why g c = λ h.
+    let honest = g.D.PageDisk.honest c.args.disk.now in
+    let count = g.D.PageDisk.page_count c.args.disk.now in
+    let view = page (seen (g.D.PageDisk.state c.args.disk.now)) in
+    index_damaged honest count view c.args.head c.requires (is_newest honest count view c.args.head c.requires c.if-head.false) c.deref.result.now c.deref.ensures.value c.in-Ok.runs.items c.in-Ok.ensures.read
+    h c.load_store.result c.load_store.ensures.why
 
 pub returns-in-Err-clause-why : goal.returns-in-Err-clause-why
 returns-in-Err-clause-why g c = λ h.
-    let sections : List Superblock = c.args.sections.now in
-    root_damaged (g.D.PageDisk.page_count c.args.disk.now) (page (seen (g.D.PageDisk.state c.args.disk.now))) (format_of sections) (versions sections) (records sections) (pages_of sections) (rows_of sections) (c.requires.sections h)
-    (c.requires.sized ∙ ap (device_pages (format_of sections) (length (rows_of sections)) (pages_of sections)) (sym (length-map sections (λ (it : Superblock). it.version)))) c.in-Err.refusal
-    (subst (λ (f : ℕ). IsNoAnswer c.in-Err.refusal ⊎ IsOfFault (root_fault f (page (seen (g.D.PageDisk.state c.args.disk.now)) 1)) c.in-Err.refusal) c.format_of_sections.ensures (c.in-Err.ensures.fault h))
+    let honest = g.D.PageDisk.honest c.args.disk.now in
+    let count = g.D.PageDisk.page_count c.args.disk.now in
+    let view = page (seen (g.D.PageDisk.state c.args.disk.now)) in
+    run_damaged honest count view c.args.head c.requires (is_newest honest count view c.args.head c.requires c.if-head.false) c.deref.result.now c.deref.ensures.value
+    h c.in-Err.refusal (c.in-Err.ensures.why h)
 
-pub returns-clause-disk : goal.returns-clause-disk
-returns-clause-disk g c = reads_on g.D.PageDisk c.args.disk.now c.read_root.new.disk c.read_index.new.disk c.read_root.ensures.disk c.read_index.ensures.disk
+pub returns-in-Ok-clause-cause : goal.returns-in-Ok-clause-cause
+returns-in-Ok-clause-cause g c = caused_loaded _ _ _ c.read_runs.result c.load_store.result c.read_runs.ensures.cause c.load_store.ensures.why
 
-pub returns-then-is_root_lost-clause-why : goal.returns-then-is_root_lost-clause-why
-returns-then-is_root_lost-clause-why g c = λ h.
-    let sections : List Superblock = c.args.sections.now in
-    let root = c.in-Ok.root in
-    let later = c.if-is_root_lost.ensures in
-    root_lost (g.D.PageDisk.page_count c.args.disk.now) (page (seen (g.D.PageDisk.state c.args.disk.now))) (format_of sections) (versions sections) (records sections) (pages_of sections) (rows_of sections) (c.requires.sections h)
-    (c.requires.sized ∙ ap (device_pages (format_of sections) (length (rows_of sections)) (pages_of sections)) (sym (length-map sections (λ (it : Superblock). it.version)))) RootLost
-    root.version root.commands root.runs.items
-    (subst (λ (f : ℕ). SpellsRoot (page (seen (g.D.PageDisk.state c.args.disk.now)) 1) f root.version root.commands root.runs.items) c.format_of_sections.ensures (c.in-Ok.ensures.read h)) refl
-    later.0 (subst (λ (n : ℕ). later.0 < n) (sym (length-map sections (λ (it : Superblock). it.version))) later.1) later.2
+pub returns-in-Err-clause-cause : goal.returns-in-Err-clause-cause
+returns-in-Err-clause-cause g c = caused_still _ _ c.read_runs.result c.in-Err.refusal c.in-Err.is c.read_runs.ensures.cause
 
-pub returns-then-is_root_lost-clause-number : goal.returns-then-is_root_lost-clause-number
-returns-then-is_root_lost-clause-number g c = inr (inl (omega arith, omega arith))
+pub returns-then-head-clause-why : goal.returns-then-head-clause-why
+returns-then-head-clause-why g c = λ h.
+    root_lost (g.D.PageDisk.honest c.args.disk.now) (g.D.PageDisk.page_count c.args.disk.now) (page (seen (g.D.PageDisk.state c.args.disk.now))) c.args.head c.requires h c.if-head.true
+
+pub returns-then-head-clause-number : goal.returns-then-head-clause-number
+returns-then-head-clause-number g c = inr (inl (omega arith, omega arith))

@@ -1,6 +1,4 @@
-use Rattle.std.proofs.Common.{◌∙◌, ap, ℕ, sym}
-use Rattle.cs_frame.specs.Frames.{page_count}
-use Rattle.cs_frame.specs.Geometries.{weight_bytes}
+use Rattle.std.proofs.Common.{ap, refl, sym}
 use Rattle.cs_index.specs.State.{State as Index, index_of}
 use Rattle.law_machine.specs.Geometry.{most_weight_in}
 use Rattle.law_machine.specs.Index.{names}
@@ -13,7 +11,7 @@ returns-in-FewestLive-clause-chosen g c = λ honest view chunks are live. record
   uses = c.in_ok-uses.uses.items;
   extents = c.in_ok-uses.ensures.extents;
   read = c.in_ok-uses.ensures.read honest view chunks are live;
-  chooses = by_fewest c.extents-extents.result.now c.args.core.now.store.extents c.in_ok-uses.uses.items c.deref.result.now c.geometry-geometry.ensures.whole c.extents-extents.ensures c.in_ok-uses.ensures.extents c.deref.ensures.value
+  chooses = by_fewest c.extents-extents.result.now c.args.core.now.store.extents c.in_ok-uses.uses.items c.deref.result.now c.index_pages-index_pages.ensures.whole c.extents-extents.ensures c.in_ok-uses.ensures.extents c.deref.ensures.value
       (chosen_extent c.choose_fewest_live.result) c.last_copied-last.result c.extent_pages-pages.result (run_pages (names (index_of c.args.core.now.store.index))) c.in-FewestLive.ensures c.last_copied-last.ensures c.extent_pages-pages.ensures
       c.choose_fewest_live.ensures;
 }
@@ -23,12 +21,8 @@ returns-clause-chosen g c = λ honest view chunks are live. record {
   uses = c.in_ok-uses.uses.items;
   extents = c.in_ok-uses.ensures.extents;
   read = c.in_ok-uses.ensures.read honest view chunks are live;
-  chooses = by_garbage c.extents-extents.result.now c.args.core.now.store.extents c.in_ok-uses.uses.items c.deref-in-MostGarbage.result.now c.geometry-geometry.ensures.whole c.extents-extents.ensures c.in_ok-uses.ensures.extents
-      c.deref-in-MostGarbage.ensures.value (chosen_extent c.choose_most_garbage.result) c.named_count.result c.most_weight.result c.frame_pages-index_pages.result (names (index_of c.args.core.now.store.index))
-      (c.most_weight.ensures ∙ ap (λ (f : ℕ). most_weight_in f c.geometry-geometry.result.pages) c.geometry-geometry.ensures.format ∙ ap (most_weight_in c.extents-extents.result.now.format) c.geometry-geometry.ensures.pages)
-      (c.frame_pages-index_pages.ensures ∙ ap page_count c.weight_bytes.ensures
-      ∙ ap (λ (f : ℕ). page_count (weight_bytes f c.min-named.result)) (c.format.ensures.format ∙ c.geometry-geometry.ensures.format)
-      ∙ ap (λ (n : ℕ). page_count (weight_bytes c.extents-extents.result.now.format n)) c.min-named.ensures)
-      (c.named_count.ensures.count ∙ ap (λ (i : Index). names (index_of i)) (sym c.index.ensures.index))
+  chooses = by_garbage c.extents-extents.result.now c.args.core.now.store.extents c.in_ok-uses.uses.items c.deref-in-MostGarbage.result.now c.index_pages-index_pages.ensures.whole c.extents-extents.ensures c.in_ok-uses.ensures.extents
+      c.deref-in-MostGarbage.ensures.value (chosen_extent c.choose_most_garbage.result) (names (index_of c.index.result.now)) (most_weight_in c.extents-extents.result.now.format c.extents-extents.result.now.pages) c.index_pages-index_pages.result (names (index_of c.args.core.now.store.index))
+      refl c.index_pages-index_pages.ensures.pages (ap (λ (i : Index). names (index_of i)) (sym c.index.ensures.index))
       _ _ c.in-MostGarbage.ensures c.choose_most_garbage.ensures;
 }

@@ -1,6 +1,6 @@
 use Rattle.std.proofs.Common.{inl, refl}
 use Rattle.cs_disk.specs.Disk.{page, seen}
-use Rattle.cs_core.proofs.Loading.{fresh_view}
+use Rattle.cs_reader.proofs.Loading.{fresh_view}
 use Rattle.cs_salvage.proofs.Getting.{all_inside, why_located}
 use Rattle.cs_salvage.proofs.founds.read_places.Goals as goal
 

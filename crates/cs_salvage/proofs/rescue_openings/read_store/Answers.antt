@@ -1,40 +1,33 @@
-use Rattle.std.proofs.Common.{◌∙◌, ap, subst, sym}
+use Rattle.std.proofs.Common.{ap, sym}
 use Rattle.cs_disk.proofs.OnlyRead.{reads_on}
-use Rattle.cs_disk.specs.Disk.{Image, page, seen}
-use Rattle.cs_frame.specs.FirstFormat.{SpellsPageZero}
-use Rattle.cs_salvage.proofs.Opening.{failed_before, first_damaged, other_device, rescued_before, why_before}
+use Rattle.cs_disk.specs.Disk.{page, seen}
+use Rattle.cs_reader.proofs.HeadReads.{still_head}
+use Rattle.cs_salvage.proofs.Opening.{failed_before, not_rescued, rescued_before, why_before}
 use Rattle.cs_salvage.proofs.rescue_openings.read_store.Goals as goal
 
+pub read_index-requires : goal.read_index-requires
+read_index-requires g c =
+    let read = c.read_head.ensures.disk in
+    still_head (g.D.PageDisk.state c.read_head.new.disk) (g.D.PageDisk.state c.args.disk.now) (g.D.PageDisk.honest c.read_head.new.disk) (g.D.PageDisk.honest c.args.disk.now) (λ h. read.honesty.1 h) (λ h. sym (ap seen (read.same (read.honesty.1 h))))
+    (g.D.PageDisk.page_count c.read_head.new.disk) (g.D.PageDisk.page_count c.args.disk.now) (sym read.pages) c.in-Ok.head c.in-Ok.ensures.head
+
+pub returns-in-Ok-clause-found : goal.returns-in-Ok-clause-found
+returns-in-Ok-clause-found g c =
+    let read = c.read_head.ensures.disk in
+    rescued_before (g.D.PageDisk.state c.args.disk.now) (g.D.PageDisk.state c.read_head.new.disk) (g.D.PageDisk.honest c.args.disk.now) (g.D.PageDisk.honest c.read_head.new.disk) (λ h. read.honesty.0 h) (λ h. ap seen (read.same h))
+    (g.D.PageDisk.page_count c.args.disk.now) (g.D.PageDisk.page_count c.read_head.new.disk) read.pages c.read_index.result c.read_index.ensures.found
+
+pub returns-in-Ok-clause-why : goal.returns-in-Ok-clause-why
+returns-in-Ok-clause-why g c =
+    let read = c.read_head.ensures.disk in
+    why_before (g.D.PageDisk.state c.args.disk.now) (g.D.PageDisk.state c.read_head.new.disk) (g.D.PageDisk.honest c.args.disk.now) (g.D.PageDisk.honest c.read_head.new.disk) (λ h. read.honesty.0 h) (λ h. ap seen (read.same h))
+    (g.D.PageDisk.page_count c.args.disk.now) (g.D.PageDisk.page_count c.read_head.new.disk) read.pages c.read_index.result c.read_index.ensures.why
+
 pub returns-in-Err-clause-why : goal.returns-in-Err-clause-why
-returns-in-Err-clause-why g c = λ h. first_damaged (g.D.PageDisk.page_count c.args.disk.now) (page (seen (g.D.PageDisk.state c.args.disk.now))) c.in-Err.refusal c.requires (c.in-Err.ensures.why h)
+returns-in-Err-clause-why g c = λ h. not_rescued (g.D.PageDisk.page_count c.args.disk.now) (page (seen (g.D.PageDisk.state c.args.disk.now))) c.in-Err.refusal (c.in-Err.ensures.why h)
 
-pub returns-then-pages-pages_of_device-clause-why : goal.returns-then-pages-pages_of_device-clause-why
-returns-then-pages-pages_of_device-clause-why g c = λ h.
-    let it = c.in-Ok.superblock in
-    other_device (g.D.PageDisk.page_count c.args.disk.now) (page (seen (g.D.PageDisk.state c.args.disk.now))) it.format it.version it.recorded it.extent_count it.pages it.sections it.section it.extents.items c.requires c.in-Ok.ensures.first (c.in-Ok.ensures.read h)
-    (λ same. c.if-pages-pages_of_device.true (c.pages.ensures ∙ c.read_first.ensures.disk.pages ∙ same ∙ sym c.pages_of_device.ensures))
+pub returns-in-Ok-clause-disk : goal.returns-in-Ok-clause-disk
+returns-in-Ok-clause-disk g c = reads_on g.D.PageDisk c.args.disk.now c.read_head.new.disk c.read_index.new.disk c.read_head.ensures.disk c.read_index.ensures.disk
 
-pub read_behind-requires-clause-sized : goal.read_behind-requires-clause-sized
-read_behind-requires-clause-sized g c = sym c.pages.ensures ∙ c.if-pages-pages_of_device.false ∙ c.pages_of_device.ensures
-
-pub read_behind-requires-clause-read : goal.read_behind-requires-clause-read
-read_behind-requires-clause-read g c = λ h.
-    let before = c.read_first.ensures.disk.honesty.1 h in
-    let it = c.in-Ok.superblock in
-    subst (λ (i : Image). SpellsPageZero (page i 0) it.format it.version it.recorded it.extent_count it.pages it.sections it.section it.extents.items) (sym (ap seen (c.read_first.ensures.disk.same before))) (c.in-Ok.ensures.read before)
-
-pub returns-clause-found : goal.returns-clause-found
-returns-clause-found g c =
-    rescued_before (g.D.PageDisk.state c.args.disk.now) (g.D.PageDisk.state c.read_first.new.disk) (g.D.PageDisk.honest c.args.disk.now) (g.D.PageDisk.honest c.read_first.new.disk) (λ h. c.read_first.ensures.disk.honesty.0 h) (λ h. ap seen (c.read_first.ensures.disk.same h))
-    (g.D.PageDisk.page_count c.args.disk.now) (g.D.PageDisk.page_count c.read_first.new.disk) c.read_first.ensures.disk.pages c.read_behind.result c.read_behind.ensures.found
-
-pub returns-clause-why : goal.returns-clause-why
-returns-clause-why g c =
-    why_before (g.D.PageDisk.state c.args.disk.now) (g.D.PageDisk.state c.read_first.new.disk) (g.D.PageDisk.honest c.args.disk.now) (g.D.PageDisk.honest c.read_first.new.disk) (λ h. c.read_first.ensures.disk.honesty.0 h) (λ h. ap seen (c.read_first.ensures.disk.same h))
-    (g.D.PageDisk.page_count c.args.disk.now) (g.D.PageDisk.page_count c.read_first.new.disk) c.read_first.ensures.disk.pages c.read_behind.result c.read_behind.ensures.why
-
-pub returns-clause-disk : goal.returns-clause-disk
-returns-clause-disk g c = reads_on g.D.PageDisk c.args.disk.now c.read_first.new.disk c.read_behind.new.disk c.read_first.ensures.disk c.read_behind.ensures.disk
-
-pub returns-clause-failed : goal.returns-clause-failed
-returns-clause-failed g c = failed_before (g.D.PageDisk.failure_count c.args.disk.now) (g.D.PageDisk.failure_count c.read_first.new.disk) (g.D.PageDisk.failure_count c.read_behind.new.disk) c.read_first.ensures.disk.failures c.read_behind.result c.read_behind.ensures.failed
+pub returns-in-Ok-clause-failed : goal.returns-in-Ok-clause-failed
+returns-in-Ok-clause-failed g c = failed_before (g.D.PageDisk.failure_count c.args.disk.now) (g.D.PageDisk.failure_count c.read_head.new.disk) (g.D.PageDisk.failure_count c.read_index.new.disk) c.read_head.ensures.disk.failures c.read_index.result c.read_index.ensures.failed

@@ -29,7 +29,7 @@ loop-k-preserved g c =
     let at : slice_get places (length places - 1 - c.loop-k.k) ≡ Some run.place =
     subst (λ (l : Locator). slice_get places (length places - 1 - c.loop-k.k) ≡ Some l) (sym c.in-Ok.ensures.place) c.place_from_end-place.ensures in
     record {
-      disk = reads_on g.D.PageDisk c.args.disk.now c.loop-k.disk c.read_run.new.disk c.loop-k.invariant.disk c.read_run.ensures.disk;
+      disk = reads_on g.D.PageDisk c.args.disk.now c.loop-k.disk c.read_located.new.disk c.loop-k.invariant.disk c.read_located.ensures.disk;
       listed = subst (λ (rs : List StoredRun). map (λ run. run.place) rs ≡ drop (length places - (c.loop-k.k + 1)) places) (sym items)
           (listed_more places c.loop-k.k (length places - 1 - c.loop-k.k) run c.loop-k.runs.items c.loop-k-test.true refl at c.loop-k.invariant.listed);
       runs = subst (λ (rs : List StoredRun). AllByRecursion (λ run. IsRun (shape c.args.extents.now).format (record { entries = run.entries })) rs) (sym items) (c.in-Ok.ensures.run, c.loop-k.invariant.runs);
@@ -40,10 +40,10 @@ loop-k-preserved g c =
     }
 
 pub returns-in_err-put_first-in-Ok-clause-disk : goal.returns-in_err-put_first-in-Ok-clause-disk
-returns-in_err-put_first-in-Ok-clause-disk g c = reads_on g.D.PageDisk c.args.disk.now c.loop-k.disk c.read_run.new.disk c.loop-k.invariant.disk c.read_run.ensures.disk
+returns-in_err-put_first-in-Ok-clause-disk g c = reads_on g.D.PageDisk c.args.disk.now c.loop-k.disk c.read_located.new.disk c.loop-k.invariant.disk c.read_located.ensures.disk
 
 pub returns-in-Err-clause-disk : goal.returns-in-Err-clause-disk
-returns-in-Err-clause-disk g c = reads_on g.D.PageDisk c.args.disk.now c.loop-k.disk c.read_run.new.disk c.loop-k.invariant.disk c.read_run.ensures.disk
+returns-in-Err-clause-disk g c = reads_on g.D.PageDisk c.args.disk.now c.loop-k.disk c.read_located.new.disk c.loop-k.invariant.disk c.read_located.ensures.disk
 
 pub returns-in-Err-clause-newest : goal.returns-in-Err-clause-newest
 returns-in-Err-clause-newest g c =
@@ -57,7 +57,7 @@ pub returns-in-Err-clause-runs : goal.returns-in-Err-clause-runs
 returns-in-Err-clause-runs g c = told_runs (λ run. IsRun (shape c.args.extents.now).format (record { entries = run.entries })) c.loop-k.runs c.stopped_at.result c.stopped_at.ensures.runs c.loop-k.invariant.runs
 
 pub returns-in-Err-clause-cause : goal.returns-in-Err-clause-cause
-returns-in-Err-clause-cause g c = told_caused (g.D.PageDisk.failure_count c.args.disk.now) (g.D.PageDisk.failure_count c.loop-k.disk) (g.D.PageDisk.failure_count c.read_run.new.disk) c.loop-k.invariant.disk.failures c.read_run.result c.read_run.ensures.cause
+returns-in-Err-clause-cause g c = told_caused (g.D.PageDisk.failure_count c.args.disk.now) (g.D.PageDisk.failure_count c.loop-k.disk) (g.D.PageDisk.failure_count c.read_located.new.disk) c.loop-k.invariant.disk.failures c.read_located.result c.read_located.ensures.cause
     c.place_from_end-place.result c.in-Err.refusal c.in-Err.is c.stopped_at.result c.stopped_at.ensures.damaged
 
 pub returns-clause-newest : goal.returns-clause-newest

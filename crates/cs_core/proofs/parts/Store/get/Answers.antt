@@ -4,7 +4,8 @@ use Rattle.cs_index.specs.State.{id_number}
 use Rattle.law_machine.specs.Index.{live}
 use Rattle.cs_core.specs.contracts.parts.Store.{the_view}
 use Rattle.cs_core.specs.Stored.{Stored}
-use Rattle.cs_core.proofs.Gets.{found_live, get_absent, get_found_answers, get_refused_answers, meant_found, none_left, some_left}
+use Rattle.cs_reader.proofs.Lists.{none_left, some_left}
+use Rattle.cs_core.proofs.Gets.{found_live, get_absent, get_found_answers, get_refused_answers, meant_found}
 use Rattle.cs_core.proofs.Kept.{found_there}
 use Rattle.cs_core.proofs.parts.Store.get.Goals as goal
 use Rattle.law_refinement.specs.ImageReads.{page_total}

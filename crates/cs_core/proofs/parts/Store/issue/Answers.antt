@@ -5,7 +5,8 @@ use Rattle.cs_core.specs.contracts.parts.Store.{the_view}
 use Rattle.cs_core.specs.Stored.{Stored, members_of}
 use Rattle.cs_core.proofs.Asking.{fault_written}
 use Rattle.cs_core.proofs.Kept.{kept_round}
-use Rattle.cs_core.proofs.Members.{drop_some, next_kept, write_parts}
+use Rattle.cs_reader.proofs.Lists.{drop_some}
+use Rattle.cs_core.proofs.Members.{next_kept, write_parts}
 use Rattle.cs_core.proofs.RoundSteps.{issue_answers, issue_declines, issue_faults, issue_no_memory}
 use Rattle.cs_core.proofs.parts.Store.issue.Goals as goal
 

@@ -4,7 +4,8 @@ use Rattle.cs_index.specs.State.{id_number, index_of}
 use Rattle.law_machine.specs.Index.{live, live_at}
 use Rattle.cs_core.specs.contracts.parts.Store.{the_view}
 use Rattle.cs_core.specs.Stored.{Stored}
-use Rattle.cs_core.proofs.Gets.{found_live, none_left, some_left}
+use Rattle.cs_reader.proofs.Lists.{none_left, some_left}
+use Rattle.cs_core.proofs.Gets.{found_live}
 use Rattle.cs_core.proofs.Sizes.{none_said, refusal_said, size_absent, size_found, size_refused, some_said}
 use Rattle.cs_core.proofs.Kept.{found_there}
 use Rattle.cs_core.proofs.parts.Store.size_of.Goals as goal

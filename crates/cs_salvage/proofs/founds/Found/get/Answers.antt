@@ -1,7 +1,7 @@
 use Rattle.std.proofs.Common.{◌≡◌, ◌≢◌, IfErr, None, OnOk, Some, ap, inr, refl, subst, sym}
 use Rattle.cs_disk.specs.Disk.{page, seen}
 use Rattle.cs_index.specs.State.{id_number}
-use Rattle.cs_core.proofs.Gets.{none_left, some_left}
+use Rattle.cs_reader.proofs.Lists.{none_left, some_left}
 use Rattle.cs_salvage.specs.contracts.founds.Found.{the_view}
 use Rattle.cs_salvage.specs.declared.rescue_refusals.RescueRefusal.TheVariants.{RunLost}
 use Rattle.cs_salvage.specs.Founds.{Found}

@@ -1,0 +1,63 @@
+use Rattle.std.proofs.Common.{ap, inr, subst, sym, ⊎_elim, ◌∙◌, ◌≡◌, ◌⊎◌}
+use Rattle.cs_core.specs.cs_chunk.Reads.{IsNoAnswer}
+use Rattle.cs_reader.specs.Openings.{IsWhyNotOpened}
+use Rattle.cs_disk.specs.Disk.{Image, flushed, page, seen}
+use Rattle.cs_frame.specs.Formats.{formats_of}
+use Rattle.cs_frame.specs.Geometries.{section_size}
+use Rattle.law_machine.specs.Geometry.{shape_of}
+use Rattle.law_machine.specs.Recovery.{Recovers}
+use Rattle.cs_twin.specs.Paired.{left_as_shown, moment_of, state_shown}
+use Rattle.cs_mount.specs.Showing.{shown_on}
+use Rattle.cs_mount.specs.StorePairs.{dimensions_on, pairs_where, store_version}
+use Rattle.cs_mount.proofs.Mounting.{shows_later}
+use Rattle.cs_mount.proofs.Opened.{opened_by}
+use Rattle.cs_mount.proofs.mount_options.MountOptions.open.Goals as goal
+
+pub returns-in-Ok-open-clause-image : goal.returns-in-Ok-open-clause-image
+returns-in-Ok-open-clause-image g c = λ h.
+    let image = c.in-Ok-open.ensures.image (c.in-Ok.ensures.honest.0 h) in
+    let shows = c.in-Ok.ensures.shown h in
+    (image.0 ∙ ap seen shows, image.1 ∙ ap flushed shows)
+
+pub returns-in-Ok-open-clause-store : goal.returns-in-Ok-open-clause-store
+returns-in-Ok-open-clause-store g c =
+    opened_by (g.D.PageDisk.honest c.in-Ok.paired.disk) (g.D.PageDisk.honest c.args.disk) c.in-Ok-open.core.opened c.in-Ok-open.core.found c.in-Ok-open.core.store c.in-Ok.ensures.honest.0 c.in-Ok-open.ensures.store
+
+pub returns-in-Ok-open-clause-recovers : goal.returns-in-Ok-open-clause-recovers
+returns-in-Ok-open-clause-recovers g c = λ h format extents pages sections geometry sized n m recovers.
+    let S = shape_of extents pages sections (section_size extents sections) format in
+    c.in-Ok-open.ensures.recovers (c.in-Ok.ensures.honest.0 h) format extents pages sections geometry (c.in-Ok.ensures.pages ∙ sized) n m
+    (subst (λ (image : Image). Recovers S (formats_of S) (page image) n m) (sym (ap seen (c.in-Ok.ensures.shown h))) recovers)
+
+pub returns-in-Ok-open-clause-crash : goal.returns-in-Ok-open-clause-crash
+returns-in-Ok-open-clause-crash g c = λ h left past.
+    let D = g.D.PageDisk in
+    let disk = c.args.disk in
+    let found = dimensions_on (D.page_count disk) (seen (D.state disk)) in
+    shows_later moment_of left_as_shown (store_version found) (pairs_where found) (D.state disk) c.in-Ok.paired c.in-Ok-open.core.disk (D.moment disk) (state_shown c.in-Ok.paired) left
+    (c.in-Ok.ensures.shown h) (c.in-Ok.ensures.crash h).later (c.in-Ok.ensures.left h) (c.in-Ok-open.ensures.crash (c.in-Ok.ensures.honest.0 h)) past
+
+pub returns-in-Err-open-clause-recovers : goal.returns-in-Err-open-clause-recovers
+returns-in-Err-open-clause-recovers g c = λ h format extents pages sections geometry sized n m recovers.
+    let S = shape_of extents pages sections (section_size extents sections) format in
+    c.in-Err-open.ensures.recovers (c.in-Ok.ensures.honest.0 h) format extents pages sections geometry (c.in-Ok.ensures.pages ∙ sized) n m
+    (subst (λ (image : Image). Recovers S (formats_of S) (page image) n m) (sym (ap seen (c.in-Ok.ensures.shown h))) recovers)
+
+pub returns-in-Err-open-clause-refusals : goal.returns-in-Err-open-clause-refusals
+returns-in-Err-open-clause-refusals g c = λ h.
+    let D = g.D.PageDisk in
+    let disk = c.args.disk in
+    let r = c.in-Err-open.refusal in
+    subst (λ n. IsNoAnswer r ⊎ IsWhyNotOpened n (page (shown_on (D.page_count disk) (seen (D.state disk)))) r) c.in-Ok.ensures.pages
+    (subst (λ (image : Image). IsNoAnswer r ⊎ IsWhyNotOpened (D.page_count c.in-Ok.paired.disk) (page image) r) (ap seen (c.in-Ok.ensures.shown h)) (c.in-Err-open.ensures.refusals (c.in-Ok.ensures.honest.0 h)))
+
+pub returns-in-Ok-open-clause-unwritten : goal.returns-in-Ok-open-clause-unwritten
+returns-in-Ok-open-clause-unwritten g c = λ h. c.in-Ok-open.ensures.unwritten (c.in-Ok.ensures.honest.0 h) ∙ ap flushed (c.in-Ok.ensures.state h)
+
+pub returns-in-Err-open-clause-unwritten : goal.returns-in-Err-open-clause-unwritten
+returns-in-Err-open-clause-unwritten g c = λ h.
+    let D = g.D.PageDisk in
+    let disk = c.args.disk in
+    let once = c.in-Ok.ensures.state h in
+    subst (λ (below : _). (D.state below ≡ D.state disk) ⊎ (D.state below ≡ flushed (D.state disk))) (sym c.into_disk.ensures)
+    (inr (⊎_elim (λ same. same ∙ once) (λ again. again ∙ ap flushed once) (c.in-Err-open.ensures.unwritten (c.in-Ok.ensures.honest.0 h))))

@@ -1,0 +1,11 @@
+pub mod Causes
+pub mod Exactly
+pub mod HeadReads
+pub mod Lists
+pub mod Living
+pub mod Loading
+pub mod Ranges
+pub mod Readying
+pub mod Recorded
+pub mod SectionReads
+pub mod Versions
