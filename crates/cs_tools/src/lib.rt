@@ -22,6 +22,7 @@ mod rescues;
 mod salvages;
 mod scans;
 mod scrub_command;
+mod stat_objects;
 mod stats;
 mod tellings;
 mod timings;

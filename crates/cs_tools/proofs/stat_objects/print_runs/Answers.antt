@@ -1,5 +1,5 @@
 use Rattle.cs_tools.proofs.Continued.{goes_then}
-use Rattle.cs_tools.proofs.stats.print_runs.Goals as goal
+use Rattle.cs_tools.proofs.stat_objects.print_runs.Goals as goal
 
 pub loop-number-preserved : goal.loop-number-preserved
 loop-number-preserved g c =

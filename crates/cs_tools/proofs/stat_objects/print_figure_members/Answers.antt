@@ -1,6 +1,6 @@
 use Rattle.cs_tools.proofs.Appended.{whatever}
 use Rattle.cs_tools.proofs.Continued.{goes_kept, goes_then}
-use Rattle.cs_tools.proofs.stats.print_figure_members.Goals as goal
+use Rattle.cs_tools.proofs.stat_objects.print_figure_members.Goals as goal
 
 pub returns : goal.returns
 returns g c =

@@ -1,5 +1,5 @@
 use Rattle.cs_tools.proofs.Continued.{goes_then}
-use Rattle.cs_tools.proofs.stats.print_use.Goals as goal
+use Rattle.cs_tools.proofs.stat_objects.print_use.Goals as goal
 
 pub returns : goal.returns
 returns g c =

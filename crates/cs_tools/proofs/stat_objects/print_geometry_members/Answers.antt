@@ -5,7 +5,7 @@ use Rattle.cs_tools.specs.Stats.{geometry_text, member, number_text}
 use Rattle.cs_tools.specs.declared.outputs.Style.TheVariants.{Json}
 use Rattle.cs_tools.proofs.Appended.{appends_same}
 use Rattle.cs_tools.proofs.Continued.{five_then, same_geometry}
-use Rattle.cs_tools.proofs.stats.print_geometry_members.Goals as goal
+use Rattle.cs_tools.proofs.stat_objects.print_geometry_members.Goals as goal
 
 pub returns : goal.returns
 returns g c =

@@ -1,6 +1,6 @@
 use Rattle.std.proofs.lemmas.Result.{on_ok_weaker}
 use Rattle.cs_tools.proofs.Continued.{goes_then}
-use Rattle.cs_tools.proofs.stats.print_count_members.Goals as goal
+use Rattle.cs_tools.proofs.stat_objects.print_count_members.Goals as goal
 
 pub returns : goal.returns
 returns g c =

@@ -1,5 +1,5 @@
 use Rattle.cs_tools.specs.Stats.{GoesOn}
-use Rattle.cs_tools.proofs.stats.print_uses.Given as goal
+use Rattle.cs_tools.proofs.stat_objects.print_runs.Given as goal
 
 abbrev pub invariant-loop-number : goal.invariant-loop-number
 invariant-loop-number g l = GoesOn (g.W.Write.contents l.initial.writer) (g.W.Write.contents l.writer)
