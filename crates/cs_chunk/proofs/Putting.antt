@@ -181,3 +181,17 @@ pub so_far_done : (apart : Bool) (x : State) (g : Graph) (done fs new : List (Li
     → IsPutSoFar apart x g new left (ls ++ l ∷ []) z i
 so_far_done apart x g done fs new f left ls y h l z i is more was a whole resets families room =
     subst (λ us. IsPutSoFar apart x g us left (ls ++ l ∷ []) z i) (sym more) (so_far_more apart x g done f left ls y h l z i (so_far_at apart x g done fs f left ls y h is was) a whole resets families room)
+
+-- the same by the extents' own rules, which stay
+pub may_next : (x : State) (g : Graph) (done fs : List (List (List ℕ))) (f : List (List ℕ)) (left : List (List (List ℕ))) (ls : List Locator) (y : State) (h : Graph) → fs ≡ f ∷ left
+    → IsPutSoFar (shape x).apart x g done fs ls y h → MayPut (shape y).apart y h (f ∷ left)
+may_next x g done fs f left ls y h is was =
+    let now = so_far_at (shape x).apart x g done fs f left ls y h is was in
+    subst (λ (b : Bool). MayPut b y h (f ∷ left)) (sym (ap (λ (S : Shape). S.apart) now.same_shape)) now.may
+
+pub so_far_next : (x : State) (g : Graph) (done fs new : List (List (List ℕ))) (f : List (List ℕ)) (left : List (List (List ℕ))) (ls : List Locator) (y : State) (h : Graph) (l : Locator) (z : State) (i : Graph)
+    → fs ≡ f ∷ left → new ≡ done ++ f ∷ [] → IsPutSoFar (shape x).apart x g done fs ls y h → IsAppendedBy (shape y).apart y h ForPut f l z i → IsWhole i → AreResetsStaged (extents_of z) i.staging
+    → length i.staging.latest ≡ length h.staging.latest → h.room ≤ i.room + (length f + 1) → IsPutSoFar (shape x).apart x g new left (ls ++ l ∷ []) z i
+so_far_next x g done fs new f left ls y h l z i is more was a whole resets families room =
+    so_far_done (shape x).apart x g done fs new f left ls y h l z i is more was
+    (subst (λ (b : Bool). IsAppendedBy b y h ForPut f l z i) (ap (λ (S : Shape). S.apart) was.same_shape) a) whole resets families room

@@ -1,15 +1,34 @@
 -- What a put does, one frame after another.
 use Rattle.std.specs.Prelude.{◌≡◌, ◌+◌, ◌<◌, ◌≤◌, ℕ, Bool, true, List, [], ◌∷◌, length, slice_index_or, sum}
 use Rattle.std.specs.List.{AllByRecursion}
+use Rattle.cs_deps.specs.Staging.{Staging}
 use Rattle.cs_deps.specs.State.{IsNewestOn, State as Graph}
 use Rattle.cs_extent.specs.Appended.{AreAppendedBy}
 use Rattle.cs_extent.specs.Frames.{AreResetsStaged}
 use Rattle.cs_extent.specs.State.{State, extents_of, shape}
 use Rattle.cs_extent.specs.Worn.{AreWornBy}
 use Rattle.cs_frame.specs.declared.locators.Locator.{Locator}
-use Rattle.law_machine.specs.Append.{page_counts}
+use Rattle.cs_frame.specs.Formats.{formats_of}
+use Rattle.law_machine.specs.Append.{chunk_frames, page_counts}
 use Rattle.law_machine.specs.Device.{Shape, is_meant}
+use Rattle.law_machine.specs.Events.{ArePayloads}
 use Rattle.law_machine.specs.Extents.{Extents, FitsBy, ForPut}
+
+-- these are the payloads of the chunks of a put to this store, which is this command
+abbrev pub ArePayloadsIn : State → (id command : ℕ) → (bytes : List ℕ) → (cs : List (List ℕ)) → Type 0
+ArePayloadsIn x id command bytes cs = ArePayloads (shape x) (formats_of (shape x)) id command bytes cs
+
+-- the frames of chunks of these payloads
+abbrev pub frames_in : State → (cs : List (List ℕ)) → List (List (List ℕ))
+frames_in x cs = chunk_frames (shape x) (formats_of (shape x)) cs
+
+-- they find their places, one after another
+abbrev pub ChunksFit : State → (cs : List (List ℕ)) → Type 0
+ChunksFit x cs = FitsBy (shape x) (shape x).apart (extents_of x) ForPut (page_counts (frames_in x cs))
+
+-- they would take a number past the greatest
+abbrev pub AreChunksWorn : State → Staging → (cs : List (List ℕ)) → Type 0
+AreChunksWorn x s cs = AreWornBy (shape x).apart x s ForPut (page_counts (frames_in x cs))
 
 -- these frames may be appended, one after another, where chunks and runs lie apart or not, and nothing refuses one of them
 pub record MayPut (apart : Bool) (x : State) (g : Graph) (frames : List (List (List ℕ))) : Type 0 where

@@ -1,7 +1,7 @@
 //! What the bytes of a put are cut in.
 ghost use Rattle.std.specs.Prelude.{◌≤◌};
 
-/// Bytes cut in chunks: all but the last have a frame as long as an extent. `chunks` makes it.
+/// Bytes cut in chunks: all but the last have a frame as long as an extent. `chunk_puts` makes it.
 #[derive(Clone, Copy)]
 pub struct Cut {
     /// The bytes of a full chunk.

@@ -1,16 +1,12 @@
-//! Shards as chunks: the bytes of a put are cut in chunks, each of which is a frame on the extents, and read back by the
-//! places of these frames.
+//! Shards as chunks: the bytes of a put are cut in chunks, each of which is a frame on the extents, and read back by
+//! the places of these frames.
 #![tactic(auto)]
 
 mod chunk_laws;
 mod chunk_puts;
-mod chunks;
 mod cuts;
 mod reads;
-mod shard_sizes;
 
 pub use chunk_laws::{pages_have_one_newest, places_tell_digests, what_was_put_stays};
-pub use chunk_puts::{put_chunks, put_chunks_by, put_fits, put_fits_by};
-pub use chunks::shard_bytes;
-pub use reads::{frame_at, read_frame, read_length};
-pub use shard_sizes::{read_chunks, read_lengths};
+pub use chunk_puts::{put_chunks, put_fits, shard_bytes};
+pub use reads::{frame_at, read_chunks, read_frame, read_length, read_lengths};

@@ -1,9 +1,9 @@
 //! Reads of frames.
-ghost use Rattle.std.specs.Prelude.{◌≡◌, ◌⊎◌, ◌+◌, ◌*◌, ◌-◌, ◌^◌, ◌<◌, ◌≤◌, ℕ, List, IfErr, IfOk, IsOk, MatchResult, OnOk, length};
-ghost use Rattle.cs_chunk.specs.Chunks.{IsFrameIn, IsMeant, end_in, kind_of};
-ghost use Rattle.cs_chunk.specs.Lengths.{IsHeaderRefusal, IsOfFaultOrMark, header_fault_in, length_at};
+ghost use Rattle.std.specs.Prelude.{◌≡◌, ◌⊎◌, ◌+◌, ◌*◌, ◌-◌, ◌^◌, ◌<◌, ◌≤◌, ℕ, List, IfErr, IfOk, IsOk, MatchResult, OnOk, length, All};
+ghost use Rattle.cs_chunk.specs.Chunks.{IsFrameIn, IsMeant, end_in, kind_of, AreChunksIn, AreMeant};
+ghost use Rattle.cs_chunk.specs.Lengths.{IsHeaderRefusal, IsOfFaultOrMark, header_fault_in, length_at, AreHeadersIn, IsOfHeaderIn, lengths_at};
 ghost use Rattle.cs_chunk.specs.Newest.{AreNewest, IsReadAs};
-ghost use Rattle.cs_chunk.specs.Reads.{AnswersFault, AreReadAs, IsCaused, IsFrameFront, IsFrameRefusal, IsNoAnswer, IsOfFault, IsReadRefusal, fault_in, pages_in};
+ghost use Rattle.cs_chunk.specs.Reads.{AnswersFault, AreReadAs, IsCaused, IsFrameFront, IsFrameRefusal, IsNoAnswer, IsOfFault, IsReadRefusal, fault_in, pages_in, IsOfChunkIn};
 ghost use Rattle.cs_refusal.specs.Refusals.{number_of};
 ghost use Rattle.cs_deps.specs.State.{NoneOn};
 ghost use Rattle.cs_disk.specs.Disk.{seen};
@@ -11,13 +11,14 @@ ghost use Rattle.cs_disk.specs.Reads.{OnlyReads};
 ghost use Rattle.cs_extent.specs.State.{IsWhole, shape};
 ghost use Rattle.cs_frame.specs.Formats.{formats_of};
 ghost use Rattle.cs_frame.specs.Frames.{SpellsFrame, kind_byte, meant_fault, page_count};
+ghost use Rattle.law_machine.specs.Index.{joined_bodies};
 
 use cs_deps::Graph;
 use cs_disk::{PageDisk, refusal_of_disk};
 use cs_extent::Extents;
 use cs_frame::{
-    Format, FrameKind, Locator, ReadFrame, decode_frame_header, decode_meant_header, read_frame_in,
-    refusal_of_fault,
+    Format, FrameKind, Locator, ReadFrame, chunk_body, decode_frame_header, decode_meant_header,
+    head_bytes, read_frame_in, refusal_of_fault,
 };
 use cs_refusal::Refusal;
 use std::alloc::Global;
@@ -138,8 +139,8 @@ fn copied(alloc: Global, frame: &ReadFrame) -> Result<Vec<u8>, Refusal>
     }
 }
 
-/// As many pages as the header at a place counts. The header's tests are made before the second page is read (20, 22 and 24); digest and
-/// padding aren't tested. Refused 1 DeviceFault and 9 OutOfMemory, too.
+/// As many pages as the header at a place counts. The header's tests are made before the second page is read (20, 22
+/// and 24); digest and padding aren't tested. Refused 1 DeviceFault and 9 OutOfMemory, too.
 fn read_frame_pages<D: PageDisk>(
     alloc: Global,
     extents: &Extents,
@@ -175,12 +176,13 @@ fn read_frame_pages<D: PageDisk>(
     }
 }
 
-/// The frame that begins at a place, in the pages that are read of it. Each page is read once, the newest waiting write to it where there
-/// is one, and then the device isn't asked; the header's tests are made before the second page is read.
+/// The frame that begins at a place, in the pages that are read of it. Each page is read once. If a write to it waits,
+/// the newest such write is read and the device isn't asked. The header's tests are made before the second page is
+/// read.
 ///
-/// 20 `BadMagic`, 21 `BadDigest`, 22 `BadLength`, 23 `BadPadding` or 24 `BadVersion`, the first test that fails, where
-/// no frame of this kind begins there; 26 `Misplaced` where one does and it isn't the one that the place means; 1 `DeviceFault` where a read
-/// failed; 9 `OutOfMemory`. The disk holds what it held.
+/// 20 `BadMagic`, 21 `BadDigest`, 22 `BadLength`, 23 `BadPadding` or 24 `BadVersion`, the first test that fails, if no
+/// frame of this kind begins there. 26 `Misplaced` if one does and it isn't the one that the place means. 1
+/// `DeviceFault` if a read failed. 9 `OutOfMemory`. The disk holds what it held.
 pub fn frame_at<D: PageDisk>(
     alloc: Global,
     extents: &Extents,
@@ -260,13 +262,13 @@ pub fn read_frame<D: PageDisk>(
     }
 }
 
-/// How many bytes the payload has of the frame that begins at a place, by the frame's first page alone: the newest waiting write
-/// to it where there is one, and then the device isn't asked. Only the header's tests are made: there is a length also where digest
-/// or padding are damaged. It asks for no memory itself.
+/// How many bytes the payload has of the frame that begins at a place, by the frame's first page alone. If a write to
+/// that page waits, the newest such write is read and the device isn't asked. Only the header's tests are made: there
+/// is a length also if digest or padding are damaged. It asks for no memory itself.
 ///
-/// 20 `BadMagic`, 24 `BadVersion` or 22 `BadLength`, the first test that fails, where no header of this kind is there; 26 `Misplaced` where
-/// one is and it isn't that of the frame that the place means; 1 `DeviceFault` or 9 `OutOfMemory` where the disk refused the read so. The
-/// disk holds what it held.
+/// 20 `BadMagic`, 24 `BadVersion` or 22 `BadLength`, the first test that fails, if no header of this kind is there. 26
+/// `Misplaced` if one is and it isn't that of the frame that the place means. 1 `DeviceFault` or 9 `OutOfMemory` if the
+/// disk refused the read so. The disk holds what it held.
 pub fn read_length<D: PageDisk>(
     extents: &Extents,
     graph: &Graph,
@@ -309,4 +311,90 @@ pub fn read_length<D: PageDisk>(
         Ok(header) => Ok(header.payload_len),
         Err(fault) => Err(refusal_of_fault(fault)),
     }
+}
+
+/// The bytes of a shard whose chunks have their frames at these places: what comes after the heads of their payloads,
+/// one after another. A payload that is shorter than a head, which no put makes, has none.
+///
+/// The first refusal is returned: 20 to 24 and 26 as `read_frame` does, 1 `DeviceFault`, 9 `OutOfMemory`. No frame
+/// after it is read.
+pub fn read_chunks<D: PageDisk>(
+    alloc: Global,
+    extents: &Extents,
+    graph: &Graph,
+    disk: &mut D,
+    locators: &[Locator],
+) -> Result<Vec<u8>, Refusal>
+    requires places { All (λ l. (l.extent < (shape extents.now).extents) × (l.page < (shape extents.now).pages)) locators.now }
+    requires device { 2 + (shape extents.now).extents * (shape extents.now).pages ≤ D.page_count disk.old }
+
+    // What is read is the bytes of chunks there.
+    ensures bytes { D.honest disk.old → (view : ℕ → List ℕ) → AreNewest graph.now (seen (D.state disk.old)) view
+        → IfOk result (λ bytes. (cs : List (List ℕ)) × AreChunksIn extents.now view locators.now cs × (bytes.items ≡ joined_bodies (formats_of (shape extents.now)) cs)) }
+    // Where there are chunks their bytes are read, unless the device or memory refuses.
+    ensures read { D.honest disk.old → (view : ℕ → List ℕ) (cs : List (List ℕ)) → AreNewest graph.now (seen (D.state disk.old)) view
+        → AreChunksIn extents.now view locators.now cs → MatchResult result (λ bytes. bytes.items ≡ joined_bodies (formats_of (shape extents.now)) cs) IsNoAnswer }
+    // Each other refusal is that of the first place that has no chunk.
+    ensures fault { D.honest disk.old → (view : ℕ → List ℕ) → AreNewest graph.now (seen (D.state disk.old)) view
+        → IfErr result (IsOfChunkIn extents.now view locators.now) }
+    ensures refusals { IfErr result IsReadRefusal }
+    // Whatever the disk answers, what is read is the bytes of chunks that the places mean.
+    ensures meant { IfOk result (λ bytes. (cs : List (List ℕ)) × AreMeant (shape extents.now) locators.now cs × (bytes.items ≡ joined_bodies (formats_of (shape extents.now)) cs)) }
+
+    ensures disk { OnlyReads D.PageDisk disk.old disk.new }
+    ensures cause { IsCaused (D.failure_count disk.old) (D.failure_count disk.new) result }
+{
+    let mut bytes = Vec::new(alloc);
+    // Called for its contract alone: what all extents keep.
+    extents.extent_count();
+    let format = format_of(extents);
+    for k in 0..locators.len() {
+        let locator = locators[k];
+        match read_frame(alloc, extents, graph, disk, FrameKind::Chunk, locator) {
+            Ok(chunk) => bytes.extend_from_slice(chunk_body(format, &chunk))?,
+            Err(refusal) => return Err(refusal),
+        }
+    }
+    Ok(bytes)
+}
+
+/// How many bytes a shard has whose chunks have their frames at these places, by the first page of each frame alone.
+///
+/// The first refusal is returned: 20, 22, 24 and 26 as `read_length` does, 1 `DeviceFault`, 9 `OutOfMemory`. No page
+/// after it is read. If digest or padding of a chunk are damaged, there is a length.
+pub fn read_lengths<D: PageDisk>(
+    extents: &Extents,
+    graph: &Graph,
+    disk: &mut D,
+    locators: &[Locator],
+) -> Result<usize, Refusal>
+    requires few { length locators.now ≤ 8 }
+    requires places { All (λ l. (l.extent < (shape extents.now).extents) × (l.page < (shape extents.now).pages)) locators.now }
+    requires device { 2 + (shape extents.now).extents * (shape extents.now).pages ≤ D.page_count disk.old }
+
+    // What is told is what the headers say together, but for the heads.
+    ensures told { D.honest disk.old → (view : ℕ → List ℕ) → AreNewest graph.now (seen (D.state disk.old)) view
+        → IfOk result (λ count. AreHeadersIn extents.now view locators.now × (count ≡ lengths_at (shape extents.now) view locators.now)) }
+    // Where there are chunks the length of their bytes is told, unless the device or memory refuses.
+    ensures read { D.honest disk.old → (view : ℕ → List ℕ) (cs : List (List ℕ)) → AreNewest graph.now (seen (D.state disk.old)) view
+        → AreChunksIn extents.now view locators.now cs → MatchResult result (λ count. count ≡ length (joined_bodies (formats_of (shape extents.now)) cs)) IsNoAnswer }
+    // Each other refusal is that of the first place that has no chunk's header.
+    ensures header { D.honest disk.old → (view : ℕ → List ℕ) → AreNewest graph.now (seen (D.state disk.old)) view
+        → IfErr result (IsOfHeaderIn extents.now view locators.now) }
+    ensures refusals { IfErr result IsHeaderRefusal }
+
+    ensures disk { OnlyReads D.PageDisk disk.old disk.new }
+    ensures cause { IsCaused (D.failure_count disk.old) (D.failure_count disk.new) result }
+{
+    let mut total: usize = 0;
+    // Called for its contract alone: what all extents keep.
+    extents.extent_count();
+    let head = head_bytes(format_of(extents));
+    for k in 0..locators.len() {
+        match read_length(extents, graph, disk, FrameKind::Chunk, locators[k]) {
+            Ok(count) => total += (count as usize).saturating_sub(head),
+            Err(refusal) => return Err(refusal),
+        }
+    }
+    Ok(total)
 }

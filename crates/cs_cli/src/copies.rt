@@ -9,7 +9,7 @@ use crate::progress::Told;
 use crate::warnings::{explain_unopened, warn_of, warn_text};
 use clap::ArgMatches;
 use cs_disk::{FileFault, SystemFault};
-use cs_frame::Geometry;
+use cs_frame::{Format, Geometry};
 use cs_mount::Mounted;
 use cs_refusal::Refusal;
 use cs_tools::store::{OpenOptions, Store};
@@ -129,7 +129,7 @@ fn copy_into_enough<R: AllocGlobal + Clock + Files<File = File> + Eprint>(
     let mut extents = u64::from(old.extents()).max(5);
     let mut pages = u64::from(old.pages());
     for _ in 0..LARGER {
-        let Ok(geometry) = Geometry::of_format(3, extents, pages, None) else {
+        let Ok(geometry) = Geometry::of_format(Format::three(), extents, pages, None) else {
             break;
         };
         match copy_into(rt, job, geometry, manner) {

@@ -23,7 +23,7 @@ use Rattle.cs_core.proofs.Applies.{goes}
 use Rattle.cs_core.proofs.Crashes.{crash_within, left_of, still_before}
 use Rattle.cs_core.proofs.Leaving.{LeftBy, left_now}
 use Rattle.cs_core.proofs.Saying.{puts_kept}
-use Rattle.law_refinement.specs.ImageReads.{page_total}
+use Rattle.cs_reader.specs.ImageReads.{page_total}
 
 -- what is kept of an event: its copy, and the reply that was told
 pub kept_is : (now reserved history : List (Event × Reply)) (event copy : Event) (told noted : Reply) → now ≡ reserved ++ (copy, noted) ∷ [] → reserved ≡ history → copy ≡ event → told ≡ noted → now ≡ history ++ (event, told) ∷ []

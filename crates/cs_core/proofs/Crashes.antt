@@ -27,7 +27,7 @@ use Rattle.cs_core.specs.Meanings.{Says, command_said, commands_said, event_of}
 use Rattle.cs_core.specs.States.{IsStateOf}
 use Rattle.cs_core.specs.Stored.{Stored}
 use Rattle.cs_core.specs.Views.{AreSaid, IsReached}
-use Rattle.law_refinement.specs.ImageReads.{page_total}
+use Rattle.cs_reader.specs.ImageReads.{page_total}
 
 module _ (S : Shape) (F : Formats) where
   -- a reply says whether a put or a delete was accepted

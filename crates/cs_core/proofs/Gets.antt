@@ -31,7 +31,7 @@ use Rattle.cs_reader.proofs.Lists.{some_places, there_and_back}
 use Rattle.cs_core.proofs.Damage.{IsDamage, read_refusal}
 use Rattle.cs_core.proofs.FramesRead.{found_as_much}
 use Rattle.cs_core.proofs.Going.{no_more, pass_found}
-use Rattle.law_refinement.specs.ImageReads.{page_total}
+use Rattle.cs_reader.specs.ImageReads.{page_total}
 
 -- what each page of a store reads as
 pub newest_there : (v : Stored) → IsWhole v.extents → IsWholeGraph v.graph → (disk : DiskState) → page_total (shape v.extents) ≤ length disk.durable

@@ -40,7 +40,7 @@ head_is extents pages j = ⊎_elim
     (cases_eq j 0)
 
 -- no two have one, and none has the root's
-head_apart : (extents pages j k : ℕ) → j ≢ k → head_page extents pages j ≢ head_page extents pages k
+pub head_apart : (extents pages j k : ℕ) → j ≢ k → head_page extents pages j ≢ head_page extents pages k
 head_apart extents pages j k apart same = ⊎_elim
     (λ (a : j ≡ 0). ⊎_elim
     (λ (b : k ≡ 0). apart (a ∙ sym b))
@@ -52,7 +52,7 @@ head_apart extents pages j k apart same = ⊎_elim
     (cases_eq k 0))
     (cases_eq j 0)
 
-head_not_root : (extents pages j : ℕ) → head_page extents pages j ≢ 1
+pub head_not_root : (extents pages j : ℕ) → head_page extents pages j ≢ 1
 head_not_root extents pages j same = ⊎_elim
     (λ (is : j ≡ 0). let at = first_page extents pages j is in omega (arith, at, same))
     (λ (some : j ≡ 0 → ⊥). let at = later_page extents pages j some in omega (arith, at, same, some))

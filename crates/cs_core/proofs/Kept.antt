@@ -1,6 +1,6 @@
 -- What each step of a store keeps.
 use Rattle.std.proofs.Common.{◌≡◌, ◌∙◌, ℕ, zero, suc, ◌+◌, ◌^◌, ◌<◌, ◌≤◌, Bool, true, false, List, [], ◌∷◌, ◌++◌, Some, length, sym, ap, subst, inl, inr, ⊎_elim, arith, refl}
-use Rattle.std.specs.Prelude.{OnErr, Option, Result, None, Ok, Err, map, slice_index, slice_index_or, if◌then◌else◌, ◌==◌}
+use Rattle.std.specs.Prelude.{Option, map, slice_index, slice_index_or, if◌then◌else◌, ◌==◌}
 use Rattle.cs_deps.specs.declared.elements.Element.{Element}
 use Rattle.cs_deps.specs.State.{State as GraphState, AddsNone}
 use Rattle.cs_extent.specs.Appended.{AreAppendedBy, IsAppendedBy}
@@ -11,11 +11,10 @@ use Rattle.cs_frame.specs.declared.locators.Locator.{Locator}
 use Rattle.cs_frame.specs.Formats.{formats_of, place_of}
 use Rattle.cs_frame.specs.Frames.{spelled_frame}
 use Rattle.cs_index.specs.Merges.{deletions_go, stage_takes}
-use Rattle.cs_index.specs.Staged.{IsMergeStaged, IsPartAppendedBy, IsRunAppended, run_frame}
+use Rattle.cs_index.specs.Staged.{IsMergeStaged, IsNewestStaged, IsPartAppendedBy, IsRunAppended, run_frame}
 use Rattle.law_machine.specs.Index.{IsMergedRun}
 use Rattle.law_machine.specs.Element.{Entry, Run}
 use Rattle.cs_frame.specs.Formats.{as_locator}
-use Rattle.cs_refusal.specs.declared.refusals.Refusal.{Refusal}
 use Rattle.cs_index.specs.State.{IsSet, State as IndexState, index_of}
 use Rattle.law_machine.specs.Append.{chunk_frames}
 use Rattle.law_machine.specs.Device.{Inside, Shape}
@@ -34,9 +33,9 @@ use Rattle.cs_core.specs.Stored.{AreInside, AreSwept, AreWithin, IsKept, IsKeptA
 use Rattle.cs_core.proofs.KeptApart.{kept_apart_marked}
 use Rattle.cs_core.specs.declared.roots.Root.{Root}
 use Rattle.cs_core.specs.Frontiers.{AreNoted}
-use Rattle.cs_core.proofs.Moves.{AddsRoot, IsStagedBy, extent_there, frame_fits, last_root, moves_extents, moves_merged, moves_then}
+use Rattle.cs_core.proofs.Moves.{AddsRoot, extent_there, frame_fits, last_root, moves_extents, moves_merged, moves_then}
 use Rattle.cs_core.proofs.Noted.{noted_accepted, noted_pushed}
-use Rattle.law_refinement.specs.ImageReads.{page_total}
+use Rattle.cs_reader.specs.ImageReads.{page_total}
 
 -- PLACES
 -- the places of some chunks are there
@@ -127,16 +126,11 @@ swept_merged i x g r v commands j y h rule staged swept = ⊎_elim
     (λ (m : ((id : ℕ) → live_at (index_of i) id ≡ []) × (y ≡ x) × (staged.between ≡ g) × (j.runs ≡ [])). subst AreSwept (sym m.1) swept)
     staged.appended
 
--- the index is staged, or not
-pub swept_staged : (result : Result (Option ℕ) Refusal) (commands : ℕ) (i : IndexState) (x : ExtentsState) (g : GraphState) (j : IndexState) (y : ExtentsState) (h : GraphState)
-    → (shape x).apart ≡ false → (result ≡ Ok None → (j ≡ i) × (y ≡ x) × (h ≡ g))
-    → IsStagedBy result commands i x g j y h
-    → OnErr result (y ≡ x) → AreSwept x → AreSwept y
-swept_staged (Ok None) commands i x g j y h rule none staged unwritten swept = subst AreSwept (sym (none refl).1) swept
-swept_staged (Ok (Some v)) commands i x g j y h rule none staged unwritten swept =
-    let k : ℕ = stage_takes (shape x) i in
-    let s = staged v refl in swept_part false (deletions_go (shape x) i k) k i x g ForRun j.runs y s.between rule s.appended swept
-swept_staged (Err r) commands i x g j y h rule none staged unwritten swept = subst AreSwept (sym unwritten) swept
+-- a Stage merged the newest runs
+pub swept_newest : (i : IndexState) (x : ExtentsState) (g : GraphState) (v commands : ℕ) (j : IndexState) (y : ExtentsState) (h : GraphState)
+    → (shape x).apart ≡ false → IsNewestStaged (stage_takes (shape x) i) i x g v commands j y h → AreSwept x → AreSwept y
+swept_newest i x g v commands j y h rule staged swept =
+    swept_part false (deletions_go (shape x) i (stage_takes (shape x) i)) (stage_takes (shape x) i) i x g ForRun j.runs y staged.between rule staged.appended swept
 
 pub moves_retired : (i : IndexState) (x : ExtentsState) (g : GraphState) (e v commands : ℕ) (j : IndexState) (y : ExtentsState) (h : GraphState) → 1 ≤ x.sections → IsRetired i x g e v commands j y h → shape y ≡ shape x → KeepsDevice x g y h
 moves_retired i x g e v commands j y h some r same =

@@ -2,6 +2,7 @@ pub mod Answering
 pub mod Applied
 pub mod Applies
 pub mod Asking
+pub mod BegunBy
 pub mod Composing
 pub mod Counted
 pub mod Crashes
@@ -25,16 +26,20 @@ pub mod Meant
 pub mod Members
 pub mod MoveGrounds
 pub mod MoveSteps
+pub mod MovedBy
 pub mod Moves
 pub mod MovesApart
+pub mod NewTaken
 pub mod Noted
 pub mod Opening
 pub mod Opens
 pub mod PieceCounts
 pub mod Puts
 pub mod PutsMeant
+pub mod Readying
 pub mod Refusing
 pub mod Replaying
+pub mod RetiredBy
 pub mod Resting
 pub mod RootSteps
 pub mod RoundSteps
@@ -45,6 +50,7 @@ pub mod ServeSteps
 pub mod Settling
 pub mod Sizes
 pub mod StageSteps
+pub mod StagedBy
 pub mod StagesApart
 pub mod Starting
 pub mod SweepSteps
@@ -53,4 +59,5 @@ pub mod TornCrashes
 pub mod Unstaged
 pub mod TwoTexts
 pub use Rattle.law_refinement.proofs as law_refinement
+pub use Rattle.cs_reader.proofs as cs_reader
 pub use Rattle.cs_index.proofs as cs_index

@@ -4,14 +4,13 @@ use Rattle.std.specs.Prelude.{slice_index}
 use Rattle.std.proofs.lemmas.Bool.{cond-false}
 use Rattle.cs_deps.specs.State.{State as GraphState}
 use Rattle.cs_extent.specs.Frames.{root_family}
-use Rattle.cs_extent.specs.State.{IsWhole, State as ExtentsState, extents_of, shape}
+use Rattle.cs_extent.specs.State.{IsWhole, State as ExtentsState, extents_at, extents_of, shape}
 use Rattle.cs_frame.specs.Formats.{as_locator}
-use Rattle.law_refinement.proofs.Families.{length-by_family, root_in}
-use Rattle.law_refinement.proofs.Listed.{all_default}
-use Rattle.law_refinement.proofs.OneByOne.{place_inside}
-use Rattle.law_refinement.specs.Counts.{HasCount}
-use Rattle.law_refinement.specs.Images.{by_family, graph_at, index_at}
-use Rattle.law_refinement.specs.ImageReads.{extents_at}
+use Rattle.cs_reader.proofs.ByFamily.{length-by_family, root_in}
+use Rattle.cs_reader.proofs.Listed.{all_default}
+use Rattle.cs_reader.proofs.OneByOne.{place_inside}
+use Rattle.cs_reader.specs.Counts.{HasCount}
+use Rattle.cs_reader.specs.Loads.{by_family, graph_at, index_at}
 use Rattle.cs_index.proofs.Whole.{length-newest}
 use Rattle.cs_index.specs.declared.stored_runs.StoredRun.{StoredRun}
 use Rattle.cs_index.specs.State.{State as IndexState, index_of, newest_first}
@@ -20,11 +19,13 @@ use Rattle.law_machine.specs.Element.{Copy}
 use Rattle.law_machine.specs.Geometry.{most_weight_in}
 use Rattle.law_machine.specs.Index.{entries_of, live_at}
 use Rattle.cs_core.specs.declared.roots.Root.{Root as Noted}
-use Rattle.cs_reader.specs.Openings.{AreExtentsOpened, AreLocatedBy}
+use Rattle.cs_core.specs.Openings.{AreExtentsOpened}
+use Rattle.cs_reader.specs.Openings.{AreLocatedBy}
 use Rattle.cs_core.specs.Openings.{IsLoaded, opened_stored}
 use Rattle.cs_core.specs.Stored.{AreInside, IsKept, Stored}
 use Rattle.cs_core.proofs.Noted.{noted_alone}
-use Rattle.cs_reader.proofs.Readying.{hidden_gone, none_swept, resets_opened, visible_by}
+use Rattle.cs_reader.proofs.Located.{hidden_gone, visible_by}
+use Rattle.cs_core.proofs.Readying.{none_swept, resets_opened}
 
 -- a store that is made of its parts
 pub opened_is : (versions : List ℕ) (root commands format limit : ℕ) (runs : List StoredRun) (g : GraphState) (x : ExtentsState) (i : IndexState) (copies : List Copy) (roots : List Noted)

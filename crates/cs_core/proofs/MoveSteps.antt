@@ -50,7 +50,7 @@ use Rattle.cs_core.proofs.Going.{Beside, beside_is, frontier_same, goes_on, goin
 use Rattle.cs_core.proofs.MoveGrounds.{damaged_before, full_before, none_before, reads_before, worn_before}
 use Rattle.cs_core.proofs.RootsStay.{SameRoots, append_stays}
 use Rattle.cs_core.proofs.SweepSteps.{is_marked, move_unmarked}
-use Rattle.law_refinement.specs.ImageReads.{page_total}
+use Rattle.cs_reader.specs.ImageReads.{page_total}
 
 -- an extent that isn't being swept
 pub move_unswept : (v : Stored) (whole : IsWhole v.extents) (runs : v.halted ≡ false) (disk : DiskState) (e : ℕ) → (extents_of v.extents).swept e ≡ false → MoveAnswers v disk e (Err code.NotSweepable) v

@@ -52,7 +52,7 @@ use Rattle.cs_core.proofs.MoveGrounds.{damaged_apart, full_apart, none_apart, re
 use Rattle.cs_core.proofs.MoveSteps.{not_answer, not_place}
 use Rattle.cs_core.proofs.RootsStay.{SameRoots, append_stays_by}
 use Rattle.cs_core.proofs.SweepSteps.{all_parts, is_marked}
-use Rattle.law_refinement.specs.ImageReads.{page_total}
+use Rattle.cs_reader.specs.ImageReads.{page_total}
 
 -- a store that differs in room alone
 roomed_copies : (v : Stored) (y : ExtentsState) (h : GraphState) (after : List Copy) → y ≡ v.extents → h ≡ record v.graph { room = h.room } → after ≡ v.copies

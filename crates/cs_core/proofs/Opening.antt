@@ -7,12 +7,12 @@ use Rattle.cs_refusal.specs.declared.refusals.Refusal.{Refusal}
 use Rattle.cs_refusal.specs.declared.refusals.Refusal.TheVariants.{DeviceFault, NotAStore, OutOfMemory, RootLost}
 use Rattle.cs_disk.proofs.Moments.{flushes_or_not, stays, started}
 use Rattle.cs_disk.specs.Disk.{Elapses, Image, LeavesOnly, MayLeave, State as DiskState, flushed, page, seen}
-use Rattle.cs_extent.specs.State.{State as ExtentsState, shape}
+use Rattle.cs_extent.specs.State.{State as ExtentsState, extents_at, shape}
 use Rattle.cs_frame.specs.declared.locators.Locator.{Locator}
 use Rattle.cs_frame.specs.Geometries.{device_pages}
 use Rattle.cs_frame.specs.Roots.{SpellsRoot}
-use Rattle.law_refinement.specs.Counts.{HasCount}
-use Rattle.law_refinement.specs.ImageReads.{IsRunRead, extents_at}
+use Rattle.cs_reader.specs.Counts.{HasCount}
+use Rattle.cs_reader.specs.ImageReads.{IsRunRead}
 use Rattle.cs_index.specs.declared.stored_runs.StoredRun.{StoredRun}
 use Rattle.cs_index.specs.State.{newest_first}
 use Rattle.law_machine.specs.Index.{entries_of, live_at, named_weight}

@@ -9,15 +9,15 @@ use Rattle.law_refinement.specs.Openings.{IsStartOf}
 use Rattle.cs_chunk.specs.Reads.{IsNoAnswer}
 use Rattle.cs_refusal.specs.declared.refusals.Refusal.{Refusal}
 use Rattle.cs_disk.specs.Disk.{Image, IsWhole as IsWholeDisk, State as DiskState, flushed, page, seen}
-use Rattle.cs_extent.specs.State.{State as ExtentsState, shape}
+use Rattle.cs_extent.specs.State.{State as ExtentsState, extents_at, shape}
 use Rattle.cs_frame.specs.Formats.{formats_of}
 use Rattle.cs_frame.specs.Geometries.{IsGeometry, device_pages, section_size}
-use Rattle.law_refinement.proofs.Families.{root_in}
-use Rattle.law_refinement.proofs.OneByOne.{live_count}
-use Rattle.law_refinement.proofs.Superblocks.{read_format, read_shape}
-use Rattle.law_refinement.specs.Counts.{AreThose, HasCount}
-use Rattle.law_refinement.specs.Images.{graph_at, index_at}
-use Rattle.law_refinement.specs.ImageReads.{ArePages, AreSectionsRead, extents_at, page_total}
+use Rattle.cs_reader.proofs.ByFamily.{root_in}
+use Rattle.cs_reader.proofs.OneByOne.{live_count}
+use Rattle.cs_reader.proofs.Superblocks.{read_format, read_shape}
+use Rattle.cs_reader.specs.Counts.{AreThose, HasCount}
+use Rattle.cs_reader.specs.Loads.{graph_at, index_at}
+use Rattle.cs_reader.specs.ImageReads.{ArePages, AreSectionsRead, page_total}
 use Rattle.cs_index.specs.declared.stored_runs.StoredRun.{StoredRun}
 use Rattle.cs_index.specs.State.{newest_first}
 use Rattle.law_machine.proofs.Unique.{one_recovery}
@@ -30,13 +30,14 @@ use Rattle.law_machine.specs.Recovery.{Recovers}
 use Rattle.law_machine.specs.State.{State}
 use Rattle.cs_core.specs.declared.events.Event.{Event}
 use Rattle.cs_core.specs.declared.events.Reply.{Reply}
-use Rattle.cs_reader.specs.Openings.{AreExtentsOpened, IsStoreReadBy, IsWhyNotOpened}
+use Rattle.cs_core.specs.Openings.{AreExtentsOpened}
+use Rattle.cs_reader.specs.Openings.{IsStoreReadBy, IsWhyNotOpened}
 use Rattle.cs_core.specs.Openings.{IsOpened, IsStoreMade, opened_stored}
 use Rattle.cs_core.specs.States.{IsStateOf}
 use Rattle.cs_core.specs.Stored.{Stored, but_for_room}
 use Rattle.cs_core.specs.Views.{IsCore, IsFound, IsReached}
 use Rattle.cs_reader.proofs.Exactly.{none_fails, recovers_here, same_numbers}
-use Rattle.cs_reader.proofs.Readying.{hidden_gone, hidden_stand}
+use Rattle.cs_reader.proofs.Located.{hidden_gone, hidden_stand}
 use Rattle.cs_core.proofs.RootsRead.{noted, read_alone}
 
 module _ (image : Image) (format : ℕ) (versions records : List ℕ) (pages : ℕ) (written : List (ℕ × ℕ)) (root commands : ℕ) (runs : List StoredRun) (y : ExtentsState)

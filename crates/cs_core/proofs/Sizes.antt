@@ -28,7 +28,7 @@ use Rattle.cs_core.specs.Stored.{Stored}
 use Rattle.cs_core.proofs.FramesRead.{frame_read}
 use Rattle.cs_reader.proofs.Lists.{there_and_back}
 use Rattle.cs_core.proofs.Gets.{found_live, newest_there}
-use Rattle.law_refinement.specs.ImageReads.{page_total}
+use Rattle.cs_reader.specs.ImageReads.{page_total}
 
 -- ---- the chunks of a shard that the map has
 

@@ -306,32 +306,29 @@ pub staged_some : (result : Result (Option ℕ) Code) (P : Type 0) (v : ℕ) →
 staged_some result P v exact is p = let at : IfOk {E = Code} (Ok (Some v)) (λ (staged : Option ℕ). (staged ≡ None) ↔ P) = subst (λ (r : Result (Option ℕ) Code). IfOk r (λ staged. (staged ≡ None) ↔ P)) is exact in
     let e : Some v ≡ None = at.1 p in cc
 
--- what wasn't refused so has nothing live
-pub alive_not : {T E P : Type 0} (x : T) (r : E) → (Ok x ≡ Err r) ↔ (P → ⊥) → (P → ⊥) → ⊥
-alive_not x r exact not = let e : Ok x ≡ Err r = exact.1 not in cc
+-- a refusal that is another one isn't that something lives
+pub not_still : (r : Code) → (r ≡ code.Full) ⊎ (r ≡ code.WornOut) ⊎ (r ≡ code.OutOfMemory) → ◌≡◌ {A = Result ℕ Code} (Err r) (Err code.StillLive) → ⊥
+not_still r other bad = go r other (ap which bad)
+  where
+    which : Result ℕ Code → Code
+    which (Ok n) = code.Full
+    which (Err k) = k
+
+    go : (r : Code) → (r ≡ code.Full) ⊎ (r ≡ code.WornOut) ⊎ (r ≡ code.OutOfMemory) → r ≡ code.StillLive → ⊥
+    go r (inl full) is = let b : code.Full ≡ code.StillLive = sym full ∙ is in cc b
+    go r (inr (inl worn)) is = let b : code.WornOut ≡ code.StillLive = sym worn ∙ is in cc b
+    go r (inr (inr memory)) is = let b : code.OutOfMemory ≡ code.StillLive = sym memory ∙ is in cc b
 
 -- that nothing is live is said of what isn't there, so what can't be otherwise is so
 pub settled_nothing : (x : List Entry) (e : ℕ) → ((NothingLive x e → ⊥) → ⊥) → NothingLive x e
 settled_nothing x e nn id l has on = absurd (nn (λ none. none id l has on))
 
-abbrev pub wrong : Code → ℕ → Result ℕ (Code × ℕ)
-wrong r e = Err (r, e)
-
-abbrev pub which : Result ℕ (Code × ℕ) → Code
-which (Ok x) = code.Full
-which (Err r) = r.0
-
-pub retire_refused : (v w : Stored) (whole : IsWhole v.extents) (runs : v.halted ≡ false) (rule : (shape v.extents).apart ≡ false) → but_for_room w ≡ but_for_room v → (e : ℕ) → (extents_of v.extents).swept e ≡ true → (r : Code) (back : ℕ) → back ≡ e
-    → ((wrong r back ≡ wrong code.StillLive e) ↔ (NothingLive (index_of v.index) e → ⊥))
+pub retire_refused : (v w : Stored) (whole : IsWhole v.extents) (runs : v.halted ≡ false) (rule : (shape v.extents).apart ≡ false) → but_for_room w ≡ but_for_room v → (e : ℕ) → (extents_of v.extents).swept e ≡ true → (r : Code)
+    → (◌≡◌ {A = Result ℕ Code} (Err r) (Err code.StillLive)) ↔ (NothingLive (index_of v.index) e → ⊥)
     → (NothingLive (index_of v.index) e → IsWhy r (IsRetireFull v.index v.extents) (IsRetireWorn v.index v.extents v.graph.staging e))
     → (r ≡ code.StillLive) ⊎ (r ≡ code.Full) ⊎ (r ≡ code.WornOut) ⊎ (r ≡ code.OutOfMemory) → Declines v (Retire e) r w
-retire_refused v w whole runs rule same e marks r back is alive why (inl live) = subst (λ (k : Code). Declines v (Retire e) k w) (sym live)
-    (retire_lives v w whole runs rule same e marks (alive.0 (ap (λ (k : Code). wrong k back) live ∙ ap (λ (k : ℕ). wrong code.StillLive k) is)))
-retire_refused v w whole runs rule same e marks r back is alive why (inr other) =
-    let none = settled_nothing (index_of v.index) e (λ live. not_still r e back other (alive.1 live)) in
+retire_refused v w whole runs rule same e marks r alive why (inl live) =
+    subst (λ (k : Code). Declines v (Retire e) k w) (sym live) (retire_lives v w whole runs rule same e marks (alive.0 (ap (λ (k : Code). Err k) live)))
+retire_refused v w whole runs rule same e marks r alive why (inr other) =
+    let none = settled_nothing (index_of v.index) e (λ live. not_still r other (alive.1 live)) in
     retire_declines v w whole runs rule same e marks none r (why none)
-  where
-    not_still : (r : Code) (e back : ℕ) → (r ≡ code.Full) ⊎ (r ≡ code.WornOut) ⊎ (r ≡ code.OutOfMemory) → (wrong r back ≡ wrong code.StillLive e) → ⊥
-    not_still r e back (inl full) bad = let b : code.Full ≡ code.StillLive = ap which (subst (λ (k : Code). wrong k back ≡ wrong code.StillLive e) full bad) in cc b
-    not_still r e back (inr (inl worn)) bad = let b : code.WornOut ≡ code.StillLive = ap which (subst (λ (k : Code). wrong k back ≡ wrong code.StillLive e) worn bad) in cc b
-    not_still r e back (inr (inr memory)) bad = let b : code.OutOfMemory ≡ code.StillLive = ap which (subst (λ (k : Code). wrong k back ≡ wrong code.StillLive e) memory bad) in cc b

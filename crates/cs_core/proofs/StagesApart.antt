@@ -1,6 +1,6 @@
 -- Stagings of runs and roots are steps of the machine where chunks and runs lie apart.
-use Rattle.std.proofs.Common.{◌≡◌, ◌≢◌, ◌⊎◌, inl, inr, ⊎_elim, ℕ, suc, ◌+◌, Bool, true, false, List, [], ◌∷◌, ◌++◌, Ok, Err, length, refl, sym, ap, ◌∙◌, subst}
-use Rattle.std.specs.Prelude.{◌↔◌, MatchOption, Option, None, Some, Result, is_some}
+use Rattle.std.proofs.Common.{◌≡◌, ◌≢◌, ◌⊎◌, inl, inr, ℕ, suc, ◌+◌, Bool, true, false, List, [], ◌∷◌, ◌++◌, Ok, Err, length, refl, sym, ap, ◌∙◌, subst}
+use Rattle.std.specs.Prelude.{◌↔◌, Result}
 use Rattle.cs_refusal.specs.declared.refusals.Refusal.{Refusal as Code}
 use Rattle.cs_refusal.specs.declared.refusals.Refusal.TheVariants as code
 use Rattle.cs_deps.specs.State.{State as GraphState}
@@ -28,7 +28,7 @@ use Rattle.law_machine.specs.State.{Refused, Retire, Retired, Stage, Staged, Sta
 use Rattle.law_machine.specs.Step.{Step}
 use Rattle.law_refinement.proofs.cs_reclaim.Copying.{behind_is_left, none_is_left}
 use Rattle.law_refinement.specs.cs_reclaim.Copied.{AllUpTo, AreInOrder}
-use Rattle.law_refinement.specs.cs_reclaim.Rooted.{IsRetireExact, IsRetiredApart, IsSweepStaged, IsUnmarked, MayStageRoot, is_left_over}
+use Rattle.law_refinement.specs.cs_reclaim.Rooted.{IsRetireExact, IsRetiredApart, IsSweepStaged, IsUnmarked, MayStageRoot}
 use Rattle.law_refinement.proofs.DoesApart.{retired, staged}
 use Rattle.law_refinement.proofs.RefusedApart.{stage_full}
 use Rattle.law_refinement.proofs.RefusedRetires.{idle, may_stage, retire_full, retire_worn, stage_worn}
@@ -41,7 +41,7 @@ use Rattle.cs_core.specs.Steps.{Declines, Steps}
 use Rattle.cs_core.specs.Stored.{Stored, but_for_room}
 use Rattle.cs_core.proofs.Going.{going, no_more, pass, roomed_roots, same_state}
 use Rattle.cs_core.proofs.RootsStay.{SameRoots, append_stays_by, same_here}
-use Rattle.cs_core.proofs.StageSteps.{IsRooted, RetireFull, RetireLive, RetireWorn, StageFull, noted, runs_on, said}
+use Rattle.cs_core.proofs.StageSteps.{IsRooted, RetireFull, RetireLive, RetireWorn, StageFull, not_still, noted, runs_on, said}
 
 -- ---- a root is staged, and what is blank is emptied
 
@@ -126,28 +126,6 @@ module _ (S : Shape) (F : Formats) where
 no_table : (es : List Entry) → (es ≢ [] → ⊥) → es ≡ []
 no_table [] not = refl
 no_table (e ∷ es) not = absurd (not (λ is. let wrong : e ∷ es ≡ [] = is in cc wrong))
-
--- what is ensured of a sweep that goes on, or doesn't
-pub resumed : {V : Type 0} (P : Type 0) (Q : V → Type 0) (o : Option V) → is_some o ≡ true → MatchOption o P Q → (x : V) × Q x
-resumed P Q None is ensured = absurd (let wrong : false ≡ true = is in cc wrong)
-resumed P Q (Some x) is ensured = (x, ensured)
-
-pub not_resumed : {V : Type 0} (P : Type 0) (Q : V → Type 0) (o : Option V) → is_some o ≡ false → MatchOption o P Q → P
-not_resumed P Q None is ensured = ensured
-not_resumed P Q (Some x) is ensured = absurd (let wrong : true ≡ false = is in cc wrong)
-
--- what there is to stage can be seen
-pub may_indeed : (v : Stored) → ((MayStageRoot (shape v.extents) (extents_of v.extents) v.index v.copies → ⊥) → ⊥) → MayStageRoot (shape v.extents) (extents_of v.extents) v.index v.copies
-may_indeed v nn = by v.index.table (is_left_over (shape v.extents) (extents_of v.extents) v.copies) nn
-  where
-    by : (es : List Entry) (b : Bool) → (((es ≢ []) ⊎ (b ≡ true) → ⊥) → ⊥) → (es ≢ []) ⊎ (b ≡ true)
-    by (e ∷ es) b nn = inl (λ is. let wrong : e ∷ es ≡ [] = is in cc wrong)
-    by [] true nn = inr refl
-    by [] false nn = absurd (nn (λ may. ⊎_elim (λ (some : [] ≢ []). some refl) (λ (left : false ≡ true). let wrong : false ≡ true = left in cc wrong) may))
-
--- where there is nothing the table is empty
-pub none_staged : (v : Stored) → (MayStageRoot (shape v.extents) (extents_of v.extents) v.index v.copies → ⊥) → v.index.table ≡ []
-none_staged v none = no_table v.index.table (λ some. none (inl some))
 
 -- a store that differs in room alone, with the same copies
 pub roomed_copies : (v : Stored) (x : ExtentsState) (g : GraphState) (i : IndexState) (copies : List Copy) (roots : List Noted) → x ≡ v.extents → g ≡ record v.graph { room = g.room } → i ≡ record v.index { room = i.room }
@@ -346,12 +324,3 @@ module _ (v : Stored) (whole : IsWhole v.extents) (runs : v.halted ≡ false) (r
         let all = settled_all order up_to (λ live. not_still r other (left.1 live)) in
         let exact = why all in
         retire_apart_declines all w same exact.counted exact.unmarked exact.settled exact.ended r exact.why
-      where
-        which : Result ℕ Code → Code
-        which (Ok n) = code.Full
-        which (Err k) = k
-
-        not_still : (r : Code) → (r ≡ code.Full) ⊎ (r ≡ code.WornOut) ⊎ (r ≡ code.OutOfMemory) → ◌≡◌ {A = Result ℕ Code} (Err r) (Err code.StillLive) → ⊥
-        not_still r (inl full) bad = let b : code.Full ≡ code.StillLive = sym full ∙ ap which bad in cc b
-        not_still r (inr (inl worn)) bad = let b : code.WornOut ≡ code.StillLive = sym worn ∙ ap which bad in cc b
-        not_still r (inr (inr memory)) bad = let b : code.OutOfMemory ≡ code.StillLive = sym memory ∙ ap which bad in cc b

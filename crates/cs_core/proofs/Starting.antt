@@ -10,16 +10,16 @@ use Rattle.cs_disk.specs.Disk.{Image, State as DiskState, page, written}
 use Rattle.cs_extent.proofs.Sections.{rows_are_all}
 use Rattle.cs_extent.specs.Sections.{AreSections, IsSectionAt, count_of, format_of, pages_of, rows_of}
 use Rattle.cs_extent.specs.Frames.{root_family}
-use Rattle.cs_extent.specs.State.{State as ExtentsState, extents_of, shape}
+use Rattle.cs_extent.specs.State.{State as ExtentsState, extents_at, extents_of, shape}
 use Rattle.cs_frame.specs.declared.superblocks.Superblock.{Superblock}
 use Rattle.cs_frame.specs.Formats.{formats_of}
 use Rattle.cs_frame.specs.Geometries.{IsGeometry, device_pages, section_length}
 use Rattle.cs_frame.proofs.SuperblockLaws.{recorded_below_root, recorded_fits_in}
 use Rattle.cs_frame.specs.Superblocks.{FitsRecord, SpellsSuperblock, record_in}
-use Rattle.law_refinement.proofs.Families.{length-by_family, root_in}
-use Rattle.law_refinement.specs.Counts.{HasCount}
-use Rattle.law_refinement.specs.Images.{by_family, graph_at}
-use Rattle.law_refinement.specs.ImageReads.{extents_at, page_total}
+use Rattle.cs_reader.proofs.ByFamily.{length-by_family, root_in}
+use Rattle.cs_reader.specs.Counts.{HasCount}
+use Rattle.cs_reader.specs.Loads.{by_family, graph_at}
+use Rattle.cs_reader.specs.ImageReads.{page_total}
 use Rattle.cs_index.proofs.Sorted.{some_at}
 use Rattle.cs_index.specs.declared.stored_runs.StoredRun.{StoredRun}
 use Rattle.cs_index.specs.State.{State as IndexState, newest_first}

@@ -1,6 +1,6 @@
 -- Marks of sweeps are steps of the machine.
-use Rattle.std.proofs.Common.{◌≡◌, ◌⊎◌, inl, inr, ℕ, ◌<◌, ◌≤◌, true, false, Ok, Err, refl, sym, ap, ◌∙◌, subst, arith}
-use Rattle.std.specs.Prelude.{◌↔◌, IfErr, MatchOption, None, OnErr, OnOk, Option, Result, Some, is_some}
+use Rattle.std.proofs.Common.{◌≡◌, ◌⊎◌, inl, inr, ℕ, ◌<◌, ◌≤◌, Bool, true, false, Ok, Err, refl, sym, ap, ◌∙◌, subst, arith}
+use Rattle.std.specs.Prelude.{◌↔◌, IfErr, MatchBool, MatchOption, None, OnErr, OnOk, Option, Result, Some, is_some}
 use Rattle.std.proofs.lemmas.Bool.{cases_Bool, false_from_ne_true}
 use Rattle.cs_refusal.specs.declared.refusals.Refusal.{Refusal as Code}
 use Rattle.cs_refusal.specs.declared.refusals.Refusal.TheVariants as code
@@ -37,17 +37,16 @@ unswept x e swept (inl out) = false_from_ne_true ((extents_of x).swept e) (λ is
 unswept x e swept (inr not) = not
 
 -- a sweep is found again by its mark, or it isn't
-pub not_resumed : (x : ExtentsState) (e : ℕ) (found : Option ℕ)
-    → MatchOption found (((shape x).extents ≤ e) ⊎ ((extents_of x).swept e ≡ false)) (λ s. (s ≡ e) × (e < (shape x).extents) × ((extents_of x).swept e ≡ true))
-    → is_some found ≡ false → ((shape x).extents ≤ e) ⊎ ((extents_of x).swept e ≡ false)
-not_resumed x e None tells none = tells
-not_resumed x e (Some s) tells none = absurd (cc none)
+abbrev pub IsFound : ExtentsState → ℕ → Type 0
+IsFound x e = (e < (shape x).extents) × ((extents_of x).swept e ≡ true)
 
-pub resumed : (x : ExtentsState) (e : ℕ) (found : Option ℕ)
-    → MatchOption found (((shape x).extents ≤ e) ⊎ ((extents_of x).swept e ≡ false)) (λ s. (s ≡ e) × (e < (shape x).extents) × ((extents_of x).swept e ≡ true))
-    → is_some found ≡ true → (extents_of x).swept e ≡ true
-resumed x e None tells some = absurd (cc some)
-resumed x e (Some s) tells some = tells.2
+abbrev pub IsGone : ExtentsState → ℕ → Type 0
+IsGone x e = ((shape x).extents ≤ e) ⊎ ((extents_of x).swept e ≡ false)
+
+pub is_resumed : (x : ExtentsState) (e : ℕ) (found : Option ℕ) (told : Bool) → MatchOption found (IsGone x e) (λ s. (s ≡ e) × (e < (shape x).extents) × ((extents_of x).swept e ≡ true)) → told ≡ is_some found
+    → MatchBool told (IsFound x e) (IsGone x e)
+is_resumed x e None told tells is = subst (λ (b : Bool). MatchBool b (IsFound x e) (IsGone x e)) (sym is) tells
+is_resumed x e (Some s) told tells is = subst (λ (b : Bool). MatchBool b (IsFound x e) (IsGone x e)) (sym is) (tells.1, tells.2)
 
 -- what a sweep copied is one of the parts too
 pub all_parts : (v : Stored) (s : State) → IsStateOf v s → AreAllPartsOf v.extents v.graph v.index v.copies s

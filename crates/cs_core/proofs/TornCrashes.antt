@@ -10,7 +10,7 @@ use Rattle.cs_extent.proofs.Changes.{whole_new, zeros_at}
 use Rattle.cs_extent.specs.State.{IsWhole, State as ExtentsState, shape}
 use Rattle.cs_frame.specs.Formats.{formats_of}
 use Rattle.cs_frame.specs.Geometries.{IsGeometry, section_size}
-use Rattle.law_refinement.specs.ImageReads.{page_total}
+use Rattle.cs_reader.specs.ImageReads.{page_total}
 use Rattle.law_machine.proofs.Kept.{history_on}
 use Rattle.law_machine.proofs.Staying.{frontier_rises}
 use Rattle.law_machine.specs.Device.{Page, Shape}

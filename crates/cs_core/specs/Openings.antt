@@ -1,17 +1,27 @@
 -- A store as it is opened, of what was read.
-use Rattle.std.specs.Prelude.{◌≡◌, ◌≢◌, ℕ, false, List, ◌∷◌, [], None, length}
+use Rattle.std.specs.Prelude.{◌≡◌, ◌≢◌, ℕ, false, List, ◌∷◌, [], None, length, true}
 use Rattle.cs_deps.specs.State.{State as GraphState}
 use Rattle.cs_disk.specs.Disk.{Image, page}
-use Rattle.cs_extent.specs.State.{State as ExtentsState}
-use Rattle.law_refinement.specs.Counts.{HasCount}
-use Rattle.law_refinement.specs.Images.{graph_at, index_at}
-use Rattle.law_refinement.specs.ImageReads.{extents_at}
+use Rattle.cs_extent.specs.State.{IsWhole, State as ExtentsState, extents_at, extents_of, shape}
+use Rattle.cs_reader.specs.Counts.{HasCount}
+use Rattle.cs_reader.specs.Loads.{graph_at, index_at}
+use Rattle.law_refinement.specs.Images.{AreExtentsNoted}
 use Rattle.cs_index.specs.declared.stored_runs.StoredRun.{StoredRun}
-use Rattle.cs_index.specs.State.{newest_first}
+use Rattle.cs_index.specs.State.{newest_first, State as IndexState}
 use Rattle.law_machine.specs.Geometry.{most_weight_in}
 use Rattle.law_machine.specs.Index.{entries_of, live_at}
-use Rattle.cs_reader.specs.Openings.{AreExtentsOpened, IsStoreReadBy}
+use Rattle.cs_reader.specs.Openings.{IsStoreReadBy}
 use Rattle.cs_core.specs.Stored.{Stored}
+use Rattle.law_refinement.specs.cs_reclaim.Rooted.{freed_under}
+
+-- The extents of a store as it is opened, from those that were read, an index of the runs that were read, and this version of the root:
+-- they are as they were read where chunks and runs may lie on one extent; where they lie apart it is noted on which of them runs lie, and
+-- those on which nothing lives and no run lies are emptied under the root.
+pub record AreExtentsOpened (x : ExtentsState) (i : IndexState) (root : ℕ) (y : ExtentsState) : Type 0 where
+  pub same_shape : shape y ≡ shape x
+  pub together : (shape x).apart ≡ false → y ≡ x
+  pub apart : (shape x).apart ≡ true
+      → (noted : ExtentsState) × IsWhole noted × AreExtentsNoted x i.runs noted × (extents_of y ≡ freed_under (shape noted) (extents_of noted) i [] root)
 
 -- the store of these extents, of sections of a superblock with these versions, of a root and of its runs, oldest first, on which nothing
 -- was staged yet

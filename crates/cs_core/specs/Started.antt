@@ -1,13 +1,15 @@
 -- A store as it is made.
-use Rattle.std.specs.Prelude.{All, ◌≡◌, ◌⊎◌, ◌+◌, ◌*◌, ◌<◌, ◌≤◌, ◌++◌, ℕ, false, List, [], ◌∷◌, None, Some, length, replicate, slice_get}
+use Rattle.std.specs.Prelude.{All, ◌≡◌, ◌⊎◌, ◌+◌, ◌*◌, ◌<◌, ◌≤◌, ◌++◌, ◌==◌, ℕ, false, if◌then◌else◌, List, [], ◌∷◌, None, Some, length, replicate, slice_get}
+use Rattle.cs_disk.specs.declared.disk.PageDisk.{Ghosts as PageDisk}
 use Rattle.cs_disk.specs.Disk.{State as DiskState, Write, flushed, page, seen}
 use Rattle.cs_extent.specs.Sections.{IsSectionAt}
 use Rattle.cs_frame.specs.declared.superblocks.Superblock.{Superblock}
 use Rattle.cs_frame.specs.Geometries.{IsGeometry, section_length, section_size}
 use Rattle.cs_frame.specs.Roots.{SpellsRoot}
 use Rattle.cs_frame.specs.Superblocks.{SpellsSuperblock}
-use Rattle.law_refinement.specs.Images.{AreNewSections, graph_at}
-use Rattle.law_refinement.specs.ImageReads.{extents_at}
+use Rattle.law_refinement.specs.Images.{AreNewSections}
+use Rattle.cs_reader.specs.Loads.{graph_at}
+use Rattle.cs_extent.specs.State.{extents_at}
 use Rattle.law_machine.specs.Geometry.{most_weight_in, shape_of}
 use Rattle.cs_core.specs.Stored.{Stored}
 
@@ -66,6 +68,12 @@ pub record AreNewWritten (format extents pages sections count : ℕ) (old new : 
   pub each : (j : ℕ) → j < count
       → SpellsSuperblock (page (seen new) ((shape_of extents pages sections (section_size extents sections) format).section_page j)) format 1 0 extents pages sections j
       (replicate (section_length extents sections j) (0, 0))
+
+-- A disk takes what is written of a new store: the sections of its superblock, from this one on, and its root.
+pub record TakesNew {D : Type 0} (disks : PageDisk D) (format extents pages sections first : ℕ) (disk : D) : Type 0 where
+  pub of_section : (j : ℕ) (bytes : List ℕ) → first ≤ j → j < sections → SpellsSuperblock bytes format 1 0 extents pages sections j (replicate (section_length extents sections j) (0, 0))
+      → disks.takes disk (if j == 0 then 0 else 1 + extents * pages + j) bytes
+  pub of_root : (bytes : List ℕ) → SpellsRoot bytes format 1 0 [] → disks.takes disk 1 bytes
 
 -- A new store was written and made durable: the sections of its superblock, and its root.
 pub record IsNewOn (format extents pages sections : ℕ) (old new : DiskState) : Type 0 where

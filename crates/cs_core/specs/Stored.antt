@@ -23,7 +23,7 @@ use Rattle.law_refinement.specs.cs_reclaim.Sweeps.{IsSwept, IsSweptApart}
 use Rattle.law_refinement.specs.Rounds.{members_of as members}
 use Rattle.cs_core.specs.declared.roots.Root.{Root}
 use Rattle.cs_core.specs.Frontiers.{AreNoted}
-use Rattle.law_refinement.specs.ImageReads.{page_total}
+use Rattle.cs_reader.specs.ImageReads.{page_total}
 
 -- What a core has in memory besides its disk and its history.
 pub record Stored : Type 0 where

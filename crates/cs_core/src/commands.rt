@@ -17,7 +17,7 @@ ghost use Rattle.cs_core.specs.Writebacks.{AddsCommand, KeepsRound, KeepsStaging
 
 use crate::events::Event;
 use crate::parts::Store;
-use cs_chunk::{put_chunks_by, put_fits_by, shard_bytes};
+use cs_chunk::{put_chunks, put_fits, shard_bytes};
 use cs_extent::Extents;
 use cs_frame::{Places, ShardId};
 use cs_index::Index;
@@ -48,17 +48,15 @@ impl Store {
             return Err(why_worn(&self.extents, bytes));
         }
         self.index.reserve(1)?;
-        let apart = self.extents.is_apart();
         // A chunk's head says which command put it; these go on from those of the root that was read at open.
         let command = self.base + self.accepted + 1;
-        match put_chunks_by(
+        match put_chunks(
             self.alloc,
             &mut self.extents,
             &mut self.graph,
             id,
             command,
             bytes,
-            apart,
         ) {
             Ok(places) => {
                 enter(&mut self.index, id, places);
@@ -133,7 +131,7 @@ fn why_worn(extents: &Extents, bytes: &[u8]) -> Refusal
     requires { ¬ ((shape extents.now).most_chunks * (shape extents.now).chunk_bytes < length bytes.now) }
     ensures { IsWhyWorn extents.now bytes.now result }
 {
-    if put_fits_by(extents, bytes, extents.is_apart()) {
+    if put_fits(extents, bytes) {
         Refusal::WornOut
     } else {
         Refusal::Full

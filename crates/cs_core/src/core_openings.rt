@@ -1,32 +1,34 @@
 //! Stores that are read from their disk.
-ghost use Rattle.std.specs.Prelude.{◌≡◌, ◌+◌, ◌≤◌, ◌⊎◌, ◌↔◌, ℕ, List, IfErr, IfOk, MatchResult, length, ◌≢◌, ◌^◌, ◌<◌, [], ◌∷◌, OnOk, map};
+ghost use Rattle.std.specs.Prelude.{◌≡◌, ◌+◌, ◌≤◌, ◌⊎◌, ◌↔◌, ℕ, List, IfErr, IfOk, MatchResult, length, ◌≢◌, ◌^◌, ◌<◌, [], ◌∷◌, OnOk, map, ◌||◌};
 ghost use Rattle.cs_chunk.specs.Reads.{IsCaused, IsNoAnswer};
-ghost use Rattle.cs_disk.specs.Disk.{LeavesOnly, MayLeave, flushed, page, seen};
+ghost use Rattle.cs_disk.specs.Disk.{LeavesOnly, MayLeave, StaysSound, flushed, page, seen};
 ghost use Rattle.cs_disk.specs.Reads.{OnlyReads};
 ghost use Rattle.cs_frame.specs.Geometries.{device_pages};
 ghost use Rattle.cs_reader.specs.Heads.{IsHeadRead};
 ghost use Rattle.cs_reader.specs.Openings.{IsOpeningRefusal, IsWhyNotOpened, AreLocatedBy};
+ghost use Rattle.cs_core.specs.Openings.{AreExtentsOpened};
 ghost use Rattle.cs_core.specs.Openings.{IsStoreMade, IsLoaded};
 ghost use Rattle.std.specs.List.{AllByRecursion};
-ghost use Rattle.cs_extent.specs.State.{shape};
+ghost use Rattle.cs_extent.specs.State.{extents_at, extents_of, shape};
 ghost use Rattle.cs_frame.specs.Locators.{KeepFormat};
 ghost use Rattle.cs_frame.specs.Runs.{IsRun};
-ghost use Rattle.law_refinement.specs.Counts.{HasCount};
-ghost use Rattle.law_refinement.specs.Images.{graph_at, index_at};
-ghost use Rattle.law_refinement.specs.ImageReads.{IsLocated, extents_at};
+ghost use Rattle.cs_reader.specs.Counts.{HasCount};
+ghost use Rattle.cs_reader.specs.Loads.{graph_at, index_at};
+ghost use Rattle.cs_reader.specs.ImageReads.{IsLocated};
 ghost use Rattle.cs_index.specs.State.{newest_first};
 ghost use Rattle.law_machine.specs.Index.{entries_of, live_at, named_weight};
+ghost use Rattle.law_machine.specs.Apart.{any_run_on};
 
 use crate::parts::Store;
 use crate::roots::{Root as Noted, first_root};
 use cs_deps::Graph;
 use cs_disk::{PageDisk, refusal_of_disk};
-use cs_extent::Extents;
+use cs_extent::{Extents, Kind};
 use cs_frame::Root;
 use cs_index::{Index, StoredRun};
-use cs_reader::{Head, live_count, load_index, read_head, read_runs, ready_extents};
+use cs_reader::{Head, live_count, load_index, read_head, read_runs};
 use cs_refusal::Refusal;
-use law_refinement::reclaim::Copies;
+use law_refinement::reclaim::{Sweeps, free_blank};
 use std::alloc::Global;
 use std::collections::VecDeque;
 
@@ -79,6 +81,7 @@ pub fn flush_and_read<D: PageDisk>(alloc: Global, disk: &mut D) -> Result<Opened
     ensures honest { D.honest disk.old ↔ D.honest disk.new }
     ensures pages { D.page_count disk.new ≡ D.page_count disk.old }
     ensures cause { IsCaused (D.failure_count disk.old) (D.failure_count disk.new) result }
+    ensures sound { StaysSound D.sound D.refusal_count disk.old disk.new }
 {
     match disk.flush() {
         Ok(()) => read_store(alloc, disk),
@@ -121,6 +124,36 @@ fn load_parts(
     }
 }
 
+/// Notes on which extents these runs lie.
+fn note_runs(runs: &[StoredRun], extents: &mut Extents)
+    requires { AllByRecursion (λ run. run.place.extent < (shape extents.old).extents) runs.now }
+    ensures extents { extents_of extents.new ≡ record (extents_of extents.old) { of_runs = λ e. any_run_on (newest_first runs.now) e || (extents_of extents.old).of_runs e } }
+    ensures shape { shape extents.new ≡ shape extents.old }
+{
+    for k in 0..runs.len() {
+        let run = &runs[k];
+        extents.set_kind(usize::from(run.place.extent), Kind::Runs);
+    }
+}
+
+/// Readies extents that were read: notes on which of them runs lie, and empties the blank ones under the root, as no sweep is unfinished.
+/// In the older formats nothing is done.
+fn ready_extents(index: &Index, extents: &mut Extents, sweeps: &Sweeps, root: u64)
+    requires read { extents.old ≡ extents_at extents.old.format extents.old.pages extents.old.sections extents.old.written }
+    requires places { AllByRecursion (λ run. run.place.extent < (shape extents.old).extents) index.now.runs }
+    requires none { sweeps.now ≡ [] }
+    requires root { root < 2 ^ 63 }
+    ensures { AreExtentsOpened extents.old index.now root extents.new }
+{
+    if !extents.is_apart() {
+        return;
+    }
+    note_runs(index.runs(), extents);
+    // Called for its contract alone: what all extents keep.
+    extents.extent_count();
+    free_blank(index, extents, sweeps, root);
+}
+
 /// A store of these extents and this graph, on which nothing was staged, and of this root's runs, oldest first.
 ///
 /// Refused 43 NotAStore where a locator of an entry isn't located or the newest entries weigh more than those of one run may, and 9
@@ -155,15 +188,15 @@ pub fn load_store(
         Err(refusal) => return Err(refusal),
     };
     let live = live_count(&index);
-    let copies = Copies::none(alloc);
-    ready_extents(&index, &mut extents, &copies, root.version);
+    let sweeps = Sweeps::none(alloc);
+    ready_extents(&index, &mut extents, &sweeps, root.version);
     Ok(OpenedStore {
         store: Store {
             alloc,
             graph,
             extents,
             index,
-            copies,
+            sweeps,
             roots,
             issued: 0,
             base: root.commands,

@@ -13,7 +13,7 @@ ghost use Rattle.cs_index.specs.State.{id_number, index_of};
 ghost use Rattle.law_machine.specs.Index.{live_at};
 ghost use Rattle.cs_core.specs.Lookups.{AreMeantBytes, IsSaid, TellsSize, IsReading, IsSize};
 ghost use Rattle.cs_core.specs.Reads.{GetAnswers};
-ghost use Rattle.law_refinement.specs.ImageReads.{page_total};
+ghost use Rattle.cs_reader.specs.ImageReads.{page_total};
 ghost use Rattle.law_machine.specs.State.{State, map_now};
 ghost use Rattle.law_refinement.specs.Crashes.{IsPrefix};
 ghost use Rattle.cs_core.specs.Meanings.{commands_said};
@@ -157,7 +157,7 @@ impl<D: PageDisk> Core<D> {
     /// chunk once, from the newest write to it that waits, else from the device. It takes memory for the bytes and for the pages of a chunk.
     ///
     /// Refused 1 DeviceFault where a read failed, 20 BadMagic, 21 BadDigest, 22 BadLength, 23 BadPadding or 24 BadVersion where a chunk is
-    /// damaged, by the first test that fails, in format 3 26 Misplaced where a whole frame lies there that isn't the chunk's, and 9 OutOfMemory.
+    /// damaged, by the first test that fails, 26 Misplaced where a whole frame lies there that isn't the chunk's, and 9 OutOfMemory.
     pub fn read(&mut self, id: ShardId) -> Result<Option<Vec<u8>>, Refusal>
         ensures answer { D.honest self.old.disk → (s : State) → IsIn D.state self.old s → IsReading (map_now s (id_number id)) result }
         // Whatever the disk does, None is answered where the index has no places of the shard's chunks, and nowhere else.
@@ -181,7 +181,7 @@ impl<D: PageDisk> Core<D> {
     /// a shard with a damaged chunk may have a size here, though `read` refuses it.
     ///
     /// Refused 1 DeviceFault or 9 OutOfMemory where the disk refused a read so, and 20 BadMagic, 22 BadLength or 24 BadVersion where the header of a
-    /// chunk is damaged, by the first test that fails; in format 3 26 Misplaced where it is another frame's, or its digest is damaged.
+    /// chunk is damaged, by the first test that fails; 26 Misplaced where it is another frame's, or its digest is damaged.
     pub fn size_of(&mut self, id: ShardId) -> Result<Option<usize>, Refusal>
         ensures answer { D.honest self.old.disk → (s : State) → IsIn D.state self.old s → IsSize (map_now s (id_number id)) result }
         // Also of a damaged shard what is told is what the headers say.
@@ -214,7 +214,7 @@ impl<D: PageDisk> Core<D> {
     /// page is read. It takes memory for the pages and the payload.
     ///
     /// Refused 20 BadMagic, 21 BadDigest, 22 BadLength, 23 BadPadding or 24 BadVersion, the first test that fails, where no frame of this
-    /// kind begins there; in format 3 26 Misplaced where one does that the place doesn't mean; 1 DeviceFault where a read failed; 9 OutOfMemory.
+    /// kind begins there; 26 Misplaced where one does that the place doesn't mean; 1 DeviceFault where a read failed; 9 OutOfMemory.
     pub fn read_frame(&mut self, kind: FrameKind, place: Locator) -> Result<Vec<u8>, Refusal>
         requires extent { place.extent < (shape self.old.store.extents).extents }
         requires page { place.page < (shape self.old.store.extents).pages }
@@ -246,7 +246,7 @@ impl<D: PageDisk> Core<D> {
     /// that waits, else what the device has. Only the header's tests are made: there is a length also where digest or padding are damaged. It takes
     /// no memory itself.
     ///
-    /// Refused 20 BadMagic, 24 BadVersion or 22 BadLength, the first test that fails, where no header of this kind is there; in format 3 26
+    /// Refused 20 BadMagic, 24 BadVersion or 22 BadLength, the first test that fails, where no header of this kind is there; 26
     /// Misplaced where one is that isn't of the frame that the place means, or whose digest is damaged; 1 DeviceFault or 9 OutOfMemory where
     /// the disk refused the read so.
     pub fn read_length(&mut self, kind: FrameKind, place: Locator) -> Result<u32, Refusal>

@@ -13,11 +13,11 @@ ghost use Rattle.cs_deps.specs.Named.{IsWithin};
 ghost use Rattle.cs_deps.specs.Staging.{IsKept};
 ghost use Rattle.cs_deps.specs.State.{AreCounted, IsWhole as IsWholeGraph, everything};
 ghost use Rattle.cs_deps.specs.View.{pending_of, rounds_of};
-ghost use Rattle.cs_disk.specs.Disk.{GoesOn, Leaves, LeavesOnly, MayLeave, Rises, flushed, page, seen};
+ghost use Rattle.cs_disk.specs.Disk.{GoesOn, Leaves, LeavesOnly, MayLeave, Rises, StaysSound, flushed, page, seen};
 ghost use Rattle.cs_extent.specs.State.{IsWhole, extents_of, shape};
 ghost use Rattle.cs_frame.specs.Formats.{formats_of};
 ghost use Rattle.cs_frame.specs.Geometries.{IsGeometry, device_pages, section_size};
-ghost use Rattle.law_refinement.specs.Counts.{HasCount};
+ghost use Rattle.cs_reader.specs.Counts.{HasCount};
 ghost use Rattle.law_machine.specs.Element.{Map};
 ghost use Rattle.law_machine.specs.Geometry.{shape_of};
 ghost use Rattle.law_machine.specs.Recovery.{Recovers};
@@ -33,7 +33,7 @@ ghost use Rattle.cs_core.specs.Openings.{IsOpened};
 ghost use Rattle.cs_core.specs.Replays.{replayed};
 ghost use Rattle.cs_core.specs.Replies.{MayAnswer};
 ghost use Rattle.cs_core.specs.Unstaged.{MayStage, NothingToStage};
-ghost use Rattle.cs_core.specs.Started.{IsHeadWritten, IsNewOn, new_stored};
+ghost use Rattle.cs_core.specs.Started.{IsHeadWritten, IsNewOn, TakesNew, new_stored};
 ghost use Rattle.cs_core.specs.Views.{Applies, IsCore, IsUntouched, IsFound, IsIn, kept};
 ghost use Rattle.cs_core.specs.Writebacks.{WritesBack};
 
@@ -113,6 +113,8 @@ impl<D: PageDisk> Core<D> {
         ensures sized { OnOk result (D.page_count disk ≡ device_pages geometry.format geometry.extents geometry.pages geometry.sections) }
         ensures refusals { IfErr result (λ refused. (refused.0 ≡ Refusal.NotAStore) ⊎ (refused.0 ≡ Refusal.DeviceFault) ⊎ (refused.0 ≡ Refusal.OutOfMemory)) }
         ensures cause { IfErr result (λ refused. refused.0 ≡ Refusal.DeviceFault → Rises (D.failure_count disk) (D.failure_count refused.1)) }
+        // A disk that takes what is written of a new store refuses none of it itself.
+        ensures taken { D.honest disk → D.sound disk → TakesNew D.PageDisk geometry.format geometry.extents geometry.pages geometry.sections 0 disk → MatchResult result (λ core. D.refusal_count core.disk ≡ D.refusal_count disk) (λ refused. D.refusal_count refused.1 ≡ D.refusal_count disk) }
     {
         if disk.pages() != geometry.device_pages() {
             return Err((Refusal::NotAStore, disk));
@@ -139,10 +141,10 @@ impl<D: PageDisk> Core<D> {
     /// The disk comes back where it is refused, by the first test that fails: 43 NotAStore where there are fewer than 10
     /// pages, before the disk is asked for anything; 20 to 24 for page 0; 43 where it has another section than the first, then
     /// where the disk hasn't the superblock's pages; for each further section 20 to 24 for its page, and 43 where that has
-    /// another section, or one of another superblock; 20 to 24 for page 1; in format 3 27 RootLost where a section records a later root
+    /// another section, or one of another superblock; 20 to 24 for page 1; 27 RootLost where a section records a later root
     /// than that of page 1, since commands that were acknowledged would be missed; for each run, the oldest first, 43 where its locator
-    /// is of no frame, and 20 to 26 for its pages; 43 where a locator of an entry is of no frame, in format 3 one of the newest entry
-    /// of an identifier, or where the newest entries weigh more than those of one run may. 1 DeviceFault and 9 OutOfMemory may come in
+    /// is of no frame, and 20 to 26 for its pages; 43 where a locator of the newest entry of an identifier is of
+    /// no frame (in the older formats that of any entry), or where the newest entries weigh more than those of one run may. 1 DeviceFault and 9 OutOfMemory may come in
     /// place of any but the first. Of what was read the superblock's pointers, the root's numbers and the index are kept in memory; in
     /// format 3 extents on which nothing that counts lies are emptied there.
     pub fn open(alloc: Global, disk: D, limits: Limits) -> Result<Self, (Refusal, D)>
@@ -166,6 +168,7 @@ impl<D: PageDisk> Core<D> {
         ensures honest { MatchResult result (λ core. D.honest disk ↔ D.honest core.disk) (λ refused. D.honest disk ↔ D.honest refused.1) }
         ensures pages { MatchResult result (λ core. D.page_count core.disk ≡ D.page_count disk) (λ refused. D.page_count refused.1 ≡ D.page_count disk) }
         ensures cause { IfErr result (λ refused. refused.0 ≡ Refusal.DeviceFault → Rises (D.failure_count disk) (D.failure_count refused.1)) }
+        ensures sound { MatchResult result (λ core. StaysSound D.sound D.refusal_count disk core.disk) (λ refused. StaysSound D.sound D.refusal_count disk refused.1) }
     {
         if disk.pages() < 10 {
             return Err((Refusal::NotAStore, disk));
@@ -420,8 +423,7 @@ impl<D: PageDisk> Core<D> {
         (self.store.accepted(), self.store.frontier())
     }
 
-    /// Whether a Stage stages a root: the index has changes that aren't staged, or, where chunks and runs lie apart, a sweep that was given up
-    /// left copies.
+    /// Whether a Stage stages a root: the index has changes that aren't staged, or a sweep that was given up left copies.
     pub fn may_stage(&self) -> bool
         ensures { MatchBool result (MayStage self.now.store) (NothingToStage self.now.store) }
     {
@@ -435,8 +437,8 @@ impl<D: PageDisk> Core<D> {
         self.store.extent_count()
     }
 
-    /// Whether an extent may be swept: it is there, and neither open, empty nor being swept. Where chunks and runs lie apart it is there, isn't
-    /// empty and holds chunks, and no sweep goes on or left copies.
+    /// Whether an extent may be swept: it is there, isn't empty and holds chunks, and no sweep goes on or left copies. In
+    /// the older formats: it is there, and neither open, empty nor being swept.
     pub fn is_sweepable(&self, extent: usize) -> bool
         ensures may { IsTrue result → ¬ IsUnsweepable self.now.store extent }
         ensures not { ¬ (IsTrue result) → IsUnsweepable self.now.store extent }

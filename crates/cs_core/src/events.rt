@@ -26,26 +26,26 @@ impl<T: Drop> From<AllocFailed<T>> for OutOfMemory {
 
 /// What a core is asked. Extents are named by their numbers. Of a full history (41) and a halted core (40) `Core::apply` speaks.
 ///
-/// In format 3 chunks and runs of the index lie on extents of their own, and a sweep copies in place of moving. Where that changes
-/// what an event does or is refused, its comment says so. Over a disk that keeps to the model only a Put is refused 30 there.
+/// Chunks and runs of the index lie on extents of their own, and over a disk that keeps to the model only a Put is refused 30. The older
+/// formats differ, where chunks and runs may lie on one extent: 26 never comes. A Stage merges all that is live if four runs are there,
+/// and nothing else. BeginSweep is refused 33 only of an extent that is open, empty, being swept or not there. A chunk that is moved
+/// counts at once and stays where it was moved to, and Retire merges all that is live.
 #[derive(Debug, Drop)]
 pub enum Event {
     /// To keep these bytes under an identifier: `Accepted`. Refused 31 TooLarge, then 32 IndexFull, then 30 Full, then
-    /// 35 WornOut. In format 3 the index counts by the bytes of its entries, so 32 may come of an identifier that is there, too,
-    /// if its shard gets more chunks.
+    /// 35 WornOut. The index counts by the bytes of its entries, so 32 may come of an identifier that is there, too, if its shard
+    /// gets more chunks.
     Put(ShardId, Bytes),
     /// For the bytes of an identifier: `Found` or `Absent`. Refused 1 DeviceFault; 20 BadMagic, 21 BadDigest, 22 BadLength,
-    /// 23 BadPadding or 24 BadVersion if a chunk is damaged. In format 3 also 26 Misplaced, if a whole frame lies there that isn't
-    /// the chunk's.
+    /// 23 BadPadding or 24 BadVersion if a chunk is damaged; 26 Misplaced if a whole frame lies there that isn't the chunk's.
     Get(ShardId),
     /// To delete an identifier: `Accepted`, or `Absent` if there is nothing under it. Refused 35 WornOut.
     Delete(ShardId),
     /// To stage what the index has changed as a run, and a root over all runs: `Staged`, or `Unchanged`. The device is left alone.
     /// Refused 30 Full, then 35 WornOut.
     ///
-    /// Up to format 2 all that is live becomes one run if four runs are there already. In format 3 the run takes in as many of the
-    /// newest runs as their sizes ask for; the root also empties the extents on which nothing lives; and a root alone is staged if
-    /// only a sweep that was given up left copies.
+    /// The run takes in as many of the newest runs as their sizes ask for. The root also empties the extents on which nothing lives. A
+    /// root alone is staged if only a sweep that was given up left copies.
     Stage,
     /// To take a round of what may be written: `Begun`, or `Nothing`. Refused 5 InFlight if a round is out.
     Begin,
@@ -55,20 +55,19 @@ pub enum Event {
     /// To flush, after which the round is persistent: `Ended`. Refused 42 NoRound if no round is out or some of it is left;
     /// 1 DeviceFault halts the core.
     End,
-    /// To mark an extent as being swept: `Sweeping`. Refused 33 NotSweepable if it is empty, being swept or not there; up to format 2
-    /// also if it is open. In format 3 an open one may be swept, and 33 also comes if it holds runs, if any extent is being
-    /// swept, or if a sweep that was given up left copies.
+    /// To mark an extent as being swept: `Sweeping`. Refused 33 NotSweepable if it is empty, holds runs or isn't there, if any extent
+    /// is being swept, or if a sweep that was given up left copies.
     BeginSweep(usize),
-    /// To move the first live chunk, by identifier and then by chunk, off an extent that is being swept: `Moved`, or `NoneLive`.
-    /// In format 3 the first that isn't copied yet is copied, and counts where it lay until the Retire. Refused 33 NotSweepable
-    /// if the extent isn't being swept, 20 to 24 and 26 as a Get is, then 30 Full, then 35 WornOut; 1 DeviceFault.
+    /// To copy the first live chunk that isn't copied yet, by identifier and then by chunk, off an extent that is being swept: `Moved`,
+    /// or `NoneLive`. It counts where it lay until the Retire. Refused 33 NotSweepable if the extent isn't being swept, 20 to 24 and
+    /// 26 as a Get is, then 30 Full, then 35 WornOut; 1 DeviceFault.
     MoveOne(usize),
-    /// To end the sweep of an extent: a root is staged, and the extent is emptied under it: `Retired`. Up to format 2 all that is live is
-    /// staged as one run; in format 3 the copies count from here on, and a run and a root are staged as Stage does. Refused
-    /// 33 NotSweepable if it isn't being swept, then 34 StillLive, then 30 Full, then 35 WornOut.
+    /// To end the sweep of an extent: the copies count from here on, a run and a root are staged as Stage does, and the extent is
+    /// emptied under that root: `Retired`. Refused 33 NotSweepable if it isn't being swept, then 34 StillLive, then 30 Full, then
+    /// 35 WornOut.
     Retire(usize),
-    /// To sweep an extent no longer: `Abandoned`. Up to format 2 what was moved stays moved. In format 3 the copies never count; they
-    /// stay noted until the next root, and no other sweep begins before that. Refused 33 NotSweepable if it isn't being swept.
+    /// To sweep an extent no longer: `Abandoned`. The copies never count; they stay noted until the next root, and no other sweep begins
+    /// before that. Refused 33 NotSweepable if it isn't being swept.
     Abandon(usize),
     /// Whether a command, counted from 1 since the core was opened, is persistent: `Persistent`, or `NotYet`, also for 0.
     Settle(u64),

@@ -3,7 +3,7 @@ ghost use Rattle.std.specs.Prelude.{◌≡◌, ◌↔◌, ◌⊎◌, ◌+◌, �
 ghost use Rattle.cs_disk.specs.Disk.{HasCause, Rises, flushed, written};
 ghost use Rattle.cs_frame.specs.Geometries.{IsGeometry, device_pages, section_length};
 ghost use Rattle.cs_frame.specs.Superblocks.{SpellsSuperblock};
-ghost use Rattle.cs_core.specs.Started.{AreNew, AreNewWritten, IsHeadWritten, IsNewOn, IsNewSection, new_stored};
+ghost use Rattle.cs_core.specs.Started.{AreNew, AreNewWritten, IsHeadWritten, IsNewOn, IsNewSection, TakesNew, new_stored};
 
 use crate::parts::Store;
 use crate::roots::first_root;
@@ -13,7 +13,7 @@ use cs_frame::{Geometry, Root, Superblock, encode_root, encode_superblock};
 use cs_index::Index;
 use cs_reader::new_graph;
 use cs_refusal::Refusal;
-use law_refinement::reclaim::Copies;
+use law_refinement::reclaim::Sweeps;
 use std::alloc::{AllocError, Global};
 use std::mem;
 
@@ -84,13 +84,13 @@ fn new_store(
     let index = new_index(alloc, geometry)?;
     let extents = Extents::of(alloc, sections)?;
     let graph = new_graph(alloc, sections, 1)?;
-    let copies = Copies::none(alloc);
+    let sweeps = Sweeps::none(alloc);
     Ok(Store {
         alloc,
         graph,
         extents,
         index,
-        copies,
+        sweeps,
         roots,
         issued: 0,
         base: 0,
@@ -116,6 +116,9 @@ fn write_section<D: PageDisk>(
     ensures honest { D.honest disk.old ↔ D.honest disk.new }
     ensures pages { D.page_count disk.new ≡ D.page_count disk.old }
     ensures cause { HasCause (D.failure_count disk.old) (D.failure_count disk.new) result }
+    ensures taken { D.honest disk.old → D.sound disk.old → TakesNew D.PageDisk geometry.format geometry.extents geometry.pages geometry.sections superblock.now.section disk.old → D.refusal_count disk.new ≡ D.refusal_count disk.old }
+    ensures sound { D.sound disk.old → OnOk result (D.sound disk.new) }
+    ensures others { D.honest disk.old → OnOk result (TakesNew D.PageDisk geometry.format geometry.extents geometry.pages geometry.sections superblock.now.section disk.old → TakesNew D.PageDisk geometry.format geometry.extents geometry.pages geometry.sections (superblock.now.section + 1) disk.new) }
 {
     let number = geometry.section_page(superblock.section);
     disk.write(number, &encode_superblock(superblock))
@@ -134,6 +137,8 @@ fn write_sections<D: PageDisk>(
     ensures honest { D.honest disk.old ↔ D.honest disk.new }
     ensures pages { D.page_count disk.new ≡ D.page_count disk.old }
     ensures cause { HasCause (D.failure_count disk.old) (D.failure_count disk.new) result }
+    ensures taken { D.honest disk.old → D.sound disk.old → TakesNew D.PageDisk geometry.format geometry.extents geometry.pages geometry.sections 0 disk.old → D.refusal_count disk.new ≡ D.refusal_count disk.old }
+    ensures root { D.honest disk.old → D.sound disk.old → TakesNew D.PageDisk geometry.format geometry.extents geometry.pages geometry.sections 0 disk.old → OnOk result (D.sound disk.new × TakesNew D.PageDisk geometry.format geometry.extents geometry.pages geometry.sections geometry.sections disk.new) }
 {
     for k in 0..sections.len() {
         let section = &sections[k];
@@ -153,6 +158,7 @@ fn write_root<D: PageDisk>(disk: &mut D, root: &[u8; 4096]) -> Result<(), DiskFa
     ensures honest { D.honest disk.old ↔ D.honest disk.new }
     ensures pages { D.page_count disk.new ≡ D.page_count disk.old }
     ensures cause { HasCause (D.failure_count disk.old) (D.failure_count disk.new) result }
+    ensures taken { D.honest disk.old → D.sound disk.old → D.takes disk.old 1 root.now → D.refusal_count disk.new ≡ D.refusal_count disk.old }
 {
     disk.write(1, root)?;
     disk.flush()
@@ -172,6 +178,7 @@ fn write_heads<D: PageDisk>(
     ensures honest { D.honest disk.old ↔ D.honest disk.new }
     ensures pages { D.page_count disk.new ≡ D.page_count disk.old }
     ensures cause { HasCause (D.failure_count disk.old) (D.failure_count disk.new) result }
+    ensures taken { D.honest disk.old → D.sound disk.old → TakesNew D.PageDisk geometry.format geometry.extents geometry.pages geometry.sections 0 disk.old → D.refusal_count disk.new ≡ D.refusal_count disk.old }
 {
     let root = Root {
         format: geometry.format(),
@@ -200,6 +207,7 @@ pub fn start_store<D: PageDisk>(
     ensures pages { D.page_count disk.new ≡ D.page_count disk.old }
     ensures refusals { IfErr result (λ r. (r ≡ Refusal.DeviceFault) ⊎ (r ≡ Refusal.OutOfMemory)) }
     ensures cause { IfErr result (λ r. r ≡ Refusal.DeviceFault → Rises (D.failure_count disk.old) (D.failure_count disk.new)) }
+    ensures taken { D.honest disk.old → D.sound disk.old → TakesNew D.PageDisk geometry.format geometry.extents geometry.pages geometry.sections 0 disk.old → D.refusal_count disk.new ≡ D.refusal_count disk.old }
 {
     let sections = new_sections(alloc, geometry)?;
     let store = new_store(alloc, geometry, &sections)?;

@@ -8,7 +8,7 @@ use crate::roots::Root;
 use cs_deps::{Element, Graph, LAST_NUMBER};
 use cs_extent::Extents;
 use cs_index::Index;
-use law_refinement::reclaim::Copies;
+use law_refinement::reclaim::Sweeps;
 use std::alloc::Global;
 use std::collections::VecDeque;
 use std::marker::Model;
@@ -21,7 +21,7 @@ pub struct Store {
     pub extents: Extents,
     pub index: Index,
     /// What a sweep copied that doesn't count yet; nothing where a chunk that is moved counts at once.
-    pub copies: Copies,
+    pub sweeps: Sweeps,
     /// The newest root that is persistent, and behind it those that were staged since and wait.
     pub roots: VecDeque<Root>,
     /// How many members of the round that is out were written.
@@ -41,9 +41,9 @@ impl Model for Store {
 
     ghost Value = { Stored };
 
-    ghost view = { λ s. record { graph = s.graph; extents = s.extents; index = s.index; copies = s.copies; roots = s.roots.items; out = s.graph.round; issued = s.issued; base = s.base; accepted = s.accepted; frontier = s.frontier; halted = s.halted } };
+    ghost view = { λ s. record { graph = s.graph; extents = s.extents; index = s.index; copies = s.sweeps; roots = s.roots.items; out = s.graph.round; issued = s.issued; base = s.base; accepted = s.accepted; frontier = s.frontier; halted = s.halted } };
 
-    ghost invariant = { λ s. IsKept (record { graph = s.graph; extents = s.extents; index = s.index; copies = s.copies; roots = s.roots.items; out = s.graph.round; issued = s.issued; base = s.base; accepted = s.accepted; frontier = s.frontier; halted = s.halted }) };
+    ghost invariant = { λ s. IsKept (record { graph = s.graph; extents = s.extents; index = s.index; copies = s.sweeps; roots = s.roots.items; out = s.graph.round; issued = s.issued; base = s.base; accepted = s.accepted; frontier = s.frontier; halted = s.halted }) };
 }
 
 impl Store {

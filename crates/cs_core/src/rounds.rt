@@ -6,7 +6,7 @@ ghost use Rattle.cs_core.specs.Replies.{MayRefuse};
 ghost use Rattle.cs_core.specs.Rounds.{BeginAnswers, EndAnswers, IssueAnswers};
 ghost use Rattle.cs_core.specs.Stored.{members_of, but_for_room};
 ghost use Rattle.cs_core.specs.Writebacks.{IsMemberIssued, IsRoundBegun, IsRoundEnded, StaysRefused};
-ghost use Rattle.law_refinement.specs.ImageReads.{page_total};
+ghost use Rattle.cs_reader.specs.ImageReads.{page_total};
 ghost use Rattle.cs_extent.specs.Frames.{root_family};
 ghost use Rattle.cs_core.specs.declared.roots.Root.{Root};
 ghost use Rattle.cs_core.specs.Frontiers.{LetsGo};

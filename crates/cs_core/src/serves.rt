@@ -7,7 +7,7 @@ ghost use Rattle.cs_core.specs.Answered.{IsAnswered, IsAlone, IsForDevice};
 ghost use Rattle.cs_core.specs.Served.{IsServed};
 ghost use Rattle.cs_core.specs.Stored.{but_for_room};
 ghost use Rattle.cs_core.specs.Views.{Serves};
-ghost use Rattle.law_refinement.specs.ImageReads.{page_total};
+ghost use Rattle.cs_reader.specs.ImageReads.{page_total};
 
 use crate::contents::Elements;
 use crate::events::{Event, OutOfMemory, Reply, found, refused};

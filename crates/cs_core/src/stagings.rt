@@ -15,8 +15,7 @@ use crate::roots::Root;
 use cs_refusal::Refusal;
 
 impl Store {
-    /// Whether a Stage stages a root: the index has changes that aren't staged, or, where chunks and runs lie apart, a sweep that was given up
-    /// left copies.
+    /// Whether a Stage stages a root: the index has changes that aren't staged, or a sweep that was given up left copies.
     pub fn may_stage(&self) -> bool
         ensures { MatchBool result (MayStage self.now) (NothingToStage self.now) }
     {
@@ -30,15 +29,15 @@ impl Store {
     fn are_left_over(&self) -> bool
         ensures { result ≡ are_left_over self.now }
     {
-        self.extents.is_apart() && self.copies.are_left_over(&self.extents)
+        self.sweeps.are_left_over(&self.extents)
     }
 
     /// Stages the index's changes as a run, and the next root over all runs, and gives that root's version; None where nothing
-    /// has changed. Up to format 2, where there are four runs already, one run of all that is live takes the place of all; in format 3 the
-    /// run takes the place of as many of the newest runs as their sizes ask for, or of all where that one goes nowhere, a root alone is
-    /// staged where a sweep that was given up left copies, and under each root the extents on which nothing lives are emptied.
+    /// has changed. The run takes the place of as many of the newest runs as their sizes ask for, or of all where that one goes nowhere. A
+    /// root alone is staged where a sweep that was given up left copies. Under each root the extents on which nothing lives are emptied.
+    /// In the older formats one run of all that is live takes the place of all where there are four runs already, and nothing else is done.
     ///
-    /// Refused 30 Full where no extent takes the run (up to format 2 opening one has to leave another empty), 35 WornOut, and 9 OutOfMemory.
+    /// Refused 30 Full where no extent takes the run, 35 WornOut, and 9 OutOfMemory.
     pub fn stage(&mut self) -> Result<Option<u64>, Refusal>
         ensures step { self.old.halted ≡ false → Answers self.old Stage staged_or_not result self.new }
         ensures staged { IfOk result (λ staged. MatchOption staged ((self.old.index.table ≡ []) × (but_for_room self.new ≡ but_for_room self.old)) (λ v. self.new.index.table ≡ [])) }
@@ -51,27 +50,6 @@ impl Store {
         ensures frontier { self.new.frontier ≡ self.old.frontier }
         ensures no_fault { IfErr result (λ r. r ≢ Refusal.DeviceFault) }
     {
-        if self.extents.is_apart() {
-            self.stage_apart()
-        } else {
-            self.stage_together()
-        }
-    }
-
-    /// Stages where chunks and runs may lie on one extent.
-    fn stage_together(&mut self) -> Result<Option<u64>, Refusal>
-        requires { (shape self.old.extents).apart ≡ false }
-        ensures step { self.old.halted ≡ false → Answers self.old Stage staged_or_not result self.new }
-        ensures staged { IfOk result (λ staged. MatchOption staged ((self.old.index.table ≡ []) × (but_for_room self.new ≡ but_for_room self.old)) (λ v. self.new.index.table ≡ [])) }
-        ensures round { KeepsRound self.old self.new }
-        ensures behind { OnOk result (Stages self.old self.new) }
-        ensures meaning { OnOk result (MeansTheSame self.old.index self.new.index) }
-        ensures refused { OnErr result (but_for_room self.new ≡ but_for_room self.old) }
-        ensures refusals { IfErr result (λ r. (r ≡ Refusal.OutOfMemory) ⊎ MayRefuse Event.Stage r) }
-        ensures shape { shape self.new.extents ≡ shape self.old.extents }
-        ensures frontier { self.new.frontier ≡ self.old.frontier }
-        ensures no_fault { IfErr result (λ r. r ≢ Refusal.DeviceFault) }
-    {
         // Called for their contracts alone: what all extents and every graph keep.
         self.extents.extent_count();
         self.graph.families();
@@ -80,45 +58,7 @@ impl Store {
         }
         // The root's page counts all commands; `roots` counts those since open.
         let commands = self.base + self.accepted;
-        match self
-            .index
-            .stage(&mut self.extents, &mut self.graph, commands)
-        {
-            Ok(Some(version)) => {
-                self.roots.push_back_reserved(Root {
-                    version,
-                    commands: self.accepted,
-                });
-                Ok(Some(version))
-            }
-            Ok(None) => Ok(None),
-            Err(refusal) => Err(refusal),
-        }
-    }
-
-    /// Stages where chunks and runs lie apart.
-    fn stage_apart(&mut self) -> Result<Option<u64>, Refusal>
-        requires { (shape self.old.extents).apart ≡ true }
-        ensures step { self.old.halted ≡ false → Answers self.old Stage staged_or_not result self.new }
-        ensures staged { IfOk result (λ staged. MatchOption staged ((self.old.index.table ≡ []) × (but_for_room self.new ≡ but_for_room self.old)) (λ v. self.new.index.table ≡ [])) }
-        ensures round { KeepsRound self.old self.new }
-        ensures behind { OnOk result (Stages self.old self.new) }
-        ensures meaning { OnOk result (MeansTheSame self.old.index self.new.index) }
-        ensures refused { OnErr result (but_for_room self.new ≡ but_for_room self.old) }
-        ensures refusals { IfErr result (λ r. (r ≡ Refusal.OutOfMemory) ⊎ MayRefuse Event.Stage r) }
-        ensures shape { shape self.new.extents ≡ shape self.old.extents }
-        ensures frontier { self.new.frontier ≡ self.old.frontier }
-        ensures no_fault { IfErr result (λ r. r ≢ Refusal.DeviceFault) }
-    {
-        // Called for their contracts alone: what all extents and every graph keep.
-        self.extents.extent_count();
-        self.graph.families();
-        if self.roots.reserve(1).is_err() {
-            return Err(Refusal::OutOfMemory);
-        }
-        // The root's page counts all commands; `roots` counts those since open.
-        let commands = self.base + self.accepted;
-        match self.copies.stage(
+        match self.sweeps.stage(
             &mut self.index,
             &mut self.extents,
             &mut self.graph,

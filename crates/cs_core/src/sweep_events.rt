@@ -1,6 +1,6 @@
 //! Sweeps: an extent is marked, what lives on it goes elsewhere chunk by chunk, and it is emptied or given up.
-ghost use Rattle.std.specs.Prelude.{◌≡◌, ◌≢◌, ◌⊎◌, IfErr, IsTrue, OnErr, OnOk, false, true, None, []};
-ghost use Rattle.cs_extent.specs.State.{shape};
+ghost use Rattle.std.specs.Prelude.{◌≡◌, ◌≢◌, ◌⊎◌, ◌<◌, ◌≤◌, IfErr, IsTrue, MatchBool, OnErr, OnOk, false, true, None, []};
+ghost use Rattle.cs_extent.specs.State.{extents_of, shape};
 ghost use Rattle.law_machine.specs.State.{Abandon, Abandoned, BeginSweep, Sweeping, Retire, Retired};
 ghost use Rattle.cs_core.specs.Puts.{MeansTheSame};
 ghost use Rattle.cs_core.specs.Replies.{MayRefuse};
@@ -11,40 +11,21 @@ ghost use Rattle.cs_core.specs.Writebacks.{KeepsRound, KeepsStaging, Stages};
 ghost use Rattle.cs_chunk.specs.Reads.{IsCaused};
 ghost use Rattle.cs_disk.specs.Reads.{OnlyReads};
 ghost use Rattle.cs_core.specs.Reads.{MoveAnswers};
-ghost use Rattle.law_refinement.specs.ImageReads.{page_total};
+ghost use Rattle.cs_reader.specs.ImageReads.{page_total};
 
 use crate::events::Event;
 use crate::parts::Store;
 use crate::roots::Root;
 use cs_disk::PageDisk;
+use cs_extent::Extents;
 use cs_frame::ShardId;
 use cs_refusal::Refusal;
-use law_refinement::reclaim::{Sweep, is_sweepable};
+use law_refinement::reclaim::Sweep;
 
 impl Store {
-    /// Marks an extent as being swept. Refused 33 NotSweepable where it is open, empty or being swept, or isn't there; where chunks and runs
-    /// lie apart, where it is empty or holds runs, isn't there, or a sweep goes on or left copies.
+    /// Marks an extent as being swept. Refused 33 NotSweepable where it is empty or holds runs, isn't there, or a sweep goes on or left
+    /// copies. In the older formats: where it is open, empty or being swept, or isn't there.
     pub fn begin_sweep(&mut self, extent: usize) -> Result<(), Refusal>
-        ensures step { self.old.halted ≡ false → Answers self.old (BeginSweep extent) (λ _. Sweeping) result self.new }
-        ensures round { KeepsRound self.old self.new }
-        ensures staging { KeepsStaging self.old self.new }
-        ensures meaning { OnOk result (MeansTheSame self.old.index self.new.index) }
-        ensures refused { OnErr result (but_for_room self.new ≡ but_for_room self.old) }
-        ensures refusals { IfErr result (λ r. (r ≡ Refusal.OutOfMemory) ⊎ MayRefuse (Event.BeginSweep extent) r) }
-        ensures shape { shape self.new.extents ≡ shape self.old.extents }
-        ensures frontier { self.new.frontier ≡ self.old.frontier }
-        ensures no_fault { IfErr result (λ r. r ≢ Refusal.DeviceFault) }
-    {
-        if self.extents.is_apart() {
-            self.begin_sweep_apart(extent)
-        } else {
-            self.begin_sweep_together(extent)
-        }
-    }
-
-    /// Marks it where chunks and runs may lie on one extent.
-    fn begin_sweep_together(&mut self, extent: usize) -> Result<(), Refusal>
-        requires { (shape self.old.extents).apart ≡ false }
         ensures step { self.old.halted ≡ false → Answers self.old (BeginSweep extent) (λ _. Sweeping) result self.new }
         ensures round { KeepsRound self.old self.new }
         ensures staging { KeepsStaging self.old self.new }
@@ -58,29 +39,7 @@ impl Store {
         // Called for its contract alone: what all extents keep.
         self.extents.extent_count();
         // The mark stays; `Sweep::resume` finds the sweep again by it.
-        match Sweep::begin(&mut self.extents, extent) {
-            Ok(_) => {}
-            Err(refusal) => return Err(refusal),
-        }
-        Ok(())
-    }
-
-    /// Marks it where chunks and runs lie apart.
-    fn begin_sweep_apart(&mut self, extent: usize) -> Result<(), Refusal>
-        requires { (shape self.old.extents).apart ≡ true }
-        ensures step { self.old.halted ≡ false → Answers self.old (BeginSweep extent) (λ _. Sweeping) result self.new }
-        ensures round { KeepsRound self.old self.new }
-        ensures staging { KeepsStaging self.old self.new }
-        ensures meaning { OnOk result (MeansTheSame self.old.index self.new.index) }
-        ensures refused { OnErr result (but_for_room self.new ≡ but_for_room self.old) }
-        ensures refusals { IfErr result (λ r. (r ≡ Refusal.OutOfMemory) ⊎ MayRefuse (Event.BeginSweep extent) r) }
-        ensures shape { shape self.new.extents ≡ shape self.old.extents }
-        ensures frontier { self.new.frontier ≡ self.old.frontier }
-        ensures no_fault { IfErr result (λ r. r ≢ Refusal.DeviceFault) }
-    {
-        // Called for its contract alone: what all extents keep.
-        self.extents.extent_count();
-        self.copies.begin(&mut self.extents, extent)
+        self.sweeps.begin(&mut self.extents, extent)
     }
 
     /// Sweeps an extent no longer. Refused 33 NotSweepable where it isn't being swept.
@@ -109,17 +68,13 @@ impl Store {
         ensures may { IsTrue result → ¬ IsUnsweepable self.now extent }
         ensures not { ¬ (IsTrue result) → IsUnsweepable self.now extent }
     {
-        if self.extents.is_apart() {
-            self.copies.may_begin(&self.extents, extent)
-        } else {
-            is_sweepable(&self.extents, extent)
-        }
+        self.sweeps.may_begin(&self.extents, extent)
     }
 }
 
 impl Store {
-    /// Moves the first live chunk off an extent that is being swept, and tells which it was; None where none is live. Where chunks and runs
-    /// lie apart it copies the first one that isn't copied, which counts where it lay until the extent is retired; None where all are.
+    /// Copies the first live chunk that isn't copied off an extent that is being swept, and tells which it was; None where all are. It counts
+    /// where it lay until the extent is retired. In the older formats it counts at once where it was moved to, and None tells that none is live.
     ///
     /// Refused 33 NotSweepable where it isn't being swept, 1 DeviceFault, 20 to 24 where the chunk is damaged, 26 where
     /// another frame lies at its place, 30 Full, 35 WornOut, and 9 OutOfMemory.
@@ -141,78 +96,16 @@ impl Store {
         ensures disk { OnlyReads D.PageDisk disk.old disk.new }
         ensures cause { IsCaused (D.failure_count disk.old) (D.failure_count disk.new) result }
     {
-        if self.extents.is_apart() {
-            self.move_apart(disk, extent)
-        } else {
-            self.move_together(disk, extent)
-        }
-    }
-
-    /// Moves it where chunks and runs may lie on one extent.
-    fn move_together<D: PageDisk>(
-        &mut self,
-        disk: &mut D,
-        extent: usize,
-    ) -> Result<Option<(ShardId, usize)>, Refusal>
-        requires rule { (shape self.old.extents).apart ≡ false }
-        requires device { page_total (shape self.old.extents) ≡ D.page_count disk.old }
-        ensures none { result ≡ Ok None → but_for_room self.new ≡ but_for_room self.old }
-        ensures step { self.old.halted ≡ false → D.honest disk.old → MoveAnswers self.old (D.state disk.old) extent result self.new }
-        ensures round { KeepsRound self.old self.new }
-        ensures behind { OnOk result (Stages self.old self.new) }
-        ensures meaning { OnOk result (MeansTheSame self.old.index self.new.index) }
-        ensures refused { OnErr result (but_for_room self.new ≡ but_for_room self.old) }
-        ensures refusals { IfErr result (λ r. (r ≡ Refusal.OutOfMemory) ⊎ MayRefuse (Event.MoveOne extent) r) }
-        ensures shape { shape self.new.extents ≡ shape self.old.extents }
-        ensures frontier { self.new.frontier ≡ self.old.frontier }
-        ensures disk { OnlyReads D.PageDisk disk.old disk.new }
-        ensures cause { IsCaused (D.failure_count disk.old) (D.failure_count disk.new) result }
-    {
         // Called for their contracts alone: what all extents and every graph keep.
         self.extents.extent_count();
         self.graph.families();
-        let Some(sweep) = Sweep::resume(&self.extents, extent) else {
-            return Err(Refusal::NotSweepable);
-        };
-        sweep.move_one(
-            self.alloc,
-            &mut self.index,
-            &mut self.extents,
-            &mut self.graph,
-            disk,
-        )
-    }
-
-    /// Copies it where chunks and runs lie apart.
-    fn move_apart<D: PageDisk>(
-        &mut self,
-        disk: &mut D,
-        extent: usize,
-    ) -> Result<Option<(ShardId, usize)>, Refusal>
-        requires rule { (shape self.old.extents).apart ≡ true }
-        requires device { page_total (shape self.old.extents) ≡ D.page_count disk.old }
-        ensures none { result ≡ Ok None → but_for_room self.new ≡ but_for_room self.old }
-        ensures step { self.old.halted ≡ false → D.honest disk.old → MoveAnswers self.old (D.state disk.old) extent result self.new }
-        ensures round { KeepsRound self.old self.new }
-        ensures behind { OnOk result (Stages self.old self.new) }
-        ensures meaning { OnOk result (MeansTheSame self.old.index self.new.index) }
-        ensures refused { OnErr result (but_for_room self.new ≡ but_for_room self.old) }
-        ensures refusals { IfErr result (λ r. (r ≡ Refusal.OutOfMemory) ⊎ MayRefuse (Event.MoveOne extent) r) }
-        ensures shape { shape self.new.extents ≡ shape self.old.extents }
-        ensures frontier { self.new.frontier ≡ self.old.frontier }
-        ensures disk { OnlyReads D.PageDisk disk.old disk.new }
-        ensures cause { IsCaused (D.failure_count disk.old) (D.failure_count disk.new) result }
-    {
-        // Called for their contracts alone: what all extents and every graph keep.
-        self.extents.extent_count();
-        self.graph.families();
-        if Sweep::resume(&self.extents, extent).is_none() {
+        if !is_swept(&self.extents, extent) {
             return Err(Refusal::NotSweepable);
         }
-        self.copies.copy_one(
+        self.sweeps.move_one(
             self.alloc,
             extent,
-            &self.index,
+            &mut self.index,
             &mut self.extents,
             &mut self.graph,
             disk,
@@ -221,8 +114,8 @@ impl Store {
 }
 
 impl Store {
-    /// Stages one run of all that is live and the root over it, and empties an extent that is being swept; where chunks and runs lie apart
-    /// what was copied counts, and a root is staged as `stage` does. Gives the root's version.
+    /// What was copied counts, a root is staged as `stage` does, and an extent that is being swept is emptied under it. In the older formats one
+    /// run of all that is live is staged, and the root over it. Gives the root's version.
     ///
     /// Refused 33 NotSweepable where it isn't being swept, 34 StillLive, 30 Full, 35 WornOut, and 9 OutOfMemory.
     pub fn retire(&mut self, extent: usize) -> Result<u64, Refusal>
@@ -237,79 +130,17 @@ impl Store {
         ensures frontier { self.new.frontier ≡ self.old.frontier }
         ensures no_fault { IfErr result (λ r. r ≢ Refusal.DeviceFault) }
     {
-        if self.extents.is_apart() {
-            self.retire_apart(extent)
-        } else {
-            self.retire_together(extent)
-        }
-    }
-
-    /// Retires it where chunks and runs may lie on one extent.
-    fn retire_together(&mut self, extent: usize) -> Result<u64, Refusal>
-        requires { (shape self.old.extents).apart ≡ false }
-        ensures staged { OnOk result (self.new.index.table ≡ []) }
-        ensures step { self.old.halted ≡ false → Answers self.old (Retire extent) (λ v. Retired v) result self.new }
-        ensures round { KeepsRound self.old self.new }
-        ensures behind { OnOk result (Stages self.old self.new) }
-        ensures meaning { OnOk result (MeansTheSame self.old.index self.new.index) }
-        ensures refused { OnErr result (but_for_room self.new ≡ but_for_room self.old) }
-        ensures refusals { IfErr result (λ r. (r ≡ Refusal.OutOfMemory) ⊎ MayRefuse (Event.Retire extent) r) }
-        ensures shape { shape self.new.extents ≡ shape self.old.extents }
-        ensures frontier { self.new.frontier ≡ self.old.frontier }
-        ensures no_fault { IfErr result (λ r. r ≢ Refusal.DeviceFault) }
-    {
         // Called for their contracts alone: what all extents and every graph keep.
         self.extents.extent_count();
         self.graph.families();
-        let Some(sweep) = Sweep::resume(&self.extents, extent) else {
-            return Err(Refusal::NotSweepable);
-        };
-        if self.roots.reserve(1).is_err() {
-            return Err(Refusal::OutOfMemory);
-        }
-        let commands = self.base + self.accepted;
-        match sweep.retire(
-            &mut self.index,
-            &mut self.extents,
-            &mut self.graph,
-            commands,
-        ) {
-            Ok(version) => {
-                self.roots.push_back_reserved(Root {
-                    version,
-                    commands: self.accepted,
-                });
-                Ok(version)
-            }
-            Err((refusal, _sweep)) => Err(refusal),
-        }
-    }
-
-    /// Retires it where chunks and runs lie apart.
-    fn retire_apart(&mut self, extent: usize) -> Result<u64, Refusal>
-        requires { (shape self.old.extents).apart ≡ true }
-        ensures staged { OnOk result (self.new.index.table ≡ []) }
-        ensures step { self.old.halted ≡ false → Answers self.old (Retire extent) (λ v. Retired v) result self.new }
-        ensures round { KeepsRound self.old self.new }
-        ensures behind { OnOk result (Stages self.old self.new) }
-        ensures meaning { OnOk result (MeansTheSame self.old.index self.new.index) }
-        ensures refused { OnErr result (but_for_room self.new ≡ but_for_room self.old) }
-        ensures refusals { IfErr result (λ r. (r ≡ Refusal.OutOfMemory) ⊎ MayRefuse (Event.Retire extent) r) }
-        ensures shape { shape self.new.extents ≡ shape self.old.extents }
-        ensures frontier { self.new.frontier ≡ self.old.frontier }
-        ensures no_fault { IfErr result (λ r. r ≢ Refusal.DeviceFault) }
-    {
-        // Called for their contracts alone: what all extents and every graph keep.
-        self.extents.extent_count();
-        self.graph.families();
-        if Sweep::resume(&self.extents, extent).is_none() {
+        if !is_swept(&self.extents, extent) {
             return Err(Refusal::NotSweepable);
         }
         if self.roots.reserve(1).is_err() {
             return Err(Refusal::OutOfMemory);
         }
         let commands = self.base + self.accepted;
-        match self.copies.retire(
+        match self.sweeps.retire(
             extent,
             &mut self.index,
             &mut self.extents,
@@ -326,4 +157,11 @@ impl Store {
             Err(refusal) => Err(refusal),
         }
     }
+}
+
+/// Whether an extent is being swept.
+fn is_swept(extents: &Extents, extent: usize) -> bool
+    ensures { MatchBool result ((extent < (shape extents.now).extents) × ((extents_of extents.now).swept extent ≡ true)) (((shape extents.now).extents ≤ extent) ⊎ ((extents_of extents.now).swept extent ≡ false)) }
+{
+    Sweep::resume(extents, extent).is_some()
 }

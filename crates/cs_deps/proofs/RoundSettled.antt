@@ -3,7 +3,7 @@ use Rattle.std.proofs.Common.{◌≡◌, ◌∙◌, ◌≢◌, ◌+◌, ◌<◌,
 use Rattle.std.specs.Prelude.{filter, vec_len, vec_capacity, Contains}
 use Rattle.slab.specs.Slab.{Slab, get, HasRoomFor}
 use Rattle.cs_deps.specs.contracts.graphs.Graph.{the_view, the_invariant}
-use Rattle.cs_deps.specs.declared.backlogs.Backlog.{Backlog}
+use Rattle.cs_deps.specs.declared.records.Backlog.{Backlog}
 use Rattle.cs_deps.specs.declared.elements.Element.{Element}
 use Rattle.cs_deps.specs.declared.elements.Element.TheVariants.{Plain}
 use Rattle.cs_deps.specs.declared.graphs.Graph.TheInside.{Inside}

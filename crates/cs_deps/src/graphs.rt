@@ -1,27 +1,24 @@
 //! The graph of what was staged.
-ghost use Rattle.std.specs.Prelude.{◌≡◌, ◌≢◌, ℕ, ◌+◌, ◌^◌, ◌≤◌, ◌<◌, ◌⊎◌, ◌↔◌, [], IfOk, IfErr, OnOk, OnErr, IsOk, IsSome, IfSome, IsNone, IsTrue, ◌-◌, MatchOption, All, map, length, slice_index, option_map, option_copied, Some, None};
+ghost use Rattle.std.specs.Prelude.{◌≡◌, ℕ, ◌+◌, ◌^◌, ◌≤◌, ◌<◌, ◌⊎◌, ◌↔◌, [], IfOk, IfErr, OnOk, OnErr, IsOk, IsSome, IsTrue, ◌-◌, MatchOption, All, map, length, slice_index, option_map, option_copied, Some, None};
 ghost use Rattle.cs_deps.specs.declared.elements.Element.{Element as Item};
 ghost use Rattle.cs_deps.specs.Named.{Names, NamesFamily, IsNumbered, IsWithin, StandsFor};
 ghost use Rattle.cs_deps.specs.Staging.{IsSatisfied, staged_after, IsVersionStaged, IsKept, settled};
 ghost use Rattle.cs_deps.specs.View.{pending_of};
-ghost use Rattle.cs_deps.specs.Chain.{IsHeight};
-ghost use Rattle.cs_deps.specs.Pending.{Waits, WaitsAt, Needs, IsPersistent};
+ghost use Rattle.cs_deps.specs.Pending.{Waits, WaitsAt, IsPersistent};
 ghost use Rattle.cs_deps.specs.Wanted.{AreWanted};
 ghost use Rattle.cs_deps.specs.State.{State, write_of, after, everything, IsNewestOn, IsOut, IsQueue, IsWhole, KeepsBytes, AddsOnly, AddsNone, AreCounted, NoneOn};
 
-use crate::backlogs::Backlog;
+mod heights;
+
 use crate::cleaning::{clean, count_ended, raise_floors};
 use crate::dependencies::Dependency;
 use crate::elements::{Element, LAST_NUMBER};
 use crate::levels::Levels;
-use crate::pages::{note, noted};
-use crate::records::{Record, clear, give_up, make_room, record_of};
+use crate::records::{Backlog, Record, clear, give_up, make_room, note, noted, record_of};
 use crate::rounds::raise_all;
-use crate::rows::{add_plains, add_versions};
 use crate::views::GraphView;
 use crate::waiting::{copy_all, elements_of, needs_of};
-use crate::wanted::Wanted;
-use crate::wanting::wanted_of;
+use crate::wanted::{Wanted, wanted_of};
 use cs_refusal::Refusal;
 use slab::Slab;
 use std::alloc::{AllocError, Global};
@@ -180,6 +177,31 @@ impl Graph {
         }
     }
 
+    /// The last version of a family, where the next one may be staged with these needs.
+    fn last_before(&self, family: usize, needs: &Dependency) -> Result<u64, Refusal>
+        requires { family < length self.now.staging.latest }
+        ensures last { IfOk result (λ last. last ≡ slice_index self.now.staging.latest family) }
+        ensures more { IfOk result (λ last. last + 1 < 2 ^ 63) }
+        ensures within { OnOk result (IsWithin needs.now self.now.staging.staged self.now.staging.latest) }
+        ensures others { OnOk result (¬ NamesFamily needs.now family) }
+        ensures unknown { (result ≡ Err Refusal.UnknownNeed) ↔ ¬ IsWithin needs.now self.now.staging.staged self.now.staging.latest }
+        ensures own { (result ≡ Err Refusal.OwnFamily) ↔ (IsWithin needs.now self.now.staging.staged self.now.staging.latest × NamesFamily needs.now family) }
+        ensures worn { (result ≡ Err Refusal.WornOut) ↔ (IsWithin needs.now self.now.staging.staged self.now.staging.latest × (¬ NamesFamily needs.now family) × (2 ^ 63 ≤ slice_index self.now.staging.latest family + 1)) }
+        ensures refusals { IfErr result (λ r. (r ≡ Refusal.UnknownNeed) ⊎ (r ≡ Refusal.OwnFamily) ⊎ (r ≡ Refusal.WornOut)) }
+    {
+        if !self.is_staged(needs) {
+            return Err(Refusal::UnknownNeed);
+        }
+        if needs.names_family(family) {
+            return Err(Refusal::OwnFamily);
+        }
+        let last = self.latest[family];
+        if last >= LAST_NUMBER {
+            return Err(Refusal::WornOut);
+        }
+        Ok(last)
+    }
+
     /// Stages the next version of a family with these needs and those of the version before it, and answers its number.
     /// It waits.
     ///
@@ -207,19 +229,7 @@ impl Graph {
         ensures memory { 0 < self.old.room → ¬ (result ≡ Err Refusal.OutOfMemory) }
         ensures room { self.old.room ≤ self.new.room + 1 }
     {
-        if !self.is_staged(&needs) {
-            mem::drop(needs);
-            return Err(Refusal::UnknownNeed);
-        }
-        if needs.names_family(family) {
-            mem::drop(needs);
-            return Err(Refusal::OwnFamily);
-        }
-        let before = self.latest[family];
-        if before >= LAST_NUMBER {
-            mem::drop(needs);
-            return Err(Refusal::WornOut);
-        }
+        let before = self.last_before(family, &needs)?;
         match make_room(
             &mut self.entries,
             &mut self.records,
@@ -403,63 +413,6 @@ impl Graph {
         }
     }
 
-    /// The waiting plain writes of a height, by number, then of each family the greatest version of that height. The work is that of
-    /// listing them.
-    pub fn queue(&self, height: u64) -> Result<Vec<Element>, AllocError>
-        requires none { self.now.round ≡ None }
-        requires height { 1 ≤ height }
-        ensures { IfOk result (λ xs. IsQueue self.now.staging.pending height xs.items) }
-    {
-        let alloc = *self.persistent.allocator();
-        let mut queue = Vec::new(alloc);
-        if (self.levels.rows.len() as u64) < height {
-            return Ok(queue);
-        }
-        let row = self.levels.rows[(height - 1) as usize];
-        let level = self.levels.ended + height;
-        add_plains(&mut queue, &self.levels, level, row.first, self.staged)?;
-        add_versions(&mut queue, &row.versions)?;
-        Ok(queue)
-    }
-
-    /// The height of a waiting element, and a need of it that is one lower, None where the height is 1. It takes no memory and
-    /// seeks nothing.
-    pub fn kept(&self, element: Element) -> (u64, Option<Element>)
-        requires none { self.now.round ≡ None }
-        requires waits { Waits self.now.staging.pending element }
-        ensures height { IsHeight self.now.staging.pending element result.0 }
-        ensures before { IfSome result.1 (λ p. Needs self.now.staging.pending element p × IsHeight self.now.staging.pending p (result.0 - 1)) }
-        ensures first { IsNone result.1 ↔ (result.0 ≡ 1) }
-    {
-        match self.levels.kept(element) {
-            Some(kept) => {
-                let height = kept.level - self.levels.ended;
-                (height, if height == 1 { None } else { kept.before })
-            }
-            None => (1, None),
-        }
-    }
-
-    /// Whether an element waits. It takes no memory and seeks nothing.
-    pub fn waits(&self, element: Element) -> bool
-        requires none { self.now.round ≡ None }
-        ensures { IsTrue result ↔ Waits self.now.staging.pending element }
-    {
-        match self.levels.kept(element) {
-            Some(kept) => self.levels.ended < kept.level,
-            None => false,
-        }
-    }
-
-    /// The greatest height of what waits, 0 where nothing does.
-    pub fn depth(&self) -> usize
-        requires none { self.now.round ≡ None }
-        ensures all { (x : Item) (n : ℕ) → IsHeight self.now.staging.pending x n → n ≤ result }
-        ensures reached { 0 < result → (x : Item) × IsHeight self.now.staging.pending x result }
-    {
-        self.levels.rows.len()
-    }
-
     /// How many families there are, 1 to 16.
     pub fn families(&self) -> usize
         ensures count { result ≡ length self.now.staging.latest }
@@ -497,13 +450,6 @@ impl Graph {
         ensures { IsTrue result ↔ IsSome self.now.round }
     {
         self.round.is_some()
-    }
-
-    /// Whether something waits. It takes no memory.
-    pub fn has_waiting(&self) -> bool
-        ensures { IsTrue result ↔ (self.now.staging.pending.waiting ≢ []) }
-    {
-        !self.levels.rows.is_empty()
     }
 
     /// The members of the round that is out, in its order, None where none is. It takes no memory.

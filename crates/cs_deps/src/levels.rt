@@ -7,12 +7,12 @@ ghost use Rattle.cs_deps.specs.Trimmed.{IsTrimmed};
 ghost use Rattle.cs_deps.specs.Named.{IsInSpan, IsInSpans};
 ghost use Rattle.cs_deps.specs.Levels.{kept_by, top_of, family_at, level_by, row_at, IsBest, HasRoom, keyed, next_version, IsPlainPushed, IsVersionPushed, IsNew, IsSameBut, IsLevelsSettled};
 
+use crate::cleaning::{trim_each, trim_list};
 use crate::dependencies::{Dependency, version_at};
 use crate::elements::Element;
 use crate::keeps::{kept_at, keyed, level_at, link, next_plain, next_version};
 use crate::rows::{widen, with_plain, with_version};
 use crate::spans::Span;
-use crate::trimming::{trim_each, trim_list};
 use std::alloc::{AllocError, Global};
 use std::collections::VecDeque;
 
@@ -101,8 +101,7 @@ fn no_versions(alloc: Global, families: usize) -> Result<Vec<VecDeque<Kept>>, Al
     ensures empty { IfOk result (λ qs. (f : ℕ) → family_at qs.items f ≡ []) }
 {
     let mut versions = Vec::new(alloc);
-    for family in 0..families {
-        let _family = family;
+    for _ in 0..families {
         versions.push(VecDeque::new(alloc))?;
     }
     Ok(versions)

@@ -1,7 +1,6 @@
 //! Page writes that wait, what each of them needs, and the rounds in which they become persistent.
 #![tactic(auto)]
 
-mod backlogs;
 mod cleaning;
 mod dependencies;
 mod elements;
@@ -10,17 +9,13 @@ mod graphs;
 mod keeps;
 mod levels;
 mod needs;
-mod pages;
 mod records;
 mod rounds;
 mod rows;
 mod spans;
-mod spent;
-mod trimming;
 mod views;
 mod waiting;
 mod wanted;
-mod wanting;
 
 pub use dependencies::Dependency;
 pub use elements::{Element, LAST_NUMBER};

@@ -1,19 +1,21 @@
-//! The page writes that are kept, and room for more.
-ghost use Rattle.std.specs.Prelude.{◌≡◌, ◌≢◌, ℕ, ◌+◌, ◌≤◌, ◌<◌, Contains, nat_eq, IfOk, IfSome, IsOk, max, Some, None, vec_len, vec_capacity};
+//! What is kept of what was staged: the page writes, the newest to each page, and each element with its own needs.
+ghost use Rattle.std.specs.Prelude.{◌≡◌, ◌≢◌, ℕ, ◌+◌, ◌≤◌, ◌<◌, Contains, nat_eq, IfOk, IfSome, IsOk, max, Some, None, vec_len, vec_capacity, ◌==◌, ◌↔◌, if◌then◌else◌, IsSome, IsTrue, [], ◌∷◌, ◌++◌, MatchOption, OnOk, slice_get};
 ghost use Rattle.std.specs.HashMap.{get as get_number, spare};
-ghost use Rattle.cs_deps.specs.Newest.{AreKeyed, AreNewest};
-ghost use Rattle.slab.specs.Slab.{get, slab_len, HasRoomFor};
+ghost use Rattle.cs_deps.specs.Newest.{AreKeyed, AreNewest, IsPut, IsLastUpTo, IsGivenUp, number_or_none};
+ghost use Rattle.slab.specs.Slab.{get, slab_len, HasRoomFor, Slab as SlabOf};
 ghost use Rattle.cs_deps.specs.declared.elements.Element.{Element as Item};
 ghost use Rattle.cs_deps.specs.declared.levels.Kept.{Kept as KeptOf};
 ghost use Rattle.cs_deps.specs.declared.records.Record.{Record as RecordOf};
 ghost use Rattle.cs_deps.specs.Levels.{kept_by, HasRoom, IsSameBut};
+ghost use Rattle.cs_deps.specs.Named.{Named};
+ghost use Rattle.cs_deps.specs.State.{IsListed};
 
-use crate::backlogs::Backlog;
+use crate::dependencies::Dependency;
 use crate::elements::Element;
 use crate::levels::{Kept, Levels};
-use crate::pages::lower;
+use crate::needs::Needs;
 use slab::Slab;
-use std::alloc::AllocError;
+use std::alloc::{AllocError, Global};
 use std::collections::HashMap;
 
 /// An element's page write.
@@ -146,4 +148,195 @@ pub fn make_room(
     records.reserve(stagings)?;
     newest.reserve(stagings)?;
     Ok(room.max(stagings))
+}
+
+/// The number that is noted for a page, 0 where none is.
+pub fn noted(newest: &HashMap<u64, u64>, page: u64) -> u64
+    ensures { result ≡ number_or_none (get_number nat_eq newest.now page) }
+{
+    match newest.get(&page) {
+        Some(number) => *number,
+        None => 0,
+    }
+}
+
+/// Notes a number for a page.
+pub fn note(newest: &mut HashMap<u64, u64>, page: u64, number: u64)
+    requires { 0 < spare newest.old }
+    ensures numbers { (q : ℕ) → get_number nat_eq newest.new q ≡ (if page == q then Some number else get_number nat_eq newest.old q) }
+    ensures spare { spare newest.old ≤ spare newest.new + 1 }
+{
+    // There is room, so nothing is refused.
+    match newest.insert(page, number) {
+        Ok(_) => {}
+        Err(_) => {}
+    }
+}
+
+/// Notes another number for a page that has one, or none. It takes no memory.
+fn change(newest: &mut HashMap<u64, u64>, page: u64, found: Option<u64>)
+    requires { IsSome (get_number nat_eq newest.old page) }
+    ensures numbers { (q : ℕ) → get_number nat_eq newest.new q ≡ (if page == q then found else get_number nat_eq newest.old q) }
+    ensures spare { spare newest.old ≤ spare newest.new }
+{
+    match found {
+        Some(number) => if let Some(place) = newest.get_mut(&page) {
+            *place = number;
+        },
+        None => {
+            newest.remove(&page);
+        }
+    }
+}
+
+/// Whether this number is noted for a page.
+fn is_noted(newest: &HashMap<u64, u64>, page: u64, number: u64) -> bool
+    ensures { IsTrue result ↔ (get_number nat_eq newest.now page ≡ Some number) }
+{
+    match newest.get(&page) {
+        Some(last) => *last == number,
+        None => false,
+    }
+}
+
+/// Whether this plain write has a record, and goes to this page.
+fn is_put(records: &Slab<Record>, levels: &Levels, page: u64, number: u64) -> bool
+    requires keyed { AreKeyed levels.now records.now }
+    ensures { IsTrue result ↔ IsPut records.now page number }
+{
+    let element = Element::Plain(number);
+    match record_of(records, levels.kept(element), element) {
+        Some(record) => record.page == page,
+        None => false,
+    }
+}
+
+/// The greatest number up to this one of a plain write to a page of which a record is kept. It goes down the numbers to it.
+fn last_up_to(records: &Slab<Record>, levels: &Levels, page: u64, last: u64) -> Option<u64>
+    requires keyed { AreKeyed levels.now records.now }
+    ensures { IsLastUpTo records.now page last result }
+{
+    let mut number = last;
+    while number > levels.dropped {
+        if is_put(records, levels, page, number) {
+            return Some(number);
+        }
+        number -= 1;
+    }
+    None
+}
+
+/// Where a record was given up that was the newest to its page, notes the one before it. It takes no memory.
+pub fn lower(newest: &mut HashMap<u64, u64>, records: &Slab<Record>, levels: &Levels, gone: &Record)
+    requires keyed { AreKeyed levels.now records.now }
+    ensures newest { (old : SlabOf RecordOf) (key : ℕ) → AreKeyed levels.now old → AreNewest old (get_number nat_eq newest.old) → IsGivenUp old records.now key gone.now → AreNewest records.now (get_number nat_eq newest.new) }
+    ensures spare { spare newest.old ≤ spare newest.new }
+{
+    if let Element::Plain(number) = gone.element {
+        if is_noted(newest, gone.page, number) {
+            change(
+                newest,
+                gone.page,
+                last_up_to(records, levels, gone.page, gone.older),
+            );
+        }
+    }
+}
+
+/// Elements with their own needs, and memory for those of more.
+#[derive(Drop)]
+pub struct Backlog {
+    /// In the order of staging. Some are of no use any more: those of plain writes that are persistent, and those of versions up to
+    /// their family's floor.
+    pub list: Vec<(Element, Needs)>,
+    /// Of each family the last version that was staged when none of it waited; what that and those before it needed no later one
+    /// needs.
+    pub floors: Vec<u64>,
+    /// So many elements have ended since the list was cleaned.
+    pub ended: u64,
+    /// A place for the needs of each element that there is room for, should they be many.
+    pub places: Vec<Box<Dependency>>,
+}
+
+/// Adds a place.
+fn add_place(places: &mut Vec<Box<Dependency>>) -> Result<(), AllocError>
+    ensures fewer { vec_len places.old ≤ vec_len places.new }
+    ensures more { OnOk result (vec_len places.new ≡ vec_len places.old + 1) }
+{
+    let alloc = *places.allocator();
+    let place = Box::new(alloc, Dependency::empty(alloc))?;
+    places.push(place)?;
+    Ok(())
+}
+
+/// Adds places until there are so many.
+fn fill(places: &mut Vec<Box<Dependency>>, count: usize) -> Result<(), AllocError>
+    ensures fewer { vec_len places.old ≤ vec_len places.new }
+    ensures enough { OnOk result (count ≤ vec_len places.new) }
+    ensures memory { count ≤ vec_len places.old → IsOk result }
+{
+    for _ in places.len()..count {
+        add_place(places)?;
+    }
+    Ok(())
+}
+
+/// The index in the list of an element's entry, from 0; None where it has none. Compares with each.
+pub fn place_of(entries: &[(Element, Needs)], element: Element) -> Option<usize>
+    ensures { MatchOption result (¬ IsListed entries.now element) (λ k. (d : Named) × (slice_get entries.now k ≡ Some (element, d))) }
+{
+    for k in 0..entries.len() {
+        let entry = &entries[k];
+        if entry.0.is_same(element) {
+            return Some(k);
+        }
+    }
+    None
+}
+
+impl Backlog {
+    /// None, and room for none, with these floors.
+    pub fn new(alloc: Global, floors: Vec<u64>) -> Self
+        ensures items { result.list.items ≡ [] }
+        ensures floors { result.floors.items ≡ floors.items }
+        ensures len { vec_len result.list ≡ 0 }
+    {
+        Backlog {
+            list: Vec::new(alloc),
+            floors,
+            ended: 0,
+            places: Vec::new(alloc),
+        }
+    }
+
+    /// Makes room for so many more.
+    pub fn reserve(&mut self, stagings: usize) -> Result<(), AllocError>
+        ensures items { self.new.list.items ≡ self.old.list.items }
+        ensures floors { self.new.floors.items ≡ self.old.floors.items }
+        ensures len { vec_len self.new.list ≡ vec_len self.old.list }
+        ensures capacity { vec_capacity self.old.list ≤ vec_capacity self.new.list }
+        ensures places { vec_len self.old.places ≤ vec_len self.new.places }
+        ensures room { OnOk result (vec_len self.new.list + stagings ≤ vec_capacity self.new.list) }
+        ensures place_room { OnOk result (stagings ≤ vec_len self.new.places) }
+        ensures memory { vec_len self.old.list + stagings ≤ vec_capacity self.old.list → stagings ≤ vec_len self.old.places → IsOk result }
+    {
+        self.list.reserve(stagings)?;
+        fill(&mut self.places, stagings)
+    }
+
+    /// Adds an element with what it needs.
+    pub fn push_reserved(&mut self, element: Element, needs: Dependency)
+        requires list { vec_len self.old.list < vec_capacity self.old.list }
+        requires places { 0 < vec_len self.old.places }
+        ensures items { self.new.list.items ≡ self.old.list.items ++ (element, needs) ∷ [] }
+        ensures floors { self.new.floors.items ≡ self.old.floors.items }
+        ensures len { vec_len self.new.list ≡ vec_len self.old.list + 1 }
+        ensures capacity { vec_capacity self.new.list ≡ vec_capacity self.old.list }
+        ensures places { vec_len self.new.places + 1 ≡ vec_len self.old.places }
+    {
+        if let Some(place) = self.places.pop() {
+            self.list
+                .push_reserved((element, Needs::within(needs, place)));
+        }
+    }
 }

@@ -15,6 +15,7 @@ module _ {D : Type 0} (disks : PageDisk D) where
     honesty = ((λ h. h), (λ h. h));
     pages = refl;
     failures = omega arith;
+    sound = λ s. (s, refl);
   }
 
   -- some reads, and some more
@@ -38,4 +39,5 @@ module _ {D : Type 0} (disks : PageDisk D) where
     honesty = ((λ h. more.honesty.0 (first.honesty.0 h)), (λ h. first.honesty.1 (more.honesty.1 h)));
     pages = more.pages ∙ first.pages;
     failures = omega (arith, first.failures, more.failures);
+    sound = λ s. let one = first.sound s in let two = more.sound one.0 in (two.0, two.1 ∙ one.1);
   }

@@ -81,6 +81,10 @@ pub record Elapses (before now : ℕ) (past since : ℕ → Image → Type 0) (s
 abbrev pub GoesOn : {D : Type 0} (honest : D → Type 0) (state : D → State) (moment : D → ℕ) (left_since : D → ℕ → Image → Type 0) (old new : D) → Type 0
 GoesOn honest state moment left_since old new = honest old → Elapses (moment old) (moment new) (left_since old) (left_since new) (state new)
 
+-- A sound disk stays sound, and has refused no more calls itself.
+abbrev pub StaysSound : {D : Type 0} (sound : D → Type 0) (refusal_count : D → ℕ) (old new : D) → Type 0
+StaysSound sound refusal_count old new = sound old → sound new × (refusal_count new ≡ refusal_count old)
+
 -- A write or a flush that succeeds raises the moment by one; one that fails may raise it, by one at most.
 abbrev pub Counts : {T E : Type 0} → Result T E → (before now : ℕ) → Type 0
 Counts (Ok x) before now = now ≡ before + 1

@@ -1,6 +1,6 @@
 // A disk of pages, as the layers above see it.
-ghost use Rattle.std.specs.Prelude.{◌≡◌, ◌⊎◌, ◌<◌, ◌≤◌, ◌↔◌, ℕ, length, OnOk, OnErr, IsErrOf, IsTrue};
-ghost use Rattle.cs_disk.specs.Disk.{Image, State, page, seen, written, flushed, crashed, IsWhole, MayLeave, Counts, GoesOn, HasCause};
+ghost use Rattle.std.specs.Prelude.{◌≡◌, ◌≢◌, ◌⊎◌, ◌<◌, ◌≤◌, ◌↔◌, ℕ, List, length, OnOk, OnErr, IsErrOf, IsTrue};
+ghost use Rattle.cs_disk.specs.Disk.{Image, State, page, seen, written, flushed, crashed, IsWhole, MayLeave, Counts, GoesOn, HasCause, StaysSound};
 ghost use Rattle.cs_disk.specs.declared.fault.DiskFault.TheVariants.{OutOfMemory};
 
 use crate::DiskFault;
@@ -28,6 +28,15 @@ pub trait PageDisk {
     /// How many of its calls failed, up to 2^64 - 1.
     ghost failure_count: { Self → ℕ };
 
+    /// How many of these calls it refused itself, without the device, up to 2^64 - 1.
+    ghost refusal_count: { Self → ℕ };
+
+    /// That it refuses no read and no flush itself: these fail only where the device does. No read and no flush loses it.
+    ghost sound: { Self → Type 0 };
+
+    /// That it doesn't refuse itself to write these bytes to this page.
+    ghost takes: { Self → (number : ℕ) → (bytes : List ℕ) → Type 0 };
+
     /// The moment, as a number that each write and each flush that succeeds raises by one, one that fails by one at most, and nothing else.
     ghost moment: { Self → ℕ };
 
@@ -53,7 +62,8 @@ pub trait PageDisk {
         ensures time { GoesOn honest state moment left_since self.old self.new }
         ensures honest { honest self.old ↔ honest self.new }
         ensures pages { page_count self.new ≡ page_count self.old }
-        ensures cause { HasCause (failure_count self.old) (failure_count self.new) result };
+        ensures cause { HasCause (failure_count self.old) (failure_count self.new) result }
+        ensures sound { StaysSound sound refusal_count self.old self.new };
 
     /// Writes a page; the write is volatile. After 1 DeviceFault the write may be among the volatile ones or not, after
     /// 9 OutOfMemory it isn't.
@@ -69,7 +79,11 @@ pub trait PageDisk {
         ensures time { GoesOn honest state moment left_since self.old self.new }
         ensures honest { honest self.old ↔ honest self.new }
         ensures pages { page_count self.new ≡ page_count self.old }
-        ensures cause { HasCause (failure_count self.old) (failure_count self.new) result };
+        ensures cause { HasCause (failure_count self.old) (failure_count self.new) result }
+        // A sound disk refuses nothing itself that it takes, and then takes what it took for the other pages.
+        ensures taken { honest self.old → sound self.old → takes self.old number bytes.now → refusal_count self.new ≡ refusal_count self.old }
+        ensures sound { sound self.old → OnOk result (sound self.new) }
+        ensures others { honest self.old → OnOk result ((other : ℕ) (later : List ℕ) → other ≢ number → takes self.old other later → takes self.new other later) };
 
     /// Makes all volatile writes durable. After a refusal, 1 DeviceFault or 9 OutOfMemory, they are volatile still.
     fn flush(&mut self) -> Result<(), DiskFault>
@@ -81,7 +95,8 @@ pub trait PageDisk {
         ensures time { GoesOn honest state moment left_since self.old self.new }
         ensures honest { honest self.old ↔ honest self.new }
         ensures pages { page_count self.new ≡ page_count self.old }
-        ensures cause { HasCause (failure_count self.old) (failure_count self.new) result };
+        ensures cause { HasCause (failure_count self.old) (failure_count self.new) result }
+        ensures sound { StaysSound sound refusal_count self.old self.new };
 
     /// The image has as many pages as the disk.
     ghost sized: { (d : Self) → honest d → length (state d).durable ≡ page_count d };

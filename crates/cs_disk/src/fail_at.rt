@@ -65,6 +65,12 @@ impl<D: PageDisk> PageDisk for FailAt<D> {
 
     ghost failure_count = { λ s. min (D.failure_count s.disk + s.countdown.failed) (2 ^ 64 - 1) };
 
+    ghost refusal_count = { λ s. D.refusal_count s.disk };
+
+    ghost sound = { λ s. D.sound s.disk };
+
+    ghost takes = { λ s. D.takes s.disk };
+
     ghost moment = { λ s. D.moment s.disk };
 
     ghost left_since = { λ s. D.left_since s.disk };

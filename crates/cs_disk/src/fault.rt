@@ -2,7 +2,10 @@
 ghost use Rattle.std.specs.Prelude.{◌≡◌};
 ghost use Rattle.cs_disk.specs.declared.fault.DiskFault.TheVariants.{OutOfMemory};
 ghost use Rattle.cs_disk.specs.declared.fault.ImageFault.TheVariants.{OutOfMemory as ImageOutOfMemory};
+ghost use Rattle.cs_disk.specs.Faults.{disk_fault_number};
+ghost use Rattle.cs_refusal.specs.Refusals.{number_of};
 
+use cs_refusal::Refusal;
 use std::alloc::{AllocError, AllocFailed};
 use std::fs::TryLockError;
 use std::io;
@@ -21,8 +24,6 @@ pub enum DiskFault {
 }
 
 impl DiskFault {
-    ghost use Rattle.cs_disk.specs.Faults.{disk_fault_number};
-
     /// The number that is printed with it: 1 or 9.
     pub fn number(self) -> u8
         ensures { result ≡ disk_fault_number self }
@@ -190,5 +191,15 @@ impl From<io::Error> for SystemFault {
 impl From<TryLockError> for SystemFault {
     fn from(error: TryLockError) -> Self {
         SystemFault::from(io::Error::from(error))
+    }
+}
+
+/// The refusal that has the number of a disk's fault.
+pub fn refusal_of_disk(fault: DiskFault) -> Refusal
+    ensures { number_of result ≡ disk_fault_number fault }
+{
+    match fault {
+        DiskFault::DeviceFault => Refusal::DeviceFault,
+        DiskFault::OutOfMemory => Refusal::OutOfMemory,
     }
 }

@@ -5,22 +5,18 @@
 mod ahead;
 mod contents;
 mod disk;
-mod disk_refusals;
 mod fail_at;
 mod fault;
 mod file;
-mod file_openings;
 mod memory;
 mod past;
 mod read_only;
 mod unflushed;
 
 pub use disk::{CrashDisk, PageDisk};
-pub use disk_refusals::refusal_of_disk;
 pub use fail_at::FailAt;
-pub use fault::{DiskFault, FileFault, ImageFault, OpenFault, SystemFault};
-pub use file::FileDisk;
-pub use file_openings::Access;
+pub use fault::{DiskFault, FileFault, ImageFault, OpenFault, SystemFault, refusal_of_disk};
+pub use file::{Access, FileDisk};
 pub use memory::MemoryDisk;
 pub use read_only::ReadOnly;
 

@@ -107,6 +107,12 @@ impl PageDisk for MemoryDisk {
 
     ghost failure_count = { λ _. 0 };
 
+    ghost refusal_count = { λ _. 0 };
+
+    ghost sound = { λ _. Unit {0} };
+
+    ghost takes = { λ _ _ _. Unit {0} };
+
     ghost moment = { λ d. length (past_states d.past) };
 
     ghost left_since = { λ d. LeftSince (past_states d.past) (state_of d.contents) };

@@ -52,6 +52,12 @@ impl<D: PageDisk> PageDisk for ReadOnly<D> {
 
     ghost failure_count = { λ s. min (D.failure_count s.disk + s.refused) (2 ^ 64 - 1) };
 
+    ghost refusal_count = { λ s. D.refusal_count s.disk + s.refused };
+
+    ghost sound = { λ s. D.sound s.disk };
+
+    ghost takes = { λ _ _ _. ⊥ };
+
     ghost moment = { λ s. D.moment s.disk };
 
     ghost left_since = { λ s. D.left_since s.disk };

@@ -1,16 +1,15 @@
 -- What changes of lists do to extents as functions.
-use Rattle.std.proofs.Common.{◌≡◌, ◌≢◌, ◌∙◌, ℕ, zero, suc, ◌<◌, ◌≤◌, Bool, true, false, List, [], ◌∷◌, length, set, get_or, replicate, None, Option, ◌+◌, refl, ap, sym, le_trans, ⊎_elim, arith}
+use Rattle.std.proofs.Common.{◌≡◌, ◌≢◌, ◌∙◌, ℕ, zero, suc, ◌<◌, ◌≤◌, Bool, true, false, List, [], ◌∷◌, length, set, get_or, replicate, None, ◌+◌, refl, ap, le_trans, ⊎_elim, arith}
 use Rattle.std.specs.Prelude.{◌==◌, if◌then◌else◌}
 use Rattle.std.specs.List.{AllByRecursion}
 use Rattle.std.proofs.lemmas.Bool.Decides.{nat_tests}
 use Rattle.std.proofs.lemmas.Bool.{cases_lt}
 use Rattle.std.proofs.lemmas.List.{length-map, length-replicate, get_or-set_same, get_or-set_other}
-use Rattle.law_machine.specs.Extents.{emptied, open_after, taken}
+use Rattle.law_machine.specs.Extents.{emptied}
 use Rattle.law_machine.specs.Lists.{with}
 use Rattle.cs_frame.specs.Geometries.{IsGeometry}
-use Rattle.cs_extent.specs.Changes.{emptied_in}
 use Rattle.cs_extent.specs.Frames.{greatest}
-use Rattle.cs_extent.specs.State.{State, IsWhole, extents_of, found_at, shape}
+use Rattle.cs_extent.specs.State.{State, IsWhole, extents_of, found_at}
 
 pub pointers_at : (pages : ℕ) (xs : List (ℕ × ℕ)) → AllByRecursion (λ x. x.0 ≤ pages) xs → (e : ℕ) → (get_or xs e (0, 0)).0 ≤ pages
 pointers_at pages [] all e = omega arith
@@ -54,30 +53,14 @@ reset_extents s e root g lt lr is = λ i. record {
     generations : (d : ℕ) → (get_or (set s.written e (0, g)) d (0, 0)).1 ≡ with (λ k. (get_or s.written k (0, 0)).1) e (suc ((get_or s.written e (0, 0)).1)) d
     generations d = ap (λ (x : ℕ × ℕ). x.1) (written_at s.written e (0, g) (0, 0) lt d) ∙ chosen (λ (x : ℕ × ℕ). x.1) (d == e) (0, g) (get_or s.written d (0, 0)) ∙ ap (λ m. if d == e then m else (get_or s.written d (0, 0)).1) is
 
--- so too with what counts as found, which is cleared where extents are filled up
-pub reset_found : (s : State) (e root g : ℕ) (fills : Bool) (found : List ℕ) → e < length s.written → e < length s.resets → g ≡ suc ((extents_of s).generation e)
-    → (shape s).fills ≡ fills → ((d : ℕ) → get_or found d 0 ≡ (if fills then with (extents_of s).found e 0 else (extents_of s).found) d)
-    → extents_of (record s { written = set s.written e (0, g); resets = set s.resets e root; found = found }) ≡ emptied_in (shape s) (extents_of s) e root
-reset_found s e root g fills found lt lr is so each = λ i. record {
-  pointer = (reset_extents s e root g lt lr is i).pointer;
-  generation = (reset_extents s e root g lt lr is i).generation;
-  reset = (reset_extents s e root g lt lr is i).reset;
-  open_extent = s.open_extent;
-  swept = (extents_of s).swept;
-  of_runs = (extents_of s).of_runs;
-  found = λ d. (each d ∙ ap (λ (b : Bool). (if b then with (extents_of s).found e 0 else (extents_of s).found) d) (sym so)) i;
-  fresh = s.fresh;
-  last = s.last;
-}
-
--- pages are taken of one extent
-pub taken_extents : (s : State) (e k : ℕ) (x : ℕ × ℕ) (o : Option ℕ) → e < length s.written → x.0 ≡ (extents_of s).pointer e + k → x.1 ≡ (extents_of s).generation e
-    → o ≡ open_after (shape s) e ((extents_of s).pointer e + k) → extents_of (record s { written = set s.written e x; open_extent = o }) ≡ taken (shape s) (extents_of s) e k
-taken_extents s e k x o lt p g is = λ i. record {
+-- the pointer of one extent is moved on
+pub advanced_extents : (s : State) (e k : ℕ) (x : ℕ × ℕ) → e < length s.written → x.0 ≡ (extents_of s).pointer e + k → x.1 ≡ (extents_of s).generation e
+    → extents_of (record s { written = set s.written e x }) ≡ record (extents_of s) { pointer = with (extents_of s).pointer e ((extents_of s).pointer e + k) }
+advanced_extents s e k x lt p g = λ i. record {
   pointer = λ d. pointers d i;
   generation = λ d. generations d i;
   reset = λ d. get_or s.resets d 0;
-  open_extent = is i;
+  open_extent = s.open_extent;
   swept = λ d. get_or s.swept d false;
   of_runs = λ d. get_or s.of_runs d false;
   found = λ d. get_or s.found d 0;

@@ -10,7 +10,7 @@ use Rattle.std.proofs.lemmas.List.{drop_all}
 use Rattle.law_machine.specs.Device.{Shape}
 use Rattle.law_machine.specs.Extents.{Extents, Purpose as Reason, HasRoom, IsFirstEmpty, Placed, Fits, empties, open_after, spare, taken}
 use Rattle.law_machine.specs.Lists.{with}
-use Rattle.cs_extent.specs.declared.supplies.Supply.{Supply}
+use Rattle.cs_extent.specs.declared.places_v2.Supply.{Supply}
 use Rattle.cs_extent.specs.Places.{room_at, left_after}
 use Rattle.cs_extent.specs.State.{State, IsWhole, extents_of, shape}
 use Rattle.cs_extent.proofs.Empties.{empties_kept, empties_less, first_of}

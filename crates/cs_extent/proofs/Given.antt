@@ -6,7 +6,7 @@ use Rattle.std.proofs.lemmas.Option.{same_Some}
 use Rattle.law_machine.specs.Device.{Shape}
 use Rattle.law_machine.specs.Extents.{Extents, emptied, forgotten, marked, taken, taken_by}
 use Rattle.law_machine.specs.Lists.{with}
-use Rattle.cs_extent.specs.Changes.{Append, AppendApart, Change, Given, LeadsTo, Mark, Note, Reset, ResetApart, emptied_in, given_from}
+use Rattle.cs_extent.specs.Changes.{Append, Change, Given, LeadsTo, Mark, Note, Reset, given_from}
 use Rattle.cs_extent.specs.Frames.{greatest}
 use Rattle.cs_extent.proofs.Changes.{greatest_is}
 use Rattle.cs_extent.proofs.Fitting.{with_same}
@@ -74,19 +74,10 @@ all_later S x y (Append reason k e ∷ changes) given leads i page at = ⊎_elim
     let is = given_at e (x.pointer e) (x.generation e) k i page l.1 in
     subst (IsLater x) (sym is) (inr (refl, omega arith)))
     (λ (r : (j : ℕ) × (i ≡ length (given_from e (x.pointer e) (x.generation e) k) + j) × (slice_get leads.0 j ≡ Some page)).
-    later_taken S x e k page (all_later S (taken S x e k) y changes leads.0 leads.3 r.0 page r.2))
+    later_taken S x e k page (all_later S (taken_by S S.apart reason x e k) y changes leads.0 leads.3 r.0 page r.2))
     (in_either (given_from e (x.pointer e) (x.generation e) k) leads.0 i page (subst (λ (l : List Given). slice_get l i ≡ Some page) leads.2 at))
-all_later S x y (Reset e root ∷ changes) given leads i page at = later_emptied x e root page (all_later S (emptied_in S x e root) y changes given leads i page at)
+all_later S x y (Reset e root ∷ changes) given leads i page at = later_emptied x e root page (all_later S (forgotten S.apart (emptied x e root) e) y changes given leads i page at)
 all_later S x y (Mark e b ∷ changes) given leads i page at = all_later S (marked x e b) y changes given leads i page at
-all_later S x y (AppendApart reason k e ∷ changes) given leads i page at = ⊎_elim
-    (λ (l : (i < length (given_from e (x.pointer e) (x.generation e) k)) × (slice_get (given_from e (x.pointer e) (x.generation e) k) i ≡ Some page)).
-    let is = given_at e (x.pointer e) (x.generation e) k i page l.1 in
-    subst (IsLater x) (sym is) (inr (refl, omega arith)))
-    (λ (r : (j : ℕ) × (i ≡ length (given_from e (x.pointer e) (x.generation e) k) + j) × (slice_get leads.0 j ≡ Some page)).
-    later_taken S x e k page (all_later S (taken_by S true reason x e k) y changes leads.0 leads.3 r.0 page r.2))
-    (in_either (given_from e (x.pointer e) (x.generation e) k) leads.0 i page (subst (λ (l : List Given). slice_get l i ≡ Some page) leads.2 at))
-all_later S x y (ResetApart e root ∷ changes) given leads i page at =
-    later_emptied x e root page (all_later S (forgotten true (emptied x e root) e) y changes given leads i page at)
 all_later S x y (Note o fresh last of_runs ∷ changes) given leads i page at =
     all_later S (record x { open_extent = o; fresh = fresh; last = last; of_runs = of_runs }) y changes given leads i page at
 
@@ -128,23 +119,13 @@ given_once S x y [] given i j page leads a b = absurd (cc (a, ap (λ (l : List G
 given_once S x y (Append reason k e ∷ changes) given i j page leads a b =
     let front : List Given = given_from e (x.pointer e) (x.generation e) k in
     stands_once S x e k leads.0 page
-    (λ n at. all_later S (taken S x e k) y changes leads.0 leads.3 n page at)
-    (λ u v. given_once S (taken S x e k) y changes leads.0 u v page leads.3)
+    (λ n at. all_later S (taken_by S S.apart reason x e k) y changes leads.0 leads.3 n page at)
+    (λ u v. given_once S (taken_by S S.apart reason x e k) y changes leads.0 u v page leads.3)
     i j
     (in_either front leads.0 i page (subst (λ (l : List Given). slice_get l i ≡ Some page) leads.2 a))
     (in_either front leads.0 j page (subst (λ (l : List Given). slice_get l j ≡ Some page) leads.2 b))
-given_once S x y (Reset e root ∷ changes) given i j page leads a b = given_once S (emptied_in S x e root) y changes given i j page leads a b
+given_once S x y (Reset e root ∷ changes) given i j page leads a b = given_once S (forgotten S.apart (emptied x e root) e) y changes given i j page leads a b
 given_once S x y (Mark e m ∷ changes) given i j page leads a b = given_once S (marked x e m) y changes given i j page leads a b
-given_once S x y (AppendApart reason k e ∷ changes) given i j page leads a b =
-    let front : List Given = given_from e (x.pointer e) (x.generation e) k in
-    stands_once S x e k leads.0 page
-    (λ n at. all_later S (taken_by S true reason x e k) y changes leads.0 leads.3 n page at)
-    (λ u v. given_once S (taken_by S true reason x e k) y changes leads.0 u v page leads.3)
-    i j
-    (in_either front leads.0 i page (subst (λ (l : List Given). slice_get l i ≡ Some page) leads.2 a))
-    (in_either front leads.0 j page (subst (λ (l : List Given). slice_get l j ≡ Some page) leads.2 b))
-given_once S x y (ResetApart e root ∷ changes) given i j page leads a b =
-    given_once S (forgotten true (emptied x e root) e) y changes given i j page leads a b
 given_once S x y (Note o fresh last of_runs ∷ changes) given i j page leads a b =
     given_once S (record x { open_extent = o; fresh = fresh; last = last; of_runs = of_runs }) y changes given i j page leads a b
 

@@ -1,20 +1,15 @@
 -- What is noted of extents, and what changes of lists do to it.
-use Rattle.std.proofs.Common.{◌≡◌, ◌≢◌, ◌∙◌, ℕ, suc, ◌+◌, ◌<◌, ◌≤◌, Bool, true, false, List, length, set, get_or, Option, Some, None, refl, sym, ap, subst, ⊎_elim, arith}
-use Rattle.std.specs.Prelude.{◌==◌, ◌||◌, ◌↔◌, if◌then◌else◌, slice_index}
-use Rattle.std.proofs.lemmas.Bool.{cases_lt}
+use Rattle.std.proofs.Common.{◌≡◌, ◌≢◌, ◌∙◌, ℕ, suc, ◌+◌, ◌<◌, ◌≤◌, Bool, true, false, List, length, set, get_or, Option, Some, None, refl, sym, ap, subst, arith}
+use Rattle.std.specs.Prelude.{◌==◌, ◌||◌, if◌then◌else◌}
 use Rattle.std.proofs.lemmas.Bool.Decides.{nat_tests}
 use Rattle.std.proofs.lemmas.Option.{same_Some}
-use Rattle.cs_deps.specs.State.{State as GraphState, write_of}
-use Rattle.law_machine.specs.Device.{Shape, mark_of}
-use Rattle.law_machine.specs.Extents.{Extents, ForMerge, ForMove, ForPut, ForRun, GoesApart, Purpose as Reason, emptied, forgotten, marked, noted_by, of_runs_by, other_than, taken}
+use Rattle.law_machine.specs.Device.{Shape}
+use Rattle.law_machine.specs.Extents.{Extents, ForMerge, ForMove, ForPut, ForRun, Purpose as Reason, emptied, forgotten, marked, noted_by, of_runs_by, open_after, other_than, taken_by}
 use Rattle.law_machine.specs.Lists.{with}
-use Rattle.cs_extent.specs.Appended.{IsAppendedBy}
-use Rattle.cs_extent.specs.Frames.{AddsOnlyOf, AreWritten, IsFrameStaged, IsOfFrame, family_of, next_place, next_section, root_recorded}
 use Rattle.cs_extent.specs.Notes.{fresh_noted, is_of_run, last_noted, noted_in, open_noted}
-use Rattle.cs_extent.specs.State.{IsWhole, SpellsExtents, State, extents_of, need_of, shape}
+use Rattle.cs_extent.specs.State.{IsWhole, State, extents_of, shape}
 use Rattle.cs_extent.proofs.Changes.{reset_extents, written_at}
-use Rattle.cs_extent.proofs.Empties.{positive_test, zero_test}
-use Rattle.cs_extent.proofs.Fitting.{pointer_grows, with_same}
+use Rattle.cs_extent.proofs.Fitting.{with_same}
 
 -- another extent keeps what it had
 pub other_is : (e d : ℕ) (o : Option ℕ) → other_than e o ≡ Some d → (o ≡ Some d) × (d ≢ e)
@@ -59,10 +54,9 @@ runs_noted s S r e lt d = flag_set s e (get_or s.of_runs e false || is_of_run r)
     by ForMerge = held (get_or s.of_runs e false)
 
 -- what is noted of the extents, where they were x before
-pub noted_extents : (s : State) (S : Shape) (x : Extents) (r : Reason) (e k : ℕ) (empty : Bool) (opened : Option ℕ) → e < length s.of_runs
-    → empty ≡ (x.pointer e == 0) → opened ≡ x.open_extent
-    → extents_of (noted_in r e empty opened s) ≡ noted_by S true r x e k (extents_of s)
-noted_extents s S x r e k empty opened lt is before = λ i. record {
+pub noted_extents : (s : State) (S : Shape) (x : Extents) (r : Reason) (e k given : ℕ) → e < length s.of_runs → given ≡ x.pointer e → s.open_extent ≡ x.open_extent
+    → extents_of (noted_in r e given s) ≡ noted_by S true r x e k (extents_of s)
+noted_extents s S x r e k given lt is before = λ i. record {
   pointer = (extents_of s).pointer;
   generation = (extents_of s).generation;
   reset = (extents_of s).reset;
@@ -74,16 +68,16 @@ noted_extents s S x r e k empty opened lt is before = λ i. record {
   last = last_is r i;
 }
   where
-    open_is : (r : Reason) → open_noted r e opened ≡ (noted_by S true r x e k (extents_of s)).open_extent
+    open_is : (r : Reason) → open_noted r e s.open_extent ≡ (noted_by S true r x e k (extents_of s)).open_extent
     open_is ForPut = refl
     open_is ForRun = before
     open_is ForMove = before
     open_is ForMerge = before
 
-    fresh_is : (r : Reason) → fresh_noted r e empty s.fresh ≡ (noted_by S true r x e k (extents_of s)).fresh
+    fresh_is : (r : Reason) → fresh_noted r e given s.fresh ≡ (noted_by S true r x e k (extents_of s)).fresh
     fresh_is ForPut = refl
     fresh_is ForRun = refl
-    fresh_is ForMove = ap (λ (b : Bool). if b then Some e else s.fresh) is
+    fresh_is ForMove = ap (λ (n : ℕ). if n == 0 then Some e else s.fresh) is
     fresh_is ForMerge = refl
 
     last_is : (r : Reason) → last_noted r e s.last ≡ (noted_by S true r x e k (extents_of s)).last
@@ -115,16 +109,36 @@ reset_noted s e root g o l lw lr lk lf is opened copied = λ i. record {
   last = copied i;
 }
 
+-- so it is where chunks and runs lie apart
+pub reset_apart : (s : State) (e root g : ℕ) (o l : Option ℕ) → (shape s).apart ≡ true → e < length s.written → e < length s.resets → e < length s.of_runs
+    → e < length s.found → g ≡ suc ((extents_of s).generation e) → o ≡ other_than e s.open_extent → l ≡ other_than e s.last
+    → extents_of (record s {
+      written = set s.written e (0, g);
+      resets = set s.resets e root;
+      of_runs = set s.of_runs e false;
+      found = set s.found e 0;
+      open_extent = o;
+      last = l;
+    }) ≡ forgotten (shape s).apart (emptied (extents_of s) e root) e
+reset_apart s e root g o l so lw lr lk lf is opened copied =
+    reset_noted s e root g o l lw lr lk lf is opened copied ∙ ap (λ (b : Bool). forgotten b (emptied (extents_of s) e root) e) (sym so)
+
+-- and where they don't it is emptied
+pub reset_mixed : (s : State) (e root g : ℕ) → (shape s).apart ≡ false → e < length s.written → e < length s.resets → g ≡ suc ((extents_of s).generation e)
+    → extents_of (record s { written = set s.written e (0, g); resets = set s.resets e root }) ≡ forgotten (shape s).apart (emptied (extents_of s) e root) e
+reset_mixed s e root g so lw lr is =
+    reset_extents s e root g lw lr is ∙ ap (λ (b : Bool). forgotten b (emptied (extents_of s) e root) e) (sym so)
+
 -- one flag was set
-pub kind_set : (s : State) (e : ℕ) (b : Bool) → e < length s.of_runs
-    → extents_of (record s { of_runs = set s.of_runs e b }) ≡ record (extents_of s) { of_runs = λ d. if d == e then b else (extents_of s).of_runs d }
-kind_set s e b lt = λ i. record {
+pub kind_set : (s : State) (e : ℕ) (b kind : Bool) → e < length s.of_runs → b ≡ kind
+    → extents_of (record s { of_runs = set s.of_runs e b }) ≡ record (extents_of s) { of_runs = λ d. if d == e then kind else (extents_of s).of_runs d }
+kind_set s e b kind lt is = λ i. record {
   pointer = (extents_of s).pointer;
   generation = (extents_of s).generation;
   reset = (extents_of s).reset;
   open_extent = s.open_extent;
   swept = (extents_of s).swept;
-  of_runs = λ d. written_at s.of_runs e b false lt d i;
+  of_runs = λ d. (written_at s.of_runs e b false lt d ∙ ap (λ (c : Bool). if d == e then c else (extents_of s).of_runs d) is) i;
   found = (extents_of s).found;
   fresh = s.fresh;
   last = s.last;
@@ -144,17 +158,16 @@ mark_set s e b lt = λ i. record {
 }
 
 -- extents keep what they do, whatever is noted
-module _ (s : State) (whole : IsWhole s) (e : ℕ) (there : e < length s.written) (some : 0 < (extents_of s).pointer e)
-    (opened : Option ℕ) (was : (d : ℕ) → opened ≡ Some d → (d < length s.written) × (0 < (extents_of s).pointer d)) where
-  each : (r : Reason) (o : Option ℕ) → o ≡ open_noted r e opened → (d : ℕ) → o ≡ Some d → (d < length s.written) × (0 < (extents_of s).pointer d)
+module _ (s : State) (whole : IsWhole s) (e : ℕ) (there : e < length s.written) (some : 0 < (extents_of s).pointer e) where
+  each : (r : Reason) (o : Option ℕ) → o ≡ open_noted r e s.open_extent → (d : ℕ) → o ≡ Some d → (d < length s.written) × (0 < (extents_of s).pointer d)
   each ForPut o is d at =
       let same : e ≡ d = same_Some e d (sym is ∙ at) in
       (subst (λ (n : ℕ). n < length s.written) same there, subst (λ (n : ℕ). 0 < (extents_of s).pointer n) same some)
-  each ForRun o is d at = was d (sym is ∙ at)
-  each ForMove o is d at = was d (sym is ∙ at)
-  each ForMerge o is d at = was d (sym is ∙ at)
+  each ForRun o is d at = (whole.open_inside d (sym is ∙ at), whole.open_begun d (sym is ∙ at))
+  each ForMove o is d at = (whole.open_inside d (sym is ∙ at), whole.open_begun d (sym is ∙ at))
+  each ForMerge o is d at = (whole.open_inside d (sym is ∙ at), whole.open_begun d (sym is ∙ at))
 
-  pub noted_whole : (r : Reason) (o fresh last : Option ℕ) (kinds : List Bool) → o ≡ open_noted r e opened → length kinds ≡ length s.of_runs
+  pub noted_whole : (r : Reason) (o fresh last : Option ℕ) (kinds : List Bool) → o ≡ open_noted r e s.open_extent → length kinds ≡ length s.of_runs
       → IsWhole (record s { open_extent = o; of_runs = kinds; fresh = fresh; last = last })
   noted_whole r o fresh last kinds is same = record {
     geometry = whole.geometry;
@@ -170,48 +183,33 @@ module _ (s : State) (whole : IsWhole s) (e : ℕ) (there : e < length s.written
     open_begun = λ d at. (each r o is d at).1;
   }
 
--- ---- an append
+-- ---- a frame is given pages
 
--- a test that says whether a number is 0
-pub zero_by : (b : Bool) (n : ℕ) → (b ≡ true) ↔ (n ≡ 0) → b ≡ (n == 0)
-zero_by true n is = sym (zero_test n (is.0 refl))
-zero_by false n is = ⊎_elim
-    (λ (l : 0 < n). sym (positive_test n l))
-    (λ (l : n ≤ 0). absurd (let wrong : false ≡ true = is.1 (omega (arith, l)) in cc))
-    (cases_lt 0 n)
-
-module _ (S : Shape) (x y : Extents) (e k : ℕ) (is : y ≡ taken S x e k) where
-  pub given_there : 1 ≤ k → 0 < y.pointer e
+-- k pages of e are given, and the pointer alone has moved on
+module _ (s mid new : State) (r : Reason) (e k : ℕ)
+    (moved : extents_of mid ≡ record (extents_of s) { pointer = with (extents_of s).pointer e ((extents_of s).pointer e + k) }) where
+  pub given_there : 1 ≤ k → 0 < (extents_of mid).pointer e
   given_there some =
-      let read : y.pointer e ≡ with x.pointer e (x.pointer e + k) e = ap (λ (z : Extents). z.pointer e) is in
-      omega (arith, read, with_same x.pointer e (x.pointer e + k), some)
+      let read : (extents_of mid).pointer e ≡ with (extents_of s).pointer e ((extents_of s).pointer e + k) e = ap (λ (z : Extents). z.pointer e) moved in
+      omega (arith, read, with_same (extents_of s).pointer e ((extents_of s).pointer e + k), some)
 
-  pub still_there : (d : ℕ) → 0 < x.pointer d → 0 < y.pointer d
-  still_there d some =
-      let read : y.pointer d ≡ with x.pointer e (x.pointer e + k) d = ap (λ (z : Extents). z.pointer d) is in
-      omega (arith, read, pointer_grows x.pointer e k d, some)
+  -- where chunks and runs lie apart, it is noted then
+  pub taken_apart : (given : ℕ) → (shape s).apart ≡ true → e < length mid.of_runs → given ≡ (extents_of s).pointer e → new ≡ noted_in r e given mid
+      → extents_of new ≡ taken_by (shape s) (shape s).apart r (extents_of s) e k
+  taken_apart given so lt is noted =
+      ap extents_of noted
+      ∙ noted_extents mid (shape s) (extents_of s) r e k given lt is (ap (λ (z : Extents). z.open_extent) moved)
+      ∙ ap (noted_by (shape s) true r (extents_of s) e k) moved
+      ∙ ap (λ (b : Bool). taken_by (shape s) b r (extents_of s) e k) (sym so)
 
--- a frame whose pages were given on e, and which was noted there, was appended there
-pub noted_append : (x : State) (g : GraphState) (r : Reason) (frame : List (List ℕ)) (e : ℕ) (mid y : State) (h : GraphState) (empty : Bool) (opened : Option ℕ)
-    → GoesApart (shape x) (extents_of x) r (length frame) e
-    → extents_of mid ≡ taken (shape x) (extents_of x) e (length frame) → shape mid ≡ shape x
-    → IsFrameStaged g.staging h.staging (shape x).pages_first (shape x).sections ((shape x).section e) (length frame) ((extents_of x).reset e) (need_of x ((shape x).section e))
-    → AreWritten h g.staging.staged (length frame) (λ i. (shape x).address e ((extents_of x).pointer e + i)) frame
-    → ((page : List ℕ) × (write_of h (next_section g.staging ((shape x).section e)) ≡ Some ((shape x).section_page ((shape x).section e), page))
-    × SpellsExtents mid ((shape x).section e) (slice_index g.staging.latest (family_of ((shape x).section e)) + 1) (root_recorded (shape x).format g.staging) page)
-    → AddsOnlyOf g h (IsOfFrame g.staging ((shape x).section e) (length frame)) → h.round ≡ g.round
-    → e < length mid.of_runs → empty ≡ ((extents_of x).pointer e == 0) → opened ≡ x.open_extent → y ≡ noted_in r e empty opened mid
-    → IsAppendedBy true x g r frame (next_place (extents_of x) e (mark_of (shape x) frame)) y h
-noted_append x g r frame e mid y h empty opened goes given same staged writes section others round there is before noted = record {
-  placed = goes;
-  place = refl;
-  extents = ap extents_of noted
-      ∙ noted_extents mid (shape x) (extents_of x) r e (length frame) empty opened there is before
-      ∙ ap (noted_by (shape x) true r (extents_of x) e (length frame)) given;
-  same_shape = ap shape noted ∙ same;
-  staged = staged;
-  writes = writes;
-  section = (section.0, section.1, subst (λ (z : State). SpellsExtents z ((shape x).section e) (slice_index g.staging.latest (family_of ((shape x).section e)) + 1) (root_recorded (shape x).format g.staging) section.0) (sym noted) section.2);
-  others = others;
-  round = round;
-}
+  -- else e is open, unless it is full
+  pub taken_mixed : (shape s).apart ≡ false → shape mid ≡ shape s → new ≡ record mid { open_extent = open_after (shape mid) e ((extents_of mid).pointer e) }
+      → extents_of new ≡ taken_by (shape s) (shape s).apart r (extents_of s) e k
+  taken_mixed so same opened =
+      let read : (extents_of mid).pointer e ≡ (extents_of s).pointer e + k =
+      ap (λ (z : Extents). z.pointer e) moved ∙ with_same (extents_of s).pointer e ((extents_of s).pointer e + k) in
+      ap extents_of opened
+      ∙ ap (λ (S : Shape). record (extents_of mid) { open_extent = open_after S e ((extents_of mid).pointer e) }) same
+      ∙ ap (λ (n : ℕ). record (extents_of mid) { open_extent = open_after (shape s) e n }) read
+      ∙ ap (λ (z : Extents). record z { open_extent = open_after (shape s) e ((extents_of s).pointer e + k) }) moved
+      ∙ ap (λ (b : Bool). taken_by (shape s) b r (extents_of s) e k) (sym so)

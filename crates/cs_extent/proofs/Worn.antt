@@ -12,7 +12,7 @@ use Rattle.law_machine.specs.Extents.{Extents, Fits, FitsBy, HasRoom, IsFirstEmp
 use Rattle.law_machine.specs.Lists.{with}
 use Rattle.law_machine.proofs.Places.{goes_one}
 use Rattle.cs_frame.proofs.GeometryLaws.{bounds}
-use Rattle.cs_extent.specs.declared.ways.Way.{Way}
+use Rattle.cs_extent.specs.declared.places_v2.Way.{Way}
 use Rattle.cs_extent.specs.Frames.{family_of}
 use Rattle.cs_extent.specs.Places.{room_at}
 use Rattle.cs_extent.specs.State.{IsWhole, State, extents_of, shape}

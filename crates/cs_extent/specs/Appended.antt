@@ -7,9 +7,9 @@ use Rattle.law_machine.specs.Extents.{Goes, Purpose as Reason, taken_by}
 use Rattle.cs_extent.specs.Frames.{AreWritten, IsFrameStaged, IsOfFrame, AddsOnlyOf, family_of, next_place, next_section, root_recorded}
 use Rattle.cs_extent.specs.State.{SpellsExtents, State, extents_of, need_of, shape}
 
--- A frame was appended at l: its pages were given and staged behind the pointer of an extent that may take them, and
--- then a version of that extent's section, which records them, and the root that was persistent before. Nothing else was staged, and of all other elements no
--- write is kept that wasn't kept before. Chunks and runs lie apart or not.
+-- A frame was appended at l, where chunks and runs lie apart or not. Its pages were given and staged after the pointer of an extent that
+-- may take them, and then a version of that extent's section, which records them, and the root that was persistent before. Nothing else
+-- was staged, and of all other elements no write is kept that wasn't kept before.
 pub record IsAppendedBy (apart : Bool) (x : State) (g : GraphState) (reason : Reason) (frame : List (List ℕ)) (l : Locator) (y : State) (h : GraphState) : Type 0 where
   pub placed : Goes (shape x) apart (extents_of x) reason (length frame) l.extent
   pub place : l ≡ next_place (extents_of x) l.extent (mark_of (shape x) frame)

@@ -1,8 +1,7 @@
 -- What happens to extents, one change after another, and which pages are given.
-use Rattle.std.specs.Prelude.{◌≡◌, ◌++◌, ◌∷◌, ℕ, zero, suc, Bool, true, List, [], Option, if◌then◌else◌}
+use Rattle.std.specs.Prelude.{◌≡◌, ◌++◌, ◌∷◌, ℕ, zero, suc, Bool, List, [], Option}
 use Rattle.law_machine.specs.Device.{Shape}
-use Rattle.law_machine.specs.Lists.{with}
-use Rattle.law_machine.specs.Extents.{Extents, Purpose as Reason, GoesApart, Placed, emptied, forgotten, marked, taken, taken_by}
+use Rattle.law_machine.specs.Extents.{Extents, Goes, Purpose as Reason, emptied, forgotten, marked, taken_by}
 
 -- what is done to the extents, one thing at a time
 pub data Change : Type 0 where
@@ -12,10 +11,6 @@ pub data Change : Type 0 where
   Reset : (extent root : ℕ) → Change
   -- an extent is marked as being swept, or no longer
   Mark : (extent : ℕ) (swept : Bool) → Change
-  -- where chunks and runs lie apart: a frame of so many pages goes to an extent
-  AppendApart : (reason : Reason) (pages extent : ℕ) → Change
-  -- so too: an extent is emptied under a version of the root, and nothing is noted of it then
-  ResetApart : (extent root : ℕ) → Change
   -- something else is noted of the extents
   Note : (opened fresh last : Option ℕ) (of_runs : ℕ → Bool) → Change
 
@@ -30,20 +25,13 @@ abbrev pub given_from : (extent page generation count : ℕ) → List Given
 given_from e p g zero = []
 given_from e p g (suc n) = record { extent = e; page = p; generation = g } ∷ given_from e (suc p) g n
 
--- an extent is emptied under a version of the root; where extents are filled up none of its pages counts as found then
-abbrev pub emptied_in : Shape → Extents → (e root : ℕ) → Extents
-emptied_in S x e root = record (emptied x e root) { found = if S.fills then with x.found e 0 else x.found }
-
 -- these changes lead from the extents x to y, and give these pages, in order
 abbrev pub LeadsTo : Shape → Extents → List Change → List Given → Extents → Type 0
 LeadsTo S x [] given y = (x ≡ y) × (given ≡ [])
 LeadsTo S x (Append reason k e ∷ changes) given y = (rest : List Given)
-    × Placed S x reason k e × (given ≡ given_from e (x.pointer e) (x.generation e) k ++ rest) × LeadsTo S (taken S x e k) changes rest y
-LeadsTo S x (Reset e root ∷ changes) given y = LeadsTo S (emptied_in S x e root) changes given y
+    × Goes S S.apart x reason k e × (given ≡ given_from e (x.pointer e) (x.generation e) k ++ rest)
+    × LeadsTo S (taken_by S S.apart reason x e k) changes rest y
+LeadsTo S x (Reset e root ∷ changes) given y = LeadsTo S (forgotten S.apart (emptied x e root) e) changes given y
 LeadsTo S x (Mark e b ∷ changes) given y = LeadsTo S (marked x e b) changes given y
-LeadsTo S x (AppendApart reason k e ∷ changes) given y = (rest : List Given)
-    × GoesApart S x reason k e × (given ≡ given_from e (x.pointer e) (x.generation e) k ++ rest)
-    × LeadsTo S (taken_by S true reason x e k) changes rest y
-LeadsTo S x (ResetApart e root ∷ changes) given y = LeadsTo S (forgotten true (emptied x e root) e) changes given y
 LeadsTo S x (Note o fresh last of_runs ∷ changes) given y =
     LeadsTo S (record x { open_extent = o; fresh = fresh; last = last; of_runs = of_runs }) changes given y

@@ -1,6 +1,7 @@
 pub mod Appended
 pub mod Changes
 pub mod Frames
+pub mod Kinds
 pub mod Notes
 pub mod Places
 pub mod Purposes

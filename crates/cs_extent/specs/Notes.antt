@@ -1,5 +1,5 @@
 -- What is noted of extents where chunks and runs lie apart, once a frame went to one of them.
-use Rattle.std.specs.Prelude.{◌||◌, ℕ, Bool, true, false, Option, Some, if◌then◌else◌, slice_index_or, slice_set}
+use Rattle.std.specs.Prelude.{◌||◌, ◌==◌, ℕ, Bool, true, false, Option, Some, if◌then◌else◌, slice_index_or, slice_set}
 use Rattle.law_machine.specs.Extents.{ForMerge, ForMove, ForPut, ForRun, Purpose as Reason}
 use Rattle.cs_extent.specs.State.{State}
 
@@ -17,12 +17,12 @@ open_noted ForRun e before = before
 open_noted ForMove e before = before
 open_noted ForMerge e before = before
 
--- the extent that the sweep opened: e where a copy went there and it was empty
-abbrev pub fresh_noted : Reason → (e : ℕ) → (empty : Bool) → Option ℕ → Option ℕ
-fresh_noted ForPut e empty before = before
-fresh_noted ForRun e empty before = before
-fresh_noted ForMove e empty before = if empty then Some e else before
-fresh_noted ForMerge e empty before = before
+-- the extent that the sweep opened: e where a copy went there and none of its pages were given before
+abbrev pub fresh_noted : Reason → (e : ℕ) → (given : ℕ) → Option ℕ → Option ℕ
+fresh_noted ForPut e given before = before
+fresh_noted ForRun e given before = before
+fresh_noted ForMove e given before = if given == 0 then Some e else before
+fresh_noted ForMerge e given before = before
 
 -- the one to which the last copy went
 abbrev pub last_noted : Reason → (e : ℕ) → Option ℕ → Option ℕ
@@ -31,11 +31,11 @@ last_noted ForRun e before = before
 last_noted ForMove e before = Some e
 last_noted ForMerge e before = before
 
--- all that is noted, where a frame went to e, which was empty or not, and this extent was open before
-abbrev pub noted_in : Reason → (e : ℕ) → (empty : Bool) → (opened : Option ℕ) → State → State
-noted_in reason e empty opened s = record s {
-  open_extent = open_noted reason e opened;
+-- all that is noted once a frame went to e, of which so many pages were given before
+abbrev pub noted_in : Reason → (e : ℕ) → (given : ℕ) → State → State
+noted_in reason e given s = record s {
+  open_extent = open_noted reason e s.open_extent;
   of_runs = slice_set s.of_runs e (slice_index_or s.of_runs e false || is_of_run reason);
-  fresh = fresh_noted reason e empty s.fresh;
+  fresh = fresh_noted reason e given s.fresh;
   last = last_noted reason e s.last;
 }

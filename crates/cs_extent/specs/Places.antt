@@ -1,6 +1,6 @@
--- Room for frames, as two numbers.
+-- Room for frames in the older formats, as two numbers.
 use Rattle.std.specs.Prelude.{ℕ, ◌-◌, Option, Some, None, nat_le, nat_lt, if◌then◌else◌}
-use Rattle.cs_extent.specs.declared.supplies.Supply.{Supply}
+use Rattle.cs_extent.specs.declared.places_v2.Supply.{Supply}
 
 -- how many pages of the open extent are left
 abbrev pub room_at : (pages : ℕ) → (pointer : ℕ → ℕ) → Option ℕ → ℕ

@@ -2,6 +2,7 @@
 use Rattle.std.specs.Prelude.{◌&&◌, ℕ, Bool, not, nat_lt, List, [], ◌∷◌, Option, Some, if◌then◌else◌}
 use Rattle.law_machine.specs.Extents.{Extents}
 use Rattle.law_machine.specs.Lists.{with}
+use Rattle.cs_extent.specs.State.{State, extents_of}
 
 -- the pointers once chunks went to these extents, one after another, behind each of which the pointer is then
 abbrev pub pointers_after : (ℕ → ℕ) → List (ℕ × ℕ) → ℕ → ℕ
@@ -19,6 +20,9 @@ after_puts x puts = record x {
   pointer = pointers_after x.pointer puts;
   open_extent = open_after_puts x.open_extent puts;
 }
+
+abbrev pub extents_after : State → List (ℕ × ℕ) → Extents
+extents_after s puts = after_puts (extents_of s) puts
 
 -- the extent isn't empty, and it holds runs, or it holds chunks
 abbrev pub holds : Extents → (runs : Bool) → ℕ → Bool

@@ -1,7 +1,7 @@
 -- What the extents of a store are, in the words of the store's machine.
-use Rattle.std.specs.Prelude.{◌≡◌, ℕ, ◌+◌, ◌<◌, ◌≤◌, ◌^◌, Bool, true, false, List, Option, Some, length, map, replicate, take, drop, slice_index, slice_index_or}
+use Rattle.std.specs.Prelude.{◌≡◌, ℕ, ◌+◌, ◌<◌, ◌≤◌, ◌^◌, Bool, true, false, List, Option, None, Some, length, map, replicate, take, drop, slice_index, slice_index_or}
 use Rattle.law_machine.specs.Device.{Shape}
-use Rattle.law_machine.specs.Geometry.{shape_of}
+use Rattle.law_machine.specs.Geometry.{apart_in, shape_of}
 use Rattle.law_machine.specs.Extents.{Extents}
 use Rattle.cs_frame.specs.Geometries.{Dimensions, IsGeometry, section_length, section_size, section_start}
 use Rattle.cs_frame.specs.Superblocks.{SpellsSuperblock}
@@ -49,6 +49,22 @@ extents_of s = record {
 abbrev pub found_at : (apart : Bool) → (written : List (ℕ × ℕ)) → List ℕ
 found_at false written = replicate (length written) 0
 found_at true written = map (λ row. row.0) written
+
+-- the extents as a store is opened: none is open, none was reset, none is being swept, and none holds runs yet
+abbrev pub extents_at : (format pages sections : ℕ) → (written : List (ℕ × ℕ)) → State
+extents_at format pages sections written = record {
+  format = format;
+  pages = pages;
+  sections = sections;
+  written = written;
+  resets = replicate (length written) 0;
+  swept = replicate (length written) false;
+  open_extent = None;
+  of_runs = replicate (length written) false;
+  found = found_at (apart_in format) written;
+  fresh = None;
+  last = None;
+}
 
 -- the device, whose superblocks are written in sections
 abbrev pub shape : State → Shape

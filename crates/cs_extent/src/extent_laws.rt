@@ -8,9 +8,9 @@ ghost use Rattle.law_machine.specs.Extents.{Extents, GoesApart, Placed, Purpose,
 ghost use Rattle.cs_extent.specs.Changes.{Change, Given, LeadsTo};
 ghost use Rattle.cs_extent.specs.Frames.{AreOneSectionsNeedsWithin, IsFrameBehind, IsFrameStaged, greatest, root_family};
 
-/// Between two openings each page of an extent is given at most once in each of the extent's generations, and none of those that were
-/// given before. A page that was given and not recorded may be given again once the store is opened anew: nothing that is named lies
-/// behind the pointer that is found.
+/// Between two opens each page of an extent is given at most once in each of the extent's generations. No page is given
+/// that was given before. A page that was given and not recorded may be given again once the store is opened anew: no
+/// locator names a page after the pointer that is found.
 pub fn pages_are_given_once()
     ensures once { (S : Shape) (x y : Extents) (changes : List Change) (given : List Given) (i j : ℕ) (page : Given)
         → LeadsTo S x changes given y → slice_get given i ≡ Some page → slice_get given j ≡ Some page → i ≡ j }
@@ -19,14 +19,14 @@ pub fn pages_are_given_once()
         ⊎ ((page.generation ≡ x.generation page.extent) × (x.pointer page.extent ≤ page.page)) }
 {}
 
-/// A frame goes to one extent, if to any, also where chunks and runs lie apart.
+/// A frame goes to one extent, if to any, in format 3 as in the older formats.
 pub fn one_place()
     ensures mixed { (S : Shape) (x : Extents) (purpose : Purpose) (k d e : ℕ) → Placed S x purpose k d → Placed S x purpose k e → d ≡ e }
     ensures apart { (S : Shape) (x : Extents) (purpose : Purpose) (k d e : ℕ) → GoesApart S x purpose k d → GoesApart S x purpose k e → d ≡ e }
 {}
 
-/// Where an extent is emptied under a version of the root that is not below those of the resets before of its section's extents, the
-/// section's next version needs that version of the root: what such versions need never falls.
+/// What a section's versions need of the root never falls. An extent is emptied under a version of the root. If no
+/// earlier reset of the section's extents had a greater one, the section's next version needs that version.
 pub fn needs_never_fall()
     ensures bound { (x : Extents) (start count root : ℕ)
         → (greatest (λ i. x.reset (start + i)) count ≤ root) ↔ ((i : ℕ) → i < count → x.reset (start + i) ≤ root) }
@@ -34,8 +34,9 @@ pub fn needs_never_fall()
         → greatest (λ k. (emptied x (start + i) root).reset (start + k)) count ≡ root }
 {}
 
-/// Where the superblock has one section, page writes come first and what its versions need doesn't fall, joining it with what the
-/// version before needs adds nothing: a new version needs the plain writes staged so far and the versions of the root up to its own need, and nothing else.
+/// This is of a superblock of one section, in a format in which page writes come first, if what its versions need
+/// doesn't fall. Joining it with what the version before needs adds nothing. A new version needs the plain writes
+/// staged so far and the versions of the root up to its own need, and nothing else.
 pub fn joining_adds_nothing_to_one_section()
     ensures exact { (old new : Staging) (count root need : ℕ) → IsFrameStaged old new true 1 0 count root need → AreOneSectionsNeedsWithin old need → IsFrameBehind old new count root need }
     ensures kept { (old new : Staging) (count root need : ℕ) → IsFrameStaged old new true 1 0 count root need → AreOneSectionsNeedsWithin old need → AreOneSectionsNeedsWithin new need }

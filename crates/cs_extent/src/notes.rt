@@ -1,14 +1,16 @@
-//! What is noted of the extents where chunks and runs lie apart.
+//! What is noted of the extents in format 3, in which chunks and runs lie apart.
 ghost use Rattle.std.specs.Prelude.{◌≡◌, ◌↔◌, ◌<◌, ◌≤◌, ◌^◌, ◌==◌, if◌then◌else◌, ℕ, true, Some, None, IfOk, IfErr, OnOk, OnErr, IsTrue, length};
 ghost use Rattle.law_machine.specs.Extents.{emptied, forgotten, other_than, reach};
 ghost use Rattle.law_machine.specs.Geometry.{apart_in, fills_in};
+ghost use Rattle.cs_extent.specs.Kinds.{is_of_runs};
 ghost use Rattle.cs_extent.specs.Notes.{fresh_noted, is_of_run, last_noted, noted_in, open_noted};
 ghost use Rattle.cs_extent.specs.Purposes.{reason_of};
 ghost use Rattle.cs_extent.specs.State.{IsWhole, extents_of, found_at, shape};
 
-use crate::extents::{Extents, LAST_GENERATION};
+use crate::extents::Extents;
+use crate::kinds::Kind;
 use crate::purposes::Purpose;
-use cs_refusal::Refusal;
+use cs_frame::Format;
 use std::alloc::{AllocError, Global};
 
 impl Extents {
@@ -24,7 +26,7 @@ impl Extents {
         requires { extent < (shape self.now).extents }
         ensures { result ≡ (extents_of self.now).of_runs extent }
     {
-        self.kinds[extent]
+        self.of_runs[extent]
     }
 
     /// How many pages of an extent were given as the store was opened, 0 once it was reset.
@@ -35,16 +37,16 @@ impl Extents {
         usize::from(self.found[extent])
     }
 
-    /// Whether extents are filled up: frames are appended behind the pages that were found on an extent, and one that begins among
-    /// them ends there too.
+    /// Whether extents are filled up: frames are appended after the pages that were found on an extent, and a frame
+    /// that begins among them ends there too.
     pub fn fills(&self) -> bool
         ensures { result ≡ (shape self.now).fills }
     {
         self.geometry().format().fills_up()
     }
 
-    /// How far a frame may reach that begins at a page of an extent: to the end of the pages that were found where it begins among
-    /// them and extents are filled up, else to the extent's end.
+    /// How far a frame may reach that begins at a page of an extent: to the end of the pages that were found, if it
+    /// begins among them and extents are filled up, else to the extent's end.
     pub fn end_of(&self, extent: usize, page: usize) -> usize
         requires { extent < (shape self.now).extents }
         ensures end { result ≡ reach (shape self.now) ((extents_of self.now).found extent) page }
@@ -81,16 +83,16 @@ impl Extents {
         self.last
     }
 
-    /// Notes that an extent holds runs, or that it doesn't.
-    pub fn set_kind(&mut self, extent: usize, runs: bool)
+    /// Notes what an extent holds.
+    pub fn set_kind(&mut self, extent: usize, kind: Kind)
         requires { extent < (shape self.old).extents }
-        ensures extents { extents_of self.new ≡ record (extents_of self.old) { of_runs = λ d. if d == extent then runs else (extents_of self.old).of_runs d } }
+        ensures extents { extents_of self.new ≡ record (extents_of self.old) { of_runs = λ d. if d == extent then is_of_runs kind else (extents_of self.old).of_runs d } }
         ensures shape { shape self.new ≡ shape self.old }
     {
-        self.kinds[extent] = runs;
+        self.of_runs[extent] = kind.is_of_runs();
     }
 
-    /// Appends to an extent no more where it is the open one, or the one to which the last copy went.
+    /// No frame is appended to an extent any more because it is the open one, or the one to which the last copy went.
     pub fn set_aside(&mut self, extent: usize)
         ensures extents { extents_of self.new ≡ record (extents_of self.old) { open_extent = other_than extent (extents_of self.old).open_extent; last = other_than extent (extents_of self.old).last } }
         ensures shape { shape self.new ≡ shape self.old }
@@ -107,51 +109,17 @@ impl Extents {
         self.fresh = None;
     }
 
-    /// Empties an extent where chunks and runs lie apart, under the version of the root that was staged for it: as `reset`, and nothing
-    /// is noted of the extent then.
-    ///
-    /// 35 `WornOut` where its generation is the greatest, 4,294,967,295.
-    pub fn reset_apart(&mut self, extent: usize, root: u64) -> Result<(), Refusal>
-        requires exists { extent < (shape self.old).extents }
-        requires root { root < 2 ^ 63 }
-        ensures extents { OnOk result (extents_of self.new ≡ forgotten true (emptied (extents_of self.old) extent root) extent) }
-        ensures shape { shape self.new ≡ shape self.old }
-        ensures worn { (result ≡ Err Refusal.WornOut) ↔ ((extents_of self.old).generation extent ≡ (shape self.old).greatest_generation) }
-        ensures refusals { IfErr result (λ r. r ≡ Refusal.WornOut) }
-        ensures refused { OnErr result (self.new ≡ self.old) }
-    {
-        let entry = &mut self.written[extent];
-        if entry.1 == LAST_GENERATION {
-            return Err(Refusal::WornOut);
-        }
-        entry.0 = 0;
-        entry.1 += 1;
-        self.resets[extent] = root;
-        self.kinds[extent] = false;
-        self.found[extent] = 0;
-        self.open_extent = other_than(extent, self.open_extent);
-        self.last = other_than(extent, self.last);
-        Ok(())
-    }
-
-    /// Notes that a frame went to an extent for this purpose, which was empty before or wasn't, and that this one was open before.
-    pub(crate) fn note(
-        &mut self,
-        purpose: Purpose,
-        extent: usize,
-        empty: bool,
-        before: Option<usize>,
-    )
+    /// Notes that a frame went to an extent for this purpose, of which so many pages were given before.
+    pub(crate) fn note(&mut self, purpose: Purpose, extent: usize, given: usize)
         requires exists { extent < (shape self.old).extents }
         requires given { 0 < (extents_of self.old).pointer extent }
-        requires was { (e : ℕ) → before ≡ Some e → (e < (shape self.old).extents) × (0 < (extents_of self.old).pointer e) }
-        ensures notes { self.new ≡ noted_in (reason_of purpose) extent empty before self.old }
+        ensures notes { self.new ≡ noted_in (reason_of purpose) extent given self.old }
         ensures there { extent < length self.old.of_runs }
     {
-        let runs = self.kinds[extent] || purpose.is_of_run();
-        self.kinds[extent] = runs;
-        self.open_extent = purpose.open_noted(extent, before);
-        self.fresh = purpose.fresh_noted(extent, empty, self.fresh);
+        let runs = self.of_runs[extent] || purpose.is_of_run();
+        self.of_runs[extent] = runs;
+        self.open_extent = purpose.open_noted(extent, self.open_extent);
+        self.fresh = purpose.fresh_noted(extent, given, self.fresh);
         self.last = purpose.last_noted(extent, self.last);
     }
 }
@@ -177,12 +145,12 @@ impl Purpose {
         }
     }
 
-    /// The extent that the sweep opened, once a frame went to this one, which was empty before or wasn't.
-    fn fresh_noted(self, extent: usize, empty: bool, before: Option<usize>) -> Option<usize>
-        ensures { result ≡ fresh_noted (reason_of self) extent empty before }
+    /// The extent that the sweep opened, once a frame went to this one, of which so many pages were given before.
+    fn fresh_noted(self, extent: usize, given: usize, before: Option<usize>) -> Option<usize>
+        ensures { result ≡ fresh_noted (reason_of self) extent given before }
     {
         match self {
-            Purpose::Move => { if empty { Some(extent) } else { before } }
+            Purpose::Move => { if given == 0 { Some(extent) } else { before } }
             Purpose::Put | Purpose::Run | Purpose::Merge => before,
         }
     }
@@ -198,8 +166,8 @@ impl Purpose {
     }
 }
 
-/// The extent, but none where it is this one.
-fn other_than(extent: usize, of: Option<usize>) -> Option<usize>
+/// The extent, but none if it is this one.
+pub fn other_than(extent: usize, of: Option<usize>) -> Option<usize>
     ensures { result ≡ other_than extent of }
 {
     match of {
@@ -208,18 +176,23 @@ fn other_than(extent: usize, of: Option<usize>) -> Option<usize>
     }
 }
 
-/// The other extent, but none where it is this one.
+/// The other extent, but none if it is this one.
 fn unless_equal(extent: usize, other: usize) -> Option<usize>
     ensures { result ≡ (if other == extent then None else Some other) }
 {
     if other == extent { None } else { Some(other) }
 }
 
-/// How many pages of each extent count as found as a store is opened: all that are given where chunks and runs lie apart, else none.
-pub fn found_at(alloc: Global, written: &[(u16, u32)], apart: bool) -> Result<Vec<u16>, AllocError>
-    ensures { IfOk result (λ found. found.items ≡ found_at apart written.now) }
+/// How many pages of each extent count as found as a store of this format is opened: all that are given in format 3,
+/// else none.
+pub fn found_at(
+    alloc: Global,
+    written: &[(u16, u32)],
+    format: Format,
+) -> Result<Vec<u16>, AllocError>
+    ensures { IfOk result (λ found. found.items ≡ found_at (apart_in format) written.now) }
 {
-    if !apart {
+    if !format.lies_apart() {
         let none = vec![in alloc; 0; written.len()]?;
         return Ok(none);
     }

@@ -1,8 +1,8 @@
 -- Some locators as they are held: in place, or elsewhere in memory.
 use Rattle.std.specs.Prelude.{ℕ, ◌+◌, ◌≤◌, List, [], ◌∷◌, length, vec_capacity}
 use Rattle.cs_frame.specs.declared.locators.Locator.{Locator}
-use Rattle.cs_frame.specs.declared.places.Held.{Held}
-use Rattle.cs_frame.specs.declared.places.Held.TheVariants.{Nothing, One, Many}
+use Rattle.cs_frame.specs.declared.locators.Held.{Held}
+use Rattle.cs_frame.specs.declared.locators.Held.TheVariants.{Nothing, One, Many}
 
 -- locators in order, and how many of them there may be without asking for memory
 pub record Listed : Type 0 where

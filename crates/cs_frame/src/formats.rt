@@ -171,7 +171,8 @@ impl Format {
 
     /// The greatest number of sections of a superblock.
     pub fn greatest_sections(self) -> u8
-        ensures { result ≡ greatest_sections self }
+        ensures number { result ≡ greatest_sections self }
+        ensures known { IsKnown self }
     {
         match self.known {
             Known::Two => 8,
@@ -211,7 +212,8 @@ impl Format {
 
     /// The fourth byte of a root.
     pub(crate) fn root_digit(self) -> u8
-        ensures { result ≡ root_digit self }
+        ensures digit { result ≡ root_digit self }
+        ensures known { IsKnown self }
     {
         match self.known {
             Known::Two => b'1',

@@ -1,18 +1,21 @@
-//! Frames: a payload with its digest, in whole pages.
-
-ghost use Rattle.std.specs.Prelude.{◌≡◌, ◌+◌, ◌++◌, ◌^◌, ◌<◌, ◌≤◌, ℕ, List, None, Ok, Err, IfOk, length, vec_len};
+//! Frames: a payload with its digest, in whole pages; the head of a chunk, and a frame as it was read.
+ghost use Rattle.std.specs.Prelude.{◌≡◌, ◌+◌, ◌++◌, ◌^◌, ◌<◌, ◌≤◌, ℕ, List, None, Ok, Err, IfOk, length, vec_len, MatchOption, take};
 ghost use Rattle.cs_frame.specs.Bytes.{EachHas, IsBytes};
 ghost use Rattle.cs_frame.specs.Faults.{HasFault, OkUnlessMemory, fault_in};
-ghost use Rattle.law_machine.specs.Geometry.{digest_number, mark_in};
+ghost use Rattle.law_machine.specs.Geometry.{digest_number, mark_in, head_bytes_in, heads_in};
 ghost use Rattle.sha2.specs.Sha256.{sha256};
-ghost use Rattle.cs_frame.specs.Frames.{SpellsFrame, bytes_in, first_page, frame_count, frame_fault, header_fault, kind_byte, mark_test, meant_header_fault, page_count, payload_in, payload_length, spelled_frame};
+ghost use Rattle.cs_frame.specs.Frames.{SpellsFrame, bytes_in, first_page, frame_count, frame_fault, header_fault, kind_byte, mark_test, meant_header_fault, page_count, payload_in, payload_length, spelled_frame, meant_fault};
+ghost use Rattle.cs_frame.specs.Heads.{body_in, head_in, spelled_head};
+ghost use Rattle.cs_frame.specs.Identifiers.{id_number};
 
 use crate::faults::FormatFault;
 use crate::formats::Format;
+use crate::identifiers::ShardId;
 use crate::pages::{check_magic, check_version, is_zero};
 use byteorder::{BigEndian, ByteOrder};
 use sha2::{Digest, Sha256};
 use std::alloc::{AllocError, Global};
+use std::marker::Model;
 
 /// What a frame holds.
 #[derive(Clone, Copy, Debug, PartialEq, Eq)]
@@ -221,4 +224,139 @@ pub fn decode_frame(
 {
     let payload = payload_of(kind, pages)?;
     Ok(Vec::from_slice(alloc, payload)?)
+}
+
+/// How many bytes a head has: 26, and none in a format that has no heads.
+pub fn head_bytes(format: Format) -> usize
+    ensures bytes { result ≡ head_bytes_in format }
+    ensures small { result ≤ 26 }
+{
+    if format.has_heads() { 26 } else { 0 }
+}
+
+/// What the head of a chunk says.
+#[derive(Clone, Copy, Debug, PartialEq, Eq)]
+pub struct ChunkHead {
+    /// The identifier of the shard.
+    pub id: ShardId,
+    /// The chunk's number in the shard, from 0 on.
+    pub number: u8,
+    /// How many chunks the shard has.
+    pub count: u8,
+    /// The number of the command that put the shard.
+    pub command: u64,
+}
+
+/// The bytes that spell a head.
+pub fn encode_head(head: ChunkHead) -> [u8; 26]
+    ensures { result ≡ spelled_head (id_number head.id) head.number head.count head.command }
+{
+    let mut bytes = [0; 26];
+    bytes[..16].copy_from_slice(&head.id.bytes());
+    bytes[16] = head.number;
+    bytes[17] = head.count;
+    BigEndian::write_u64(&mut bytes[18..26], head.command);
+    bytes
+}
+
+/// The head that a payload begins with; there is none where it is shorter than a head. What the head says isn't tested.
+pub fn decode_head(payload: &[u8]) -> Option<ChunkHead>
+    ensures { MatchOption result (length payload.now < 26)
+        (λ head. take 26 payload.now ≡ spelled_head (id_number head.id) head.number head.count head.command) }
+{
+    if payload.len() < 26 {
+        return None;
+    }
+    let mut id = [0; 16];
+    id.copy_from_slice(&payload[..16]);
+    Some(ChunkHead {
+        id: ShardId(id),
+        number: payload[16],
+        count: payload[17],
+        command: BigEndian::read_u64(&payload[18..26]),
+    })
+}
+
+/// The piece of a shard's bytes in the payload of a chunk: what is behind its head, where the format has heads.
+pub fn chunk_body(format: Format, payload: &[u8]) -> &[u8]
+    ensures { result.now ≡ body_in format payload.now }
+{
+    let start = head_bytes(format).min(payload.len());
+    &payload[start..]
+}
+
+/// The pages of a chunk's frame, whose payload is a piece of the shard's bytes behind the head, where the format has heads.
+pub fn encode_chunk(
+    alloc: Global,
+    format: Format,
+    head: ChunkHead,
+    piece: &[u8],
+) -> Result<Vec<[u8; 4096]>, AllocError>
+    requires { head_bytes_in format + length piece.now < 2 ^ 32 }
+    ensures spelled { IfOk result (λ pages. pages.items
+        ≡ spelled_frame 0 (head_in format (id_number head.id) head.number head.count head.command ++ piece.now)) }
+    ensures count { IfOk result (λ pages. vec_len pages ≡ page_count (head_bytes_in format + length piece.now)) }
+{
+    let bytes = encode_head(head);
+    encode_parts(alloc, FrameKind::Chunk, &bytes[..head_bytes(format)], piece)
+}
+
+/// The payload of a frame, in the pages that were read of it: it isn't copied.
+#[derive(Drop)]
+pub struct ReadFrame {
+    pages: Vec<[u8; 4096]>,
+    /// How many bytes of them are the payload, behind the header.
+    size: usize,
+}
+
+impl Model for ReadFrame {
+    ghost use Rattle.std.specs.Prelude.{ℕ, ◌≡◌, ◌^◌, ◌<◌, ◌≤◌, List, length};
+    ghost use Rattle.cs_frame.specs.Frames.{first_page, page_count, payload_in, payload_length};
+
+    ghost Value = { List ℕ };
+
+    ghost view = { λ f. payload_in f.pages.items };
+
+    ghost invariant = { λ f. (f.size ≡ payload_length (first_page f.pages.items)) × (page_count f.size ≤ length f.pages.items) × (f.size < 2 ^ 32) };
+}
+
+impl ReadFrame {
+    /// The payload.
+    pub fn payload(&self) -> &[u8]
+        ensures value { result.now ≡ self.now }
+    {
+        let bytes = self.pages[..frame_pages(self.size)].as_flattened();
+        &bytes[41..41 + self.size]
+    }
+}
+
+/// As `decode_frame`, but the payload stays in these pages, so that no memory is asked for.
+fn whole_frame_in(kind: FrameKind, pages: Vec<[u8; 4096]>) -> Result<ReadFrame, FormatFault>
+    requires { 0 < length pages.items }
+    ensures spelled { IfOk result (λ payload. SpellsFrame (kind_byte kind) pages.items payload) }
+    ensures fault { fault_in result ≡ frame_fault (kind_byte kind) pages.items }
+{
+    let size = match payload_of(kind, &pages) {
+        Ok(payload) => payload.len(),
+        Err(fault) => return Err(fault),
+    };
+    Ok(ReadFrame { pages, size })
+}
+
+/// The frame of a mark in these pages, which the payload stays in. Tested as by `decode_frame`, and then its mark, 26 Misplaced where it
+/// is another frame's; no memory is asked for.
+pub fn read_frame_in(
+    format: Format,
+    kind: FrameKind,
+    mark: u64,
+    pages: Vec<[u8; 4096]>,
+) -> Result<ReadFrame, FormatFault>
+    requires { 0 < length pages.items }
+    ensures spelled { IfOk result (λ payload. SpellsFrame (kind_byte kind) pages.items payload) }
+    ensures fault { fault_in result ≡ meant_fault format (kind_byte kind) mark pages.items }
+{
+    let meant = check_mark(format, mark, &pages[0]);
+    let frame = whole_frame_in(kind, pages)?;
+    meant?;
+    Ok(frame)
 }

@@ -2,15 +2,12 @@
 
 ghost use Rattle.std.specs.Prelude.{◌≡◌, ◌↔◌, ◌+◌, ◌-◌, ◌*◌, ◌/◌, ◌^◌, ◌<◌, ◌≤◌, ◌==◌, if◌then◌else◌, IfOk, IfErr, IsOk, IsTrue, unwrap_or};
 ghost use Rattle.law_machine.specs.Geometry.{chunk_bytes_in, most_weight_in};
-ghost use Rattle.cs_frame.specs.Geometries.{Dimensions, IsGeometry, IsKnown, device_pages, in_bounds, is_divided, section_length, section_size, section_start, sections_needed};
+ghost use Rattle.cs_frame.specs.Geometries.{Dimensions, IsGeometry, device_pages, in_bounds, is_divided, section_length, section_size, section_start, sections_needed};
 
 use crate::faults::FormatFault;
 use crate::formats::Format;
-use crate::heads::head_bytes;
+use crate::frames::head_bytes;
 use std::marker::Model;
-
-/// The format in which stores are made where none is asked for.
-pub const FORMAT: u8 = 2;
 
 /// The greatest number of extents of a section, so that what it spells and its digest have room on a page.
 pub const GREATEST_SECTION_EXTENTS: u16 = 512;
@@ -78,7 +75,6 @@ fn sections_needed(extents: u64) -> u64
 
 /// There is a store of this format of so many extents, pages and sections.
 fn is_geometry(format: Format, extents: u64, pages: u64, sections: u64) -> bool
-    requires { IsKnown format }
     ensures { IsTrue result ↔ IsGeometry format extents pages sections }
 {
     if !are_in_bounds(format, format.greatest_extents(), extents, pages) {
@@ -111,10 +107,10 @@ impl Model for Geometry {
 }
 
 impl Geometry {
-    /// A store of a format, 2 or 3, of `extents` extents of `pages` pages each, whose superblock has `sections` sections, or as few as it
+    /// A store of a format of `extents` extents of `pages` pages each, whose superblock has `sections` sections, or as few as it
     /// may. All sections but the last have as many extents, at most 512, and the last has what is left, which is at least one.
     pub fn of_format(
-        format: u64,
+        format: Format,
         extents: u64,
         pages: u64,
         sections: Option<u64>,
@@ -127,9 +123,6 @@ impl Geometry {
         ensures fault { IfErr result (λ fault. fault ≡ FormatFault.BadGeometry) }
     {
         let sections = sections.unwrap_or(sections_needed(extents));
-        let Some(format) = Format::numbered(format) else {
-            return Err(FormatFault::BadGeometry);
-        };
         if is_geometry(format, extents, pages, sections) {
             Ok(Geometry {
                 format,
@@ -151,7 +144,7 @@ impl Geometry {
         ensures sections { IfOk result (λ geometry. geometry.sections ≡ sections_needed extents) }
         ensures fault { IfErr result (λ fault. fault ≡ FormatFault.BadGeometry) }
     {
-        Geometry::of_format(u64::from(FORMAT), extents, pages, None)
+        Geometry::of_format(Format::two(), extents, pages, None)
     }
 
     /// A store of format 2 of `extents` extents, 4 to 2,048, of `pages` pages, 2 to 256, whose superblock has `sections` sections, 1 to 8:
@@ -164,7 +157,7 @@ impl Geometry {
         ensures sections { IfOk result (λ geometry. geometry.sections ≡ sections) }
         ensures fault { IfErr result (λ fault. fault ≡ FormatFault.BadGeometry) }
     {
-        Geometry::of_format(u64::from(FORMAT), extents, pages, Some(sections))
+        Geometry::of_format(Format::two(), extents, pages, Some(sections))
     }
 
     /// The format of the store.

@@ -4,28 +4,21 @@
 //! pages and no others. It makes its tests in a stated order and answers the fault of the first that fails.
 #![tactic(auto)]
 
-mod fault_refusals;
 mod faults;
 mod format_laws;
 mod format_runs;
 mod formats;
 mod frames;
 mod geometries;
-mod heads;
 mod identifiers;
 mod locators;
-mod packed_runs;
 mod page_zero;
 mod pages;
-mod places;
-mod pointers;
-mod read_frames;
 mod roots;
 mod run_frames;
 mod superblocks;
 
-pub use fault_refusals::refusal_of_fault;
-pub use faults::FormatFault;
+pub use faults::{FormatFault, refusal_of_fault};
 pub use format_laws::{
     first_format_has_one_spelling, formats_are_apart, frame_has_one_spelling,
     frame_is_read_by_its_header, frames_fit_on_an_extent, heads_tell_chunks, marks_tell_digests,
@@ -36,19 +29,16 @@ pub use format_laws::{
 pub use format_runs::{decode_run, encode_run, entry_weight, run_size, weight_bytes};
 pub use formats::Format;
 pub use frames::{
-    FrameHeader, FrameKind, decode_frame, decode_frame_header, decode_meant_header, encode_frame,
-    frame_mark, frame_pages,
+    ChunkHead, FrameHeader, FrameKind, ReadFrame, chunk_body, decode_frame, decode_frame_header,
+    decode_head, decode_meant_header, encode_chunk, encode_frame, encode_head, frame_mark,
+    frame_pages, head_bytes, read_frame_in,
 };
 pub use geometries::{
-    FORMAT, GREATEST_SECTION_EXTENTS, GREATEST_SUPERBLOCK_EXTENTS, Geometry, LEAST_PAGES,
-    device_pages,
+    GREATEST_SECTION_EXTENTS, GREATEST_SUPERBLOCK_EXTENTS, Geometry, LEAST_PAGES, device_pages,
 };
-pub use heads::{ChunkHead, chunk_body, decode_head, encode_chunk, encode_head, head_bytes};
 pub use identifiers::ShardId;
-pub use locators::Locator;
+pub use locators::{Locator, Places};
 pub use page_zero::decode_superblock;
-pub use places::Places;
-pub use read_frames::{ReadFrame, read_frame_in};
 pub use roots::{Root, decode_root, encode_root};
 pub use run_frames::{GREATEST_CHUNKS, Run, run_bytes};
 pub use superblocks::{Superblock, decode_section, encode_section, encode_superblock, record_in};

@@ -11,8 +11,7 @@ use crate::faults::FormatFault;
 use crate::formats::Format;
 use crate::geometries::{GREATEST_SUPERBLOCK_EXTENTS, are_in_bounds};
 use crate::pages::{check_digest, check_magic, check_padding, check_version};
-use crate::pointers::{check_pointers_in, check_range, extents_of};
-use crate::superblocks::{Superblock, decode_section};
+use crate::superblocks::{Superblock, check_pointers_in, check_range, decode_section, extents_of};
 use byteorder::{BigEndian, ByteOrder};
 use std::alloc::{AllocError, Global};
 

@@ -75,6 +75,7 @@ fn check_range(page: &[u8; 4096]) -> Result<(), FormatFault>
 /// Makes the tests of a root in order.
 fn check_root(page: &[u8; 4096], format: Format) -> Result<(), FormatFault>
     ensures fault { fault_in result ≡ root_fault format page.now }
+    ensures known { IfOk result (λ _. IsKnown format) }
     ensures page { IsPage page.now }
 {
     check_magic(page, b"CSR")?;
@@ -111,7 +112,6 @@ fn root_from(alloc: Global, page: &[u8; 4096], format: Format) -> Result<Root, A
 /// the fourth byte isn't the format's, 22 BadLength, 21 BadDigest, then 24 for the ranges of version and number, and 23 BadPadding; 9
 /// OutOfMemory only for a page that spells a root.
 pub fn decode_root(alloc: Global, page: &[u8; 4096], format: Format) -> Result<Root, FormatFault>
-    requires { IsKnown format }
     // What is read has this format, and is spelled by the page.
     ensures format { IfOk result (λ root. root.format ≡ format) }
     ensures spelled { IfOk result (λ root. SpellsRoot page.now root.format root.version root.commands root.runs.items) }

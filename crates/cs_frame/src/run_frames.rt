@@ -10,9 +10,8 @@ ghost use Rattle.cs_frame.specs.Runs.{Entry, FitsEntry, IsRun, SpellsPlain, entr
 
 use crate::faults::FormatFault;
 use crate::identifiers::ShardId;
-use crate::locators::Locator;
+use crate::locators::{Locator, Places, places_from};
 use crate::pages::is_zero;
-use crate::places::{Places, places_from};
 use byteorder::{BigEndian, ByteOrder};
 use std::alloc::{AllocError, Global};
 

@@ -1,20 +1,19 @@
-//! The superblock in sections, a page for each, in the format of the store.
-
-ghost use Rattle.std.specs.Prelude.{◌≡◌, ◌+◌, ◌*◌, ◌^◌, ◌<◌, ◌≤◌, ℕ, List, None, Ok, Err, IfOk, length, slice_index};
+//! The superblock in sections, a page for each, in the format of the store, with pointer and generation of each extent.
+ghost use Rattle.std.specs.Prelude.{◌≡◌, ◌+◌, ◌*◌, ◌^◌, ◌<◌, ◌≤◌, ℕ, List, None, Ok, Err, IfOk, length, slice_index, ◌/◌, ◌++◌, nat_le};
 ghost use Rattle.law_machine.specs.Geometry.{records_in};
 ghost use Rattle.cs_frame.specs.Geometries.{IsKnown, section_length};
-ghost use Rattle.std.specs.List.{AllByRecursion};
+ghost use Rattle.std.specs.List.{AllByRecursion, list_all};
 ghost use Rattle.cs_frame.specs.Buffers.{text_of};
 ghost use Rattle.cs_frame.specs.Bytes.{IsPage, number};
 ghost use Rattle.cs_frame.specs.Faults.{HasFault, OkUnlessMemory, fault_in};
 ghost use Rattle.cs_frame.specs.Superblocks.{FitsRecord, IsSection, IsSuperblock, SpellsSuperblock, record_bytes, record_in, section_test, superblock_end, superblock_extents, superblock_fault, superblock_fields, superblock_pointer_test, superblock_record, superblock_start};
-ghost use Rattle.cs_frame.specs.Pointers.{FitsGeneration};
+ghost use Rattle.cs_frame.specs.Pointers.{FitsGeneration, extent_in, extents_from, pointers_test, spelled_extent, spelled_extents, superblock_range_test};
+ghost use Rattle.std.specs.Simd.{first_chunks};
 
 use crate::faults::FormatFault;
 use crate::formats::Format;
 use crate::geometries::{Geometry, are_in_bounds, can_be_divided, extents_in_section};
 use crate::pages::{PageBuffer, check_digest, check_digit, check_magic, check_padding};
-use crate::pointers::{append_extents, check_pointers_in, check_range, extents_of};
 use byteorder::{BigEndian, ByteOrder};
 use std::alloc::{AllocError, Global};
 
@@ -59,14 +58,15 @@ fn record_bytes(format: Format) -> usize
 
 /// The digit of a format, its fourth byte.
 fn digit_of(format: Format) -> u8
-    requires { IsKnown format }
-    ensures { result ≡ 48 + format }
+    ensures digit { result ≡ 48 + format }
+    ensures known { IsKnown format }
 {
     b'0' + format.number()
 }
 
-/// The page of a section up to its digest.
-fn unsealed(
+/// What a page of a section says before its extents.
+#[derive(Clone, Copy)]
+struct SectionHead {
     format: Format,
     version: u64,
     recorded: u64,
@@ -74,50 +74,33 @@ fn unsealed(
     pages: u16,
     sections: u8,
     section: u8,
-    extents: &[(u16, u32)],
-) -> PageBuffer
-    requires known { IsKnown format }
-    requires size { 6 * length extents.now ≤ 4038 }
-    ensures text { text_of result ≡ superblock_fields format version recorded extent_count pages sections section extents.now }
+}
+
+/// The page of a section up to its digest.
+fn unsealed(head: SectionHead, extents: &[(u16, u32)]) -> PageBuffer
+    requires { 6 * length extents.now ≤ 4038 }
+    ensures text { text_of result ≡ superblock_fields head.format head.version head.recorded head.extent_count head.pages head.sections head.section extents.now }
     ensures generations { AllByRecursion FitsGeneration extents.now }
 {
     let mut page = PageBuffer::new();
     page.append(b"CSS");
-    page.append(&[digit_of(format)]);
-    page.append(&version.to_be_bytes());
-    page.append(&extent_count.to_be_bytes());
-    page.append(&pages.to_be_bytes());
-    page.append(&[sections]);
-    page.append(&[section]);
-    page.append(&recorded.to_be_bytes()[..record_bytes(format)]);
+    page.append(&[digit_of(head.format)]);
+    page.append(&head.version.to_be_bytes());
+    page.append(&head.extent_count.to_be_bytes());
+    page.append(&head.pages.to_be_bytes());
+    page.append(&[head.sections]);
+    page.append(&[head.section]);
+    page.append(&head.recorded.to_be_bytes()[..record_bytes(head.format)]);
     append_extents(&mut page, extents);
     page
 }
 
 /// The page that spells a section of so many extents, pages and sections.
-fn spelled_page(
-    format: Format,
-    version: u64,
-    recorded: u64,
-    extent_count: u16,
-    pages: u16,
-    sections: u8,
-    section: u8,
-    extents: &[(u16, u32)],
-) -> [u8; 4096]
-    requires { IsSection format version recorded extent_count pages sections section extents.now }
-    ensures { SpellsSuperblock result format version recorded extent_count pages sections section extents.now }
+fn spelled_page(head: SectionHead, extents: &[(u16, u32)]) -> [u8; 4096]
+    requires { IsSection head.format head.version head.recorded head.extent_count head.pages head.sections head.section extents.now }
+    ensures { SpellsSuperblock result head.format head.version head.recorded head.extent_count head.pages head.sections head.section extents.now }
 {
-    let mut page = unsealed(
-        format,
-        version,
-        recorded,
-        extent_count,
-        pages,
-        sections,
-        section,
-        extents,
-    );
+    let mut page = unsealed(head, extents);
     page.seal();
     page.finish()
 }
@@ -128,16 +111,16 @@ pub fn encode_superblock(superblock: &Superblock) -> [u8; 4096]
     ensures { let it = superblock.now in
         SpellsSuperblock result it.format it.version it.recorded it.extent_count it.pages it.sections it.section it.extents.items }
 {
-    spelled_page(
-        superblock.format,
-        superblock.version,
-        superblock.recorded,
-        superblock.extent_count,
-        superblock.pages,
-        superblock.sections,
-        superblock.section,
-        &superblock.extents,
-    )
+    let head = SectionHead {
+        format: superblock.format,
+        version: superblock.version,
+        recorded: superblock.recorded,
+        extent_count: superblock.extent_count,
+        pages: superblock.pages,
+        sections: superblock.sections,
+        section: superblock.section,
+    };
+    spelled_page(head, &superblock.extents)
 }
 
 /// The page that spells a section of a store's superblock, which records this version of the root and whose extents have these pointers and
@@ -156,16 +139,16 @@ pub fn encode_section(
     requires pointers { AllByRecursion (λ extent. extent.0 ≤ geometry.pages) extents.now }
     ensures { SpellsSuperblock result geometry.format version recorded geometry.extents geometry.pages geometry.sections section extents.now }
 {
-    spelled_page(
-        geometry.format(),
+    let head = SectionHead {
+        format: geometry.format(),
         version,
         recorded,
-        geometry.extents(),
-        geometry.pages(),
-        geometry.sections(),
+        extent_count: geometry.extents(),
+        pages: geometry.pages(),
+        sections: geometry.sections(),
         section,
-        extents,
-    )
+    };
+    spelled_page(head, extents)
 }
 
 /// What a page of a section records.
@@ -230,8 +213,8 @@ fn check_pointers(page: &[u8; 4096], format: Format) -> Result<(), FormatFault>
 
 /// Makes the tests of a section's page in order.
 fn check_page(page: &[u8; 4096], format: Format) -> Result<(), FormatFault>
-    requires { IsKnown format }
     ensures fault { fault_in result ≡ superblock_fault format page.now }
+    ensures known { IfOk result (λ _. IsKnown format) }
     ensures sections { IfOk result (λ _. 1 ≤ slice_index page.now 16) }
     ensures end { IfOk result (λ _. superblock_end format page.now + 32 ≤ 4096) }
     ensures page { IsPage page.now }
@@ -280,7 +263,6 @@ pub fn decode_section(
     page: &[u8; 4096],
     format: Format,
 ) -> Result<Superblock, FormatFault>
-    requires { IsKnown format }
     // What is read has this format, and is spelled by the page.
     ensures format { IfOk result (λ it. it.format ≡ format) }
     ensures spelled { IfOk result (λ it.
@@ -296,4 +278,77 @@ pub fn decode_section(
 {
     check_page(page, format)?;
     Ok(section_from(alloc, page, format)?)
+}
+
+fn append_extent(page: &mut PageBuffer, extent: (u16, u32))
+    requires { length (text_of page.old) + 6 ≤ 4096 }
+    ensures text { text_of page.new ≡ text_of page.old ++ spelled_extent extent }
+    ensures generation { FitsGeneration extent }
+{
+    page.append(&extent.0.to_be_bytes());
+    page.append(&extent.1.to_be_bytes());
+}
+
+/// Appends what spells these pointers and generations.
+pub(crate) fn append_extents(page: &mut PageBuffer, extents: &[(u16, u32)])
+    requires { length (text_of page.old) + 6 * length extents.now ≤ 4096 }
+    ensures text { text_of page.new ≡ text_of page.old ++ spelled_extents extents.now }
+    ensures generations { AllByRecursion FitsGeneration extents.now }
+{
+    for extent in extents {
+        append_extent(page, *extent);
+    }
+}
+
+/// The version is in range.
+pub(crate) fn check_range(page: &[u8; 4096]) -> Result<(), FormatFault>
+    ensures { fault_in result ≡ superblock_range_test page.now }
+{
+    let version = BigEndian::read_u64(&page[4..12]);
+    if 1 <= version && version < 1 << 63 {
+        Ok(())
+    } else {
+        Err(FormatFault::BadVersion)
+    }
+}
+
+fn extent_from(bytes: &[u8; 6]) -> (u16, u32)
+    ensures { result ≡ extent_in bytes.now }
+{
+    (
+        BigEndian::read_u16(&bytes[0..2]),
+        BigEndian::read_u32(&bytes[2..6]),
+    )
+}
+
+/// No pointer in these bytes is above `pages`.
+fn has_pointers(bytes: &[u8], pages: u16) -> bool
+    ensures { result ≡ list_all (λ piece. nat_le (extent_in piece).0 pages)
+        (first_chunks 6 (length bytes.now / 6) bytes.now) }
+{
+    let (spelled, _) = bytes.as_chunks::<6>();
+    spelled.iter().all(|bytes| extent_from(bytes).0 <= pages)
+}
+
+/// The pointers and generations that these bytes spell, 6 bytes each.
+pub(crate) fn extents_of(alloc: Global, bytes: &[u8]) -> Result<Vec<(u16, u32)>, AllocError>
+    ensures { IfOk result (λ v. v.items ≡ extents_from bytes.now) }
+{
+    let (spelled, _) = bytes.as_chunks::<6>();
+    let mut extents = Vec::with_capacity(alloc, spelled.len())?;
+    for bytes in spelled {
+        extents.push_reserved(extent_from(bytes));
+    }
+    Ok(extents)
+}
+
+/// No pointer that these bytes spell is above `pages`.
+pub(crate) fn check_pointers_in(bytes: &[u8], pages: u16) -> Result<(), FormatFault>
+    ensures { fault_in result ≡ pointers_test pages (extents_from bytes.now) }
+{
+    if has_pointers(bytes, pages) {
+        Ok(())
+    } else {
+        Err(FormatFault::BadLength)
+    }
 }

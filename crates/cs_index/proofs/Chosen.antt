@@ -1,5 +1,5 @@
 -- The run that a Stage writes where chunks and runs lie apart.
-use Rattle.std.proofs.Common.{◌≡◌, ◌≢◌, ◌⊎◌, ◌↔◌, inl, inr, ⊎_elim, ℕ, ◌<◌, ◌≤◌, Bool, true, false, List, [], ◌∷◌, ◌++◌, drop, length, Option, Some, None, nat_lt, refl, sym, ap, subst, ◌∙◌, arith, if◌then◌else◌}
+use Rattle.std.proofs.Common.{◌≡◌, ◌≢◌, ◌⊎◌, inl, inr, ⊎_elim, ℕ, ◌<◌, ◌≤◌, Bool, true, false, List, [], ◌∷◌, ◌++◌, drop, length, Option, Some, None, nat_lt, refl, sym, ap, subst, ◌∙◌, arith, if◌then◌else◌}
 use Rattle.std.specs.Prelude.{IfOk, MatchBool, MatchOption, OnErr, Result, Ok, Err, is_some}
 use Rattle.std.proofs.lemmas.Bool.Decides.{nat_tests}
 use Rattle.cs_refusal.specs.declared.refusals.Refusal.{Refusal}
@@ -7,18 +7,17 @@ use Rattle.cs_refusal.specs.declared.refusals.Refusal.TheVariants.{Full, OutOfMe
 use Rattle.cs_deps.specs.Staging.{Staging}
 use Rattle.cs_deps.specs.State.{State as GraphState}
 use Rattle.cs_extent.specs.State.{State as ExtentsState, extents_of, shape}
-use Rattle.cs_extent.specs.Worn.{IsFrameWornBy}
 use Rattle.law_machine.proofs.Counting.{lookup_here}
 use Rattle.law_machine.specs.Apart.{is_none}
 use Rattle.law_machine.specs.Device.{Shape}
 use Rattle.law_machine.specs.Element.{Entry, Locator as Place}
 use Rattle.law_machine.specs.Extents.{ForMerge, ForRun, GoesApart, Purpose as Reason}
-use Rattle.law_machine.specs.Geometry.{pages_first_in}
 use Rattle.law_machine.specs.Index.{if_live, lookup, names}
 use Rattle.law_machine.specs.Merges.{IsRunOf, reaching, sizes}
 use Rattle.cs_index.specs.Apart.{IsFullApart, IsNewestStagedApart, IsRunWornApart, IsStageFullApart, IsStageWornApart, IsStagedApart, WritesNewest, takes_apart}
 use Rattle.cs_index.specs.Merges.{deletions_go, part, reached, stage_takes}
-use Rattle.cs_index.specs.Staged.{IsExact, IsPartStagedBy, IsRootOver, IsRootStaged, IsRootWorn, IsRunStagedBy, IsWhy, WritesPart, run_frame}
+use Rattle.cs_index.specs.Staged.{IsExact, IsPartStagedBy, IsRootStaged, IsRootWorn, IsRunWornBy, IsWhy, WritesPart, run_frame}
+use Rattle.cs_index.specs.Stages.{IsStageFullBy}
 use Rattle.cs_index.specs.State.{State}
 use Rattle.cs_index.proofs.Exact.{exact_same, part_writes}
 use Rattle.cs_index.proofs.Sizes.{goes_all, none_left, reaching_left}
@@ -51,39 +50,6 @@ takes_some S s some = some_taken S s some s.table refl
 
 pub takes_none : (S : Shape) (s : State) → s.table ≡ [] → takes_apart S s ≡ 0
 takes_none S s none = ap (λ (es : List Entry). if is_none es then 0 else stage_takes S s) none
-
--- ---- the append of a run for which there is a place
-
-pub why_worn : {T : Type 0} (r : Result T Refusal) (f : Refusal) (P : ℕ → Type 0) (Worn : Type 0) → r ≡ Err f → (r ≡ Err Full) ↔ ((e : ℕ) → P e → ⊥) → (r ≡ Err WornOut) ↔ Worn
-    → (f ≡ Full) ⊎ (f ≡ WornOut) ⊎ (f ≡ OutOfMemory) → (e : ℕ) × P e → IsWhy f ⊥ Worn
-why_worn r f P Worn is full worn refusals place = ⊎_elim
-    (λ (e : f ≡ Full). absurd (full.0 (is ∙ ap Err e) place.0 place.1))
-    (λ (rest : (f ≡ WornOut) ⊎ (f ≡ OutOfMemory)). ⊎_elim
-    (λ (e : f ≡ WornOut). subst (λ (g : Refusal). IsWhy g ⊥ Worn) (sym e) ((λ n. n), worn.0 (is ∙ ap Err e)))
-    (λ (e : f ≡ OutOfMemory). subst (λ (g : Refusal). IsWhy g ⊥ Worn) (sym e) tt)
-    rest)
-    refusals
-
--- where one run alone is to be written
-module _ (Writes : List Entry → Type 0) (x : ExtentsState) (reason : Reason) (s : Staging) (E : List Entry) (writes : Writes E) (one : (es : List Entry) → Writes es → es ≡ E) where
-  abbrev Worn : List Entry → Type 0
-  Worn es = IsFrameWornBy true x reason s (length (run_frame x es))
-
-  pub exact_written : {T : Type 0} (r : Result T Refusal) → IsExact r ⊥ (IsRootWorn s ⊎ IsFrameWornBy true x reason s (length (run_frame x E))) → IsExact r ⊥ (IsRootWorn s ⊎ IsRunWornApart Writes x reason s)
-  exact_written r h =
-      exact_same r ⊥ ⊥ (IsRootWorn s ⊎ Worn E) (IsRootWorn s ⊎ IsRunWornApart Writes x reason s) (λ n. n) (λ n. n)
-      (λ worn. ⊎_elim (λ (root : IsRootWorn s). inl root) (λ (run : Worn E). inr (E, writes, run)) worn)
-      (λ worn. ⊎_elim (λ (root : IsRootWorn s). inl root) (λ (run : IsRunWornApart Writes x reason s). inr (subst Worn (one run.0 run.1) run.2)) worn)
-      h
-
--- where none is
-pub exact_unwritten : {T : Type 0} (Writes : List Entry → Type 0) (x : ExtentsState) (reason : Reason) (s : Staging) → ((es : List Entry) → Writes es → ⊥) → (r : Result T Refusal)
-    → IsExact r ⊥ (IsRootWorn s) → IsExact r ⊥ (IsRootWorn s ⊎ IsRunWornApart Writes x reason s)
-exact_unwritten Writes x reason s none r h =
-    exact_same r ⊥ ⊥ (IsRootWorn s) (IsRootWorn s ⊎ IsRunWornApart Writes x reason s) (λ n. n) (λ n. n)
-    (λ root. inl root)
-    (λ worn. ⊎_elim (λ (root : IsRootWorn s). root) (λ (run : IsRunWornApart Writes x reason s). absurd (none run.0 run.1)) worn)
-    h
 
 -- ---- what was chosen
 
@@ -150,19 +116,21 @@ IsChosen s x reason k = ((reason ≡ ForRun) × (k ≡ takes_apart (shape x) s))
     ⊎ ((reason ≡ ForMerge) × (k ≡ length s.runs) × IsFullApart (WritesNewest (shape x) s (takes_apart (shape x) s)) x ForRun)
 
 -- so it is refused exactly where neither run goes anywhere, and where a number would pass its greatest
-pub chosen_why : {T : Type 0} (s : State) (x : ExtentsState) (g : Staging) (r : Result T Refusal) (E : List Entry) (k : ℕ) (go : Bool) (reason : Reason) → IsChosen s x reason k → go ≡ deletions_go (shape x) s k
+pub chosen_why : {T : Type 0} (apart : Bool) → apart ≡ true → (s : State) (x : ExtentsState) (g : Staging) (r : Result T Refusal) (E : List Entry) (k : ℕ) (go : Bool) (reason : Reason) → IsChosen s x reason k → go ≡ deletions_go (shape x) s k
     → IsRunOf go (part s k) E → (E ≡ []) ⊎ ((e : ℕ) × GoesApart (shape x) (extents_of x) reason (length (run_frame x E)) e)
-    → IsExact r ⊥ (IsRootWorn g ⊎ IsRunWornApart (WritesPart go s k) x reason g) → IsExact r (IsStageFullApart s x) (IsStageWornApart s x g)
-chosen_why s x g r E k go reason chosen goes = ⊎_elim
+    → IsExact r ⊥ (IsRootWorn g ⊎ IsRunWornBy apart (WritesPart go s k) x reason g) → IsExact r (IsStageFullApart s x) (IsStageWornApart s x g)
+chosen_why false is s x g r E k go reason chosen goes = absurd (let wrong : false ≡ true = is in cc)
+chosen_why true is s x g r E k go reason chosen goes = ⊎_elim
     (λ (c : (reason ≡ ForRun) × (k ≡ takes_apart (shape x) s)). subst (λ (p : Reason). Why s x g r E k go p) (sym c.0)
     (subst (λ (b : Bool). Why s x g r E k b ForRun) (sym goes) (subst (λ (n : ℕ). Why s x g r E n (deletions_go (shape x) s n) ForRun) (sym c.1) (why_taken s x g r E))))
     (λ (c : (reason ≡ ForMerge) × (k ≡ length s.runs) × IsFullApart (WritesNewest (shape x) s (takes_apart (shape x) s)) x ForRun). subst (λ (p : Reason). Why s x g r E k go p) (sym c.0)
     (subst (λ (b : Bool). Why s x g r E k b ForMerge) (sym goes) (subst (λ (n : ℕ). Why s x g r E n (deletions_go (shape x) s n) ForMerge) (sym c.1) (why_all s x g r E c.2))))
     chosen
 
-pub chosen_staged : (s : State) (x : ExtentsState) (g : GraphState) (k : ℕ) (go : Bool) (reason : Reason) (v commands : ℕ) (t : State) (y : ExtentsState) (h : GraphState) → IsChosen s x reason k → go ≡ deletions_go (shape x) s k
-    → IsPartStagedBy true go k s x g reason v commands t y h → IsStagedApart s x g v commands t y h
-chosen_staged s x g k go reason v commands t y h chosen goes staged =
+pub chosen_staged : (apart : Bool) → apart ≡ true → (s : State) (x : ExtentsState) (g : GraphState) (k : ℕ) (go : Bool) (reason : Reason) (v commands : ℕ) (t : State) (y : ExtentsState) (h : GraphState) → IsChosen s x reason k → go ≡ deletions_go (shape x) s k
+    → IsPartStagedBy apart go k s x g reason v commands t y h → IsStagedApart s x g v commands t y h
+chosen_staged false is s x g k go reason v commands t y h chosen goes staged = absurd (let wrong : false ≡ true = is in cc)
+chosen_staged true is s x g k go reason v commands t y h chosen goes staged =
     let so : IsNewestStagedApart k s x g reason v commands t y h = subst (λ (b : Bool). IsPartStagedBy true b k s x g reason v commands t y h) goes staged in
     ⊎_elim
     (λ (c : (reason ≡ ForRun) × (k ≡ takes_apart (shape x) s)).
@@ -248,31 +216,12 @@ module _ (s : State) (x : ExtentsState) (none : s.table ≡ []) where
   pub same_staged : (g : GraphState) (v commands : ℕ) (t : State) (y : ExtentsState) (h : GraphState) → IsPartStagedBy true (deletions_go (shape x) s 0) 0 s x g ForRun v commands t y h → IsStagedApart s x g v commands t y h
   same_staged g v commands t y h staged = inl (subst (λ (k : ℕ). IsNewestStagedApart k s x g ForRun v commands t y h) (sym (takes_none (shape x) s none)) staged)
 
--- ---- what was staged
+-- then nothing is full, by either rule
+pub nothing_full : (apart : Bool) (s : State) (x : ExtentsState) → s.table ≡ [] → IsStageFullBy apart s x → ⊥
+nothing_full false s x none full = full.1.0 none
+nothing_full true s x none full = nowhere_none s x none full
 
-module _ (go : Bool) (k : ℕ) (s : State) (x : ExtentsState) (g : GraphState) (reason : Reason) (v commands : ℕ) (t : State) (y : ExtentsState) (h : GraphState) (E : List Entry) (run : IsRunOf go (part s k) E) where
-  pub one_staged : (place : Place) → E ≢ [] → IsRunStagedBy true x g reason E (drop k s.runs) place v commands y h
-      → t ≡ record { table = []; runs = record { place = place; entries = E } ∷ drop k s.runs; format = s.format; limit = s.limit; room = 0 } → IsPartStagedBy true go k s x g reason v commands t y h
-  one_staged place some staged is = subst (λ (u : State). IsPartStagedBy true go k s x g reason v commands u y h) (sym is) (record {
-    between = staged.0;
-    appended = inl (E, place, some, run, staged.1, refl);
-    root = staged.2;
-    table = refl;
-    format = refl;
-    limit = refl;
-  })
-
-  pub none_staged : E ≡ [] → drop k s.runs ≡ [] → IsRootOver x.format (pages_first_in x.format) g h v commands [] → t ≡ record { table = []; runs = []; format = s.format; limit = s.limit; room = 0 } → IsPartStagedBy true go k s x g reason v commands t x h
-  none_staged none alone root is = subst (λ (u : State). IsPartStagedBy true go k s x g reason v commands u x h) (sym is) (record {
-    between = g;
-    appended = inr (subst (λ (es : List Entry). IsRunOf go (part s k) es) none run, refl, refl, sym alone);
-    root = root;
-    table = refl;
-    format = refl;
-    limit = refl;
-  })
-
--- where the table is empty no run is written, and all runs stand
+-- ---- what was staged, where the table is empty no run is written, and all runs stand
 nothing_of : (go : Bool) (s : State) → s.table ≡ [] → IsRunOf go (part s 0) []
 nothing_of true s none = (tt, λ id. sym (ap (λ (zs : List Entry). if_live (lookup id (zs ++ []))) none))
 nothing_of false s none = (tt, λ id. sym (ap (λ (zs : List Entry). lookup id (zs ++ [])) none))
@@ -287,9 +236,6 @@ same_part go s x g v commands h none root = record {
   format = refl;
   limit = refl;
 }
-
-pub written_apart : {T : Type 0} (r : Result T Refusal) (Root Worn : Type 0) → (Root → ⊥) → IsExact r ⊥ Worn → IsExact r ⊥ (Root ⊎ Worn)
-written_apart r Root Worn below h = exact_same r ⊥ ⊥ Worn (Root ⊎ Worn) (λ n. n) (λ n. n) (λ worn. inr worn) (λ both. ⊎_elim (λ (root : Root). absurd (below root)) (λ (worn : Worn). worn) both) h
 
 -- what both an answer and a refusal give
 pub either_way : {T : Type 0} (r : Result T Refusal) {S : T → Type 0} {P Q : Type 0} → ((v : T) → S v → P) → (Q → P) → IfOk r S → OnErr r Q → P

@@ -1,20 +1,21 @@
 -- When staging is refused, and what it gives.
 use Rattle.std.proofs.Common.{◌≡◌, ◌≢◌, ◌⊎◌, inl, inr, ⊎_elim, ℕ, List, [], ◌∷◌, drop, length, map, append-nil, refl, sym, ap, subst, ◌∙◌, arith}
-use Rattle.std.specs.Prelude.{◌↔◌, Bool, MatchBool, MatchResult, Result, Ok, Err, false, true}
+use Rattle.std.specs.Prelude.{◌↔◌, Bool, MatchBool, Result, Ok, Err, false, true}
+use Rattle.std.proofs.lemmas.Bool.{false≢true}
 use Rattle.cs_refusal.specs.declared.refusals.Refusal.{Refusal}
 use Rattle.cs_refusal.specs.declared.refusals.Refusal.TheVariants.{Full, OutOfMemory, WornOut}
 use Rattle.cs_deps.specs.Staging.{Staging}
 use Rattle.cs_deps.specs.State.{State as GraphState}
 use Rattle.cs_extent.specs.State.{State as ExtentsState, extents_of, shape}
-use Rattle.cs_extent.specs.Worn.{IsFrameWorn}
+use Rattle.cs_extent.specs.Worn.{IsFrameWorn, IsFrameWornBy}
 use Rattle.law_machine.specs.Device.{Shape}
 use Rattle.law_machine.specs.Element.{Entry, Locator as Place}
-use Rattle.law_machine.specs.Extents.{ForRun, NoPlace, Placed, Purpose as Reason}
+use Rattle.law_machine.specs.Extents.{FitsBy, ForRun, Goes, NoPlace, Placed, Purpose as Reason}
 use Rattle.law_machine.specs.Geometry.{pages_first_in}
 use Rattle.law_machine.specs.Index.{Ascending, IsMergedRun, lookup}
 use Rattle.law_machine.specs.Merges.{IsRunOf}
 use Rattle.cs_index.specs.Merges.{deletions_go, part, stage_takes}
-use Rattle.cs_index.specs.Staged.{IsExact, IsFull, IsNewestStaged, IsPartStaged, IsRootOver, IsRootWorn, IsRunStaged, IsStageWorn, IsWhy, WritesMerged, WritesPart, WritesRun, run_frame}
+use Rattle.cs_index.specs.Staged.{IsExact, IsFull, IsNewestStaged, IsPartStaged, IsPartStagedBy, IsRootOver, IsRootWorn, IsRunStagedBy, IsRunWornBy, IsStageWorn, IsWhy, WritesMerged, WritesPart, WritesRun, run_frame}
 use Rattle.cs_index.specs.State.{State, index_of}
 use Rattle.cs_index.proofs.Merged.{merged_one, run_one}
 
@@ -30,40 +31,70 @@ exact_same (Ok x) A B V W to back on off h = ((λ b. h.0 (back b)), (λ w. h.1 (
 exact_same (Err f) A B V W to back on off h = why_same f A B V W to back on h
 
 -- where one run alone is to be written
-module _ (Writes : List Entry → Type 0) (x : ExtentsState) (reason : Reason) (s : Staging) (E : List Entry) (writes : Writes E) (one : (es : List Entry) → Writes es → es ≡ E) where
-  abbrev No : List Entry → Type 0
-  No es = NoPlace (shape x) (extents_of x) reason (length (run_frame x es))
-
+module _ (apart : Bool) (Writes : List Entry → Type 0) (x : ExtentsState) (reason : Reason) (s : Staging) (E : List Entry) (writes : Writes E) (one : (es : List Entry) → Writes es → es ≡ E) where
   abbrev Worn : List Entry → Type 0
-  Worn es = IsFrameWorn x reason s (length (run_frame x es))
+  Worn es = IsFrameWornBy apart x reason s (length (run_frame x es))
 
-  pub exact_one : {T : Type 0} (r : Result T Refusal) → IsExact r (NoPlace (shape x) (extents_of x) reason (length (run_frame x E))) (IsRootWorn s ⊎ IsFrameWorn x reason s (length (run_frame x E)))
-      → IsExact r (IsFull Writes x reason) (IsStageWorn Writes x reason s)
-  exact_one r h =
-      exact_same r (No E) (IsFull Writes x reason) (IsRootWorn s ⊎ Worn E) (IsStageWorn Writes x reason s)
-      (λ none. (E, writes, none))
-      (λ full. subst No (one full.0 full.1) full.2)
+  pub exact_written : {T : Type 0} (r : Result T Refusal) → IsExact r ⊥ (IsRootWorn s ⊎ IsFrameWornBy apart x reason s (length (run_frame x E))) → IsExact r ⊥ (IsRootWorn s ⊎ IsRunWornBy apart Writes x reason s)
+  exact_written r h =
+      exact_same r ⊥ ⊥ (IsRootWorn s ⊎ Worn E) (IsRootWorn s ⊎ IsRunWornBy apart Writes x reason s) (λ n. n) (λ n. n)
       (λ worn. ⊎_elim (λ (root : IsRootWorn s). inl root) (λ (run : Worn E). inr (E, writes, run)) worn)
-      (λ worn. ⊎_elim (λ (root : IsRootWorn s). inl root) (λ (run : (es : List Entry) × Writes es × Worn es). inr (subst Worn (one run.0 run.1) run.2)) worn)
+      (λ worn. ⊎_elim (λ (root : IsRootWorn s). inl root) (λ (run : IsRunWornBy apart Writes x reason s). inr (subst Worn (one run.0 run.1) run.2)) worn)
       h
 
 -- where none is
-module _ (Writes : List Entry → Type 0) (x : ExtentsState) (reason : Reason) (s : Staging) (none : (es : List Entry) → Writes es → ⊥) where
-  pub not_full : IsFull Writes x reason → ⊥
-  not_full full = none full.0 full.1
+pub exact_unwritten : {T : Type 0} (apart : Bool) (Writes : List Entry → Type 0) (x : ExtentsState) (reason : Reason) (s : Staging) → ((es : List Entry) → Writes es → ⊥) → (r : Result T Refusal)
+    → IsExact r ⊥ (IsRootWorn s) → IsExact r ⊥ (IsRootWorn s ⊎ IsRunWornBy apart Writes x reason s)
+exact_unwritten apart Writes x reason s none r h =
+    exact_same r ⊥ ⊥ (IsRootWorn s) (IsRootWorn s ⊎ IsRunWornBy apart Writes x reason s) (λ n. n) (λ n. n)
+    (λ root. inl root)
+    (λ worn. ⊎_elim (λ (root : IsRootWorn s). root) (λ (run : IsRunWornBy apart Writes x reason s). absurd (none run.0 run.1)) worn)
+    h
 
-  pub worn_root : IsStageWorn Writes x reason s → IsRootWorn s
-  worn_root worn = ⊎_elim (λ (root : IsRootWorn s). root) (λ (run : (es : List Entry) × Writes es × IsFrameWorn x reason s (length (run_frame x es))). absurd (none run.0 run.1)) worn
+-- where chunks and runs may lie on one extent, and the run has no entry or goes somewhere
+module _ (Writes : List Entry → Type 0) (x : ExtentsState) (reason : Reason) (E : List Entry) (one : (es : List Entry) → Writes es → (es ≡ E) × (es ≢ [])) where
+  abbrev Somewhere : Type 0
+  Somewhere = (e : ℕ) × Placed (shape x) (extents_of x) reason (length (run_frame x E)) e
 
-  pub why_none : (f : Refusal) → IsWhy f ⊥ (IsRootWorn s) → IsWhy f (IsFull Writes x reason) (IsStageWorn Writes x reason s)
-  why_none f h = why_same f ⊥ (IsFull Writes x reason) (IsRootWorn s) (IsStageWorn Writes x reason s) (λ n. absurd n) not_full (λ root. inl root) h
+  pub placed_fits : (E ≡ []) ⊎ ((e : ℕ) × Placed (shape x) (extents_of x) reason (length (run_frame x E)) e) → IsFull Writes x reason → ⊥
+  placed_fits placed full =
+      let same : full.0 ≡ E = (one full.0 full.1).0 in
+      ⊎_elim
+      (λ (none : E ≡ []). (one full.0 full.1).1 (same ∙ none))
+      (λ (goes : Somewhere). full.2 goes.0 (subst (λ (es : List Entry). Placed (shape x) (extents_of x) reason (length (run_frame x es)) goes.0) (sym same) goes.1))
+      placed
 
--- whether it finds a place
-pub fits_one : (Writes : List Entry → Type 0) (x : ExtentsState) (reason : Reason) (E : List Entry) (b : Bool) → Writes E → ((es : List Entry) → Writes es → es ≡ E)
-    → MatchBool b ((e : ℕ) × Placed (shape x) (extents_of x) reason (length (run_frame x E)) e) (NoPlace (shape x) (extents_of x) reason (length (run_frame x E)))
-    → MatchBool b (IsFull Writes x reason → ⊥) (IsFull Writes x reason)
-fits_one Writes x reason E true writes one there = λ full. subst (λ (es : List Entry). NoPlace (shape x) (extents_of x) reason (length (run_frame x es))) (one full.0 full.1) full.2 there.0 there.1
-fits_one Writes x reason E false writes one none = (E, writes, none)
+  pub fits_one : (b : Bool) → (E ≢ [] → Writes E) → MatchBool b ((E ≡ []) ⊎ ((e : ℕ) × Placed (shape x) (extents_of x) reason (length (run_frame x E)) e)) ((E ≢ []) × NoPlace (shape x) (extents_of x) reason (length (run_frame x E)))
+      → MatchBool b (IsFull Writes x reason → ⊥) (IsFull Writes x reason)
+  fits_one true writes there = placed_fits there
+  fits_one false writes none = (E, writes none.0, none.1)
+
+  pub exact_placed : {T : Type 0} (apart : Bool) (g : Staging) (r : Result T Refusal) → apart ≡ false → (E ≡ []) ⊎ ((e : ℕ) × Placed (shape x) (extents_of x) reason (length (run_frame x E)) e)
+      → IsExact r ⊥ (IsRootWorn g ⊎ IsRunWornBy apart Writes x reason g) → IsExact r (IsFull Writes x reason) (IsStageWorn Writes x reason g)
+  exact_placed true g r is placed h = absurd (let wrong : true ≡ false = is in cc)
+  exact_placed false g r is placed h =
+      exact_same r ⊥ (IsFull Writes x reason) (IsRootWorn g ⊎ IsRunWornBy false Writes x reason g) (IsStageWorn Writes x reason g) (λ n. absurd n) (placed_fits placed) (λ worn. worn) (λ worn. worn) h
+
+-- whether a frame of so many pages finds a place, by whether it alone fits
+pub fits_alone : (x : ExtentsState) (reason : Reason) (pages : ℕ) (apart b : Bool) → apart ≡ false → (b ≡ true) ↔ FitsBy (shape x) apart (extents_of x) reason (pages ∷ [])
+    → MatchBool b ((e : ℕ) × Placed (shape x) (extents_of x) reason pages e) (NoPlace (shape x) (extents_of x) reason pages)
+fits_alone x reason pages true b is fits = absurd (let wrong : true ≡ false = is in cc)
+fits_alone x reason pages false true is fits = let one = fits.0 refl in (one.0, one.1)
+fits_alone x reason pages false false is fits = λ e placed. false≢true (fits.1 (e, placed, tt))
+
+-- a run with some entry that needs a place goes somewhere
+pub goes_some : (x : ExtentsState) (reason : Reason) (E : List Entry) (apart : Bool) → apart ≡ false → E ≢ []
+    → (E ≡ []) ⊎ ((e : ℕ) × Placed (shape x) (extents_of x) reason (length (run_frame x E)) e) → (e : ℕ) × Goes (shape x) apart (extents_of x) reason (length (run_frame x E)) e
+goes_some x reason E true is some placed = absurd (let wrong : true ≡ false = is in cc)
+goes_some x reason E false is some placed =
+    ⊎_elim (λ (none : E ≡ []). absurd (some none)) (λ (there : (e : ℕ) × Placed (shape x) (extents_of x) reason (length (run_frame x E)) e). there) placed
+
+-- whether a run with some entry finds a place, by its number of pages
+pub fits_some : (x : ExtentsState) (reason : Reason) (E : List Entry) (pages : ℕ) (b : Bool) → E ≢ [] → pages ≡ length (run_frame x E)
+    → MatchBool b ((e : ℕ) × Placed (shape x) (extents_of x) reason pages e) (NoPlace (shape x) (extents_of x) reason pages)
+    → MatchBool b ((E ≡ []) ⊎ ((e : ℕ) × Placed (shape x) (extents_of x) reason (length (run_frame x E)) e)) ((E ≢ []) × NoPlace (shape x) (extents_of x) reason (length (run_frame x E)))
+fits_some x reason E pages true some are there = inr (subst (λ (k : ℕ). (e : ℕ) × Placed (shape x) (extents_of x) reason k e) are there)
+fits_some x reason E pages false some are none = (some, subst (λ (k : ℕ). NoPlace (shape x) (extents_of x) reason k) are none)
 
 -- ---- the run of a part
 
@@ -73,10 +104,10 @@ part_writes go s k E es run writes = run_one go (part s k) es E writes.0 run
 pub part_none : (go : Bool) (s : State) (k : ℕ) (E es : List Entry) → E ≡ [] → IsRunOf go (part s k) E → WritesPart go s k es → ⊥
 part_none go s k E es none run writes = writes.1 (part_writes go s k E es run writes ∙ none)
 
-module _ (go : Bool) (k : ℕ) (s : State) (x : ExtentsState) (g : GraphState) (reason : Reason) (v commands : ℕ) (t : State) (y : ExtentsState) (h : GraphState) (E : List Entry) (run : IsRunOf go (part s k) E) where
-  pub part_one : (place : Place) → E ≢ [] → IsRunStaged x g reason E (drop k s.runs) place v commands y h
-      → t ≡ record { table = []; runs = record { place = place; entries = E } ∷ drop k s.runs; format = s.format; limit = s.limit; room = 0 } → IsPartStaged go k s x g reason v commands t y h
-  part_one place some staged is = subst (λ (u : State). IsPartStaged go k s x g reason v commands u y h) (sym is) (record {
+module _ (apart go : Bool) (k : ℕ) (s : State) (x : ExtentsState) (g : GraphState) (reason : Reason) (v commands : ℕ) (t : State) (y : ExtentsState) (h : GraphState) (E : List Entry) (run : IsRunOf go (part s k) E) where
+  pub part_one : (place : Place) → E ≢ [] → IsRunStagedBy apart x g reason E (drop k s.runs) place v commands y h
+      → t ≡ record { table = []; runs = record { place = place; entries = E } ∷ drop k s.runs; format = s.format; limit = s.limit; room = 0 } → IsPartStagedBy apart go k s x g reason v commands t y h
+  part_one place some staged is = subst (λ (u : State). IsPartStagedBy apart go k s x g reason v commands u y h) (sym is) (record {
     between = staged.0;
     appended = inl (E, place, some, run, staged.1, refl);
     root = staged.2;
@@ -85,8 +116,8 @@ module _ (go : Bool) (k : ℕ) (s : State) (x : ExtentsState) (g : GraphState) (
     limit = refl;
   })
 
-  pub part_empty : E ≡ [] → drop k s.runs ≡ [] → IsRootOver x.format (pages_first_in x.format) g h v commands [] → t ≡ record { table = []; runs = []; format = s.format; limit = s.limit; room = 0 } → IsPartStaged go k s x g reason v commands t x h
-  part_empty none alone root is = subst (λ (u : State). IsPartStaged go k s x g reason v commands u x h) (sym is) (record {
+  pub part_empty : E ≡ [] → drop k s.runs ≡ [] → IsRootOver x.format (pages_first_in x.format) g h v commands [] → t ≡ record { table = []; runs = []; format = s.format; limit = s.limit; room = 0 } → IsPartStagedBy apart go k s x g reason v commands t x h
+  part_empty none alone root is = subst (λ (u : State). IsPartStagedBy apart go k s x g reason v commands u x h) (sym is) (record {
     between = g;
     appended = inr (subst (λ (es : List Entry). IsRunOf go (part s k) es) none run, refl, refl, sym alone);
     root = root;
@@ -99,12 +130,9 @@ module _ (go : Bool) (k : ℕ) (s : State) (x : ExtentsState) (g : GraphState) (
 pub merged_writes : (s : State) (E es : List Entry) → IsMergedRun (index_of s) E → WritesMerged s es → es ≡ E
 merged_writes s E es run writes = merged_one (index_of s) es E writes.0 run
 
-pub merged_none : (s : State) (E es : List Entry) → E ≡ [] → IsMergedRun (index_of s) E → WritesMerged s es → ⊥
-merged_none s E es none run writes = writes.1 (merged_writes s E es run writes ∙ none)
-
 -- ---- staging
 
-exact_with : {T : Type 0} (r : Result T Refusal) (A V P : Type 0) → P → IsExact r A V → IsExact r A (P × V)
+pub exact_with : {T : Type 0} (r : Result T Refusal) (A V P : Type 0) → P → IsExact r A V → IsExact r A (P × V)
 exact_with r A V P p h = exact_same r A A V (P × V) (λ a. a) (λ a. a) (λ v. (p, v)) (λ w. w.1) h
 
 -- the same refusals, where the same runs are to be written
@@ -132,10 +160,9 @@ module _ (S : Shape) (s : State) (k : ℕ) (go : Bool) (takes : k ≡ stage_take
 
 pub exact_stage : {T : Type 0} (S : Shape) (s : State) (k : ℕ) (go : Bool) (x : ExtentsState) (g : Staging) (r : Result T Refusal) → k ≡ stage_takes S s → go ≡ deletions_go S s k → s.table ≢ []
     → IsExact r (IsFull (WritesPart go s k) x ForRun) (IsStageWorn (WritesPart go s k) x ForRun g)
-    → IsExact r (IsFull (WritesRun S s) x ForRun) ((s.table ≢ []) × IsStageWorn (WritesRun S s) x ForRun g)
+    → IsExact r (IsFull (WritesRun S s) x ForRun) (IsStageWorn (WritesRun S s) x ForRun g)
 exact_stage S s k go x g r takes goes some h =
-    exact_with r (IsFull (WritesRun S s) x ForRun) (IsStageWorn (WritesRun S s) x ForRun g) (s.table ≢ []) some
-    (exact_writes (WritesPart go s k) (WritesRun S s) x ForRun g r (writes_to S s k go takes goes some) (writes_back S s k go takes goes) h)
+    exact_writes (WritesPart go s k) (WritesRun S s) x ForRun g r (writes_to S s k go takes goes some) (writes_back S s k go takes goes) h
 
 pub newest_staged : (s : State) (x : ExtentsState) (k : ℕ) (go : Bool) → k ≡ stage_takes (shape x) s → go ≡ deletions_go (shape x) s k → (g : GraphState) (v commands : ℕ) (t : State) (y : ExtentsState) (h : GraphState)
     → IsPartStaged go k s x g ForRun v commands t y h → IsNewestStaged (stage_takes (shape x) s) s x g v commands t y h
@@ -146,11 +173,14 @@ newest_staged s x k go takes goes g v commands t y h staged =
 pub table_run : (s : State) → Ascending s.table → IsRunOf false (part s 0) s.table
 table_run s order = (order, λ id. ap (lookup id) (sym (append-nil s.table)))
 
-pub exact_table : {T : Type 0} (s : State) (x : ExtentsState) (g : Staging) (r : Result T Refusal) → Ascending s.table → s.table ≢ []
-    → IsExact r (NoPlace (shape x) (extents_of x) ForRun (length (run_frame x s.table))) (IsRootWorn g ⊎ IsFrameWorn x ForRun g (length (run_frame x s.table)))
+pub exact_table : {T : Type 0} (apart : Bool) (s : State) (x : ExtentsState) (g : Staging) (r : Result T Refusal) → apart ≡ false → Ascending s.table → s.table ≢ []
+    → (s.table ≡ []) ⊎ ((e : ℕ) × Placed (shape x) (extents_of x) ForRun (length (run_frame x s.table)) e)
+    → IsExact r ⊥ (IsRootWorn g ⊎ IsFrameWornBy apart x ForRun g (length (run_frame x s.table)))
     → IsExact r (IsFull (WritesPart false s 0) x ForRun) (IsStageWorn (WritesPart false s 0) x ForRun g)
-exact_table s x g r order some h =
-    exact_one (WritesPart false s 0) x ForRun g s.table (table_run s order, some) (λ es writes. part_writes false s 0 s.table es (table_run s order) writes) r h
+exact_table apart s x g r is order some placed h =
+    let one : (es : List Entry) → WritesPart false s 0 es → es ≡ s.table = λ es writes. part_writes false s 0 s.table es (table_run s order) writes in
+    exact_placed (WritesPart false s 0) x ForRun s.table (λ es writes. (one es writes, writes.1)) apart g r is placed
+    (exact_written apart (WritesPart false s 0) x ForRun g s.table (table_run s order, some) one r h)
 
 pub none_of : {X Y : Type 0} (f : X → Y) (xs : List X) → length xs ≡ 0 → map f xs ≡ []
 none_of f [] is = refl
@@ -160,19 +190,17 @@ pub some_of : {X Y : Type 0} (f : X → Y) (xs : List X) → length xs ≢ 0 →
 some_of f [] is none = is refl
 some_of f (x ∷ xs) is none = let e : f x ∷ map f xs ≡ [] = none in cc
 
--- ---- the append of a run for which there are a place and room
+-- ---- the append of a run for which there is a place
 
-pub append_worn : {T : Type 0} (r : Result T Refusal) (f : Refusal) (P : ℕ → Type 0) (Worn : Type 0) → r ≡ Err f → (r ≡ Err Full) ↔ ((e : ℕ) → P e → ⊥) → (r ≡ Err WornOut) ↔ Worn → (r ≡ Err OutOfMemory → ⊥)
-    → (f ≡ Full) ⊎ (f ≡ WornOut) ⊎ (f ≡ OutOfMemory) → (e : ℕ) × P e → (f ≡ WornOut) × Worn
-append_worn r f P Worn is full worn memory refusals place = ⊎_elim
+pub why_worn : {T : Type 0} (r : Result T Refusal) (f : Refusal) (P : ℕ → Type 0) (Worn : Type 0) → r ≡ Err f → (r ≡ Err Full) ↔ ((e : ℕ) → P e → ⊥) → (r ≡ Err WornOut) ↔ Worn
+    → (f ≡ Full) ⊎ (f ≡ WornOut) ⊎ (f ≡ OutOfMemory) → (e : ℕ) × P e → IsWhy f ⊥ Worn
+why_worn r f P Worn is full worn refusals place = ⊎_elim
     (λ (e : f ≡ Full). absurd (full.0 (is ∙ ap Err e) place.0 place.1))
     (λ (rest : (f ≡ WornOut) ⊎ (f ≡ OutOfMemory)). ⊎_elim
-    (λ (e : f ≡ WornOut). (e, worn.0 (is ∙ ap Err e)))
-    (λ (e : f ≡ OutOfMemory). absurd (memory (is ∙ ap Err e)))
+    (λ (e : f ≡ WornOut). subst (λ (g : Refusal). IsWhy g ⊥ Worn) (sym e) ((λ n. n), worn.0 (is ∙ ap Err e)))
+    (λ (e : f ≡ OutOfMemory). subst (λ (g : Refusal). IsWhy g ⊥ Worn) (sym e) tt)
     rest)
     refusals
 
--- it is refused 35 alone
-pub written_why : {T : Type 0} (r : Result T Refusal) (No Root Worn : Type 0) → (No → ⊥) → (Root → ⊥) → MatchResult r (λ _. Worn → ⊥) (λ f. (f ≡ WornOut) × Worn) → IsExact r No (Root ⊎ Worn)
-written_why (Ok t) No Root Worn placed below worn = (placed, λ w. ⊎_elim below worn w)
-written_why (Err f) No Root Worn placed below worn = subst (λ g. IsWhy g No (Root ⊎ Worn)) (sym worn.0) (placed, inr worn.1)
+pub written_why : {T : Type 0} (r : Result T Refusal) (Root Worn : Type 0) → (Root → ⊥) → IsExact r ⊥ Worn → IsExact r ⊥ (Root ⊎ Worn)
+written_why r Root Worn below h = exact_same r ⊥ ⊥ Worn (Root ⊎ Worn) (λ n. n) (λ n. n) (λ worn. inr worn) (λ both. ⊎_elim (λ (root : Root). absurd (below root)) (λ (worn : Worn). worn) both) h

@@ -9,7 +9,7 @@ use Rattle.cs_deps.specs.Staging.{IsVersionStaged, Staging}
 use Rattle.cs_deps.specs.State.{State as GraphState}
 use Rattle.cs_extent.proofs.Appending.{whatever_room}
 use Rattle.cs_extent.proofs.Staged.{frame_root}
-use Rattle.cs_extent.specs.Appended.{IsAppended, IsAppendedBy}
+use Rattle.cs_extent.specs.Appended.{IsAppendedBy}
 use Rattle.cs_extent.specs.Frames.{IsFrameStaged, IsRootNeed, root_family, root_pages}
 use Rattle.cs_extent.specs.State.{State as ExtentsState}
 use Rattle.cs_frame.specs.Formats.{as_locator, place_of}
@@ -19,7 +19,7 @@ use Rattle.law_machine.specs.Element.{Entry, Locator as Place, Run}
 use Rattle.law_machine.specs.Extents.{Purpose as Reason}
 use Rattle.law_machine.specs.Formats.{places}
 use Rattle.law_machine.specs.Geometry.{pages_first_in}
-use Rattle.cs_index.specs.Staged.{IsRootOver, IsRootWorn, IsRunStaged, IsRunStagedBy, run_frame}
+use Rattle.cs_index.specs.Staged.{IsRootOver, IsRootWorn, IsRunStagedBy, run_frame}
 use Rattle.cs_index.specs.State.{newest_first, run_of}
 
 within_pages : (pages_first : Bool) (staged : ℕ) → root_pages pages_first staged ≤ staged
@@ -83,12 +83,6 @@ run_staged_by apart x g k reason entries older place v commands y h frame oldest
   subst (λ (f : List (List ℕ)). IsAppendedBy apart x g reason f place y done.0) is (whatever_room x g k reason frame place y done.0 same done.1),
   subst (λ (ls : List Locator). IsRootOver x.format (pages_first_in x.format) done.0 h v commands ls) (ap (λ (ls : List Locator). ls ++ place ∷ []) are ∙ sym (newer_place older (place_of place))) done.2,
 )
-
-pub run_staged : (x : ExtentsState) (g k : GraphState) (reason : Reason) (entries : List Entry) (older : List StoredRun) (place : Locator) (v commands : ℕ) (y : ExtentsState) (h : GraphState)
-    (frame : List (List ℕ)) (oldest : List Locator) → k ≡ record g { room = k.room } → frame ≡ run_frame x entries → oldest ≡ map (λ run. run.place) older
-    → (between : GraphState) × IsAppended x k reason frame place y between × IsRootOver x.format (pages_first_in x.format) between h v commands (oldest ++ place ∷ [])
-    → IsRunStaged x g reason entries (newest_first older) (place_of place) v commands y h
-run_staged = run_staged_by false
 
 -- a root over a graph that differs in room alone
 root_room : (format : ℕ) (first : Bool) (g h : GraphState) (room v commands : ℕ) (ls : List Locator) → IsRootOver format first (record g { room = room }) h v commands ls → IsRootOver format first g h v commands ls

@@ -3,13 +3,12 @@ use Rattle.std.specs.Prelude.{◌⊎◌, ℕ, true, List, length, if◌then◌el
 use Rattle.cs_deps.specs.Staging.{Staging}
 use Rattle.cs_deps.specs.State.{State as GraphState}
 use Rattle.cs_extent.specs.State.{State as ExtentsState, extents_of, shape}
-use Rattle.cs_extent.specs.Worn.{IsFrameWornBy}
 use Rattle.law_machine.specs.Apart.{is_none}
 use Rattle.law_machine.specs.Device.{Shape}
 use Rattle.law_machine.specs.Element.{Entry}
 use Rattle.law_machine.specs.Extents.{ForMerge, ForRun, GoesApart, Purpose as Reason}
 use Rattle.cs_index.specs.Merges.{deletions_go, stage_takes}
-use Rattle.cs_index.specs.Staged.{IsPartStagedBy, IsRootWorn, WritesPart, run_frame}
+use Rattle.cs_index.specs.Staged.{IsPartStagedBy, IsRootWorn, IsRunWornBy, WritesPart, run_frame}
 use Rattle.cs_index.specs.State.{State}
 
 -- how many of the newest runs a Stage merges: none where the table is empty
@@ -23,8 +22,7 @@ IsFullApart Writes x reason = (entries : List Entry) × Writes entries
 
 -- a run is to be written, an extent takes its pages, and a number of its frame would pass 2^63 - 1
 abbrev pub IsRunWornApart : (List Entry → Type 0) → ExtentsState → Reason → Staging → Type 0
-IsRunWornApart Writes x reason staging = (entries : List Entry) × Writes entries
-    × IsFrameWornBy true x reason staging (length (run_frame x entries))
+IsRunWornApart Writes x reason staging = IsRunWornBy true Writes x reason staging
 
 -- the run of the table and of the newest k runs, if it has an entry, without deletions where they go
 abbrev pub WritesNewest : Shape → State → (k : ℕ) → List Entry → Type 0

@@ -6,4 +6,5 @@ pub mod Merges
 pub mod Read
 pub mod Sorted
 pub mod Staged
+pub mod Stages
 pub mod State

@@ -10,7 +10,7 @@ use Rattle.cs_deps.specs.State.{AddsOnly, State as GraphState, write_of}
 use Rattle.cs_extent.specs.Appended.{IsAppendedBy}
 use Rattle.cs_extent.specs.Frames.{IsRootNeed, root_family, root_pages}
 use Rattle.cs_extent.specs.State.{State as ExtentsState, extents_of, shape}
-use Rattle.cs_extent.specs.Worn.{IsFrameWorn}
+use Rattle.cs_extent.specs.Worn.{IsFrameWorn, IsFrameWornBy}
 use Rattle.cs_frame.specs.declared.locators.Locator.{Locator}
 use Rattle.cs_frame.specs.Formats.{as_locator, formats_of}
 use Rattle.cs_frame.specs.Roots.{SpellsRoot}
@@ -127,6 +127,10 @@ WritesRun S s entries = (s.table ≢ []) × WritesPart (deletions_go S s (stage_
 -- a run is to be written, and no extent takes its pages
 abbrev pub IsFull : (List Entry → Type 0) → ExtentsState → Reason → Type 0
 IsFull Writes x reason = (entries : List Entry) × Writes entries × NoPlace (shape x) (extents_of x) reason (length (run_frame x entries))
+
+-- a run is to be written, an extent takes its pages, and a number of its frame would pass 2^63 - 1
+abbrev pub IsRunWornBy : (apart : Bool) → (List Entry → Type 0) → ExtentsState → Reason → Staging → Type 0
+IsRunWornBy apart Writes x reason s = (entries : List Entry) × Writes entries × IsFrameWornBy apart x reason s (length (run_frame x entries))
 
 -- the root's number would pass 2^63 - 1
 abbrev pub IsRootWorn : Staging → Type 0

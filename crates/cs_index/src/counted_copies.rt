@@ -18,7 +18,7 @@ ghost use Rattle.std.specs.List.{AllByRecursion};
 
 use crate::indexes::Index;
 use crate::live::NONE_KNOWN;
-use crate::stages::Portion;
+use crate::mergers::Portion;
 use crate::stored_runs::StoredRun;
 use cs_deps::Graph;
 use cs_extent::Extents;
@@ -62,6 +62,13 @@ fn with_copy(
     Ok(new)
 }
 
+/// Copies of an index's table, and of how many chunks live on each extent.
+#[derive(Drop)]
+struct Copied {
+    table: Run,
+    on: Vec<u32>,
+}
+
 /// What is merged with the table where it is copied alone.
 const TABLE_ALONE: Portion = Portion {
     newest: 0,
@@ -69,11 +76,11 @@ const TABLE_ALONE: Portion = Portion {
 };
 
 impl Index {
-    /// As `stage_apart`, but first each of these copies, oldest first, counts: where its chunk still lies where it was copied from, it lies
+    /// As `stage_root`, but first each of these copies, oldest first, counts: where its chunk still lies where it was copied from, it lies
     /// where the copy is. Answers the version of the root. Where `last` says that a number of the caller's would pass its greatest, nothing
     /// is staged.
     ///
-    /// 30 `Full` and 35 `WornOut` as `stage_apart` once the copies count, and 35 where `last` holds; 9 `OutOfMemory` may come instead of either. After a refusal
+    /// 30 `Full` and 35 `WornOut` as `stage_root` once the copies count, and 35 where `last` holds; 9 `OutOfMemory` may come instead of either. After a refusal
     /// nothing has changed but the graph's room, and no copy counts. Takes memory for the table and the run, and time for its entries.
     pub fn stage_settled(
         &mut self,
@@ -105,21 +112,21 @@ impl Index {
         ensures unstaged { OnErr result (graph.new ≡ record graph.old { room = graph.new.room }) }
     {
         match self.copied() {
-            Ok((table, on)) => self.stage_copied(extents, graph, commands, copies, table, on, last),
+            Ok(copied) => self.stage_copied(extents, graph, commands, copies, copied, last),
             Err(_) => Err(Refusal::OutOfMemory),
         }
     }
 
     /// Copies of the table and of the counts by extent.
-    fn copied(&self) -> Result<(Run, Vec<u32>), AllocError>
-        ensures copy { IfOk result (λ made. IsRunOf false (part self.now 0) (map named_entry made.0.entries.items)) }
-        ensures ids { IfOk result (λ made. AllByRecursion (λ entry. IsId entry.0) made.0.entries.items) }
-        ensures counts { IfOk result (λ made. AreCounts made.1.items (index_of self.now)) }
+    fn copied(&self) -> Result<Copied, AllocError>
+        ensures copy { IfOk result (λ made. IsRunOf false (part self.now 0) (map named_entry made.table.entries.items)) }
+        ensures ids { IfOk result (λ made. AllByRecursion (λ entry. IsId entry.0) made.table.entries.items) }
+        ensures counts { IfOk result (λ made. AreCounts made.on.items (index_of self.now)) }
     {
         let alloc = *self.table.entries.allocator();
         let table = self.merged_newest(alloc, TABLE_ALONE)?;
         let on = Vec::from_slice(alloc, &self.on)?;
-        Ok((table, on))
+        Ok(Copied { table, on })
     }
 
     /// The same with a copy of the table, in which the copies count: it takes the table's place only once a root was staged.
@@ -129,13 +136,12 @@ impl Index {
         graph: &mut Graph,
         commands: u64,
         copies: &[ChunkCopy],
-        table: Run,
-        on: Vec<u32>,
+        copied: Copied,
         last: bool,
     ) -> Result<u64, Refusal>
-        requires counts { AreCounts on.items (index_of self.old) }
-        requires copy { IsRunOf false (part self.old 0) (map named_entry table.entries.items) }
-        requires ids { AllByRecursion (λ entry. IsId entry.0) table.entries.items }
+        requires counts { AreCounts copied.on.items (index_of self.old) }
+        requires copy { IsRunOf false (part self.old 0) (map named_entry copied.table.entries.items) }
+        requires ids { AllByRecursion (λ entry. IsId entry.0) copied.table.entries.items }
         requires apart { (shape extents.old).apart ≡ true }
         requires format { self.old.format ≡ (shape extents.old).format }
         requires limit { self.old.limit ≡ (shape extents.old).most_weight }
@@ -155,12 +161,12 @@ impl Index {
         let alloc = *self.table.entries.allocator();
         let runs = replace(&mut self.runs, Vec::new(alloc));
         let mut settled = Index {
-            table,
+            table: copied.table,
             runs,
             named: self.named,
             living: self.living,
             weight: self.weight,
-            on,
+            on: copied.on,
             format: self.format,
             limit: self.limit,
             room: 0,

@@ -9,8 +9,7 @@ ghost use Rattle.law_machine.specs.Index.{entries_of, live_at, lookup, named_wei
 ghost use Rattle.law_machine.specs.Tally.{lives_on, one_if_some, places_on, shards};
 
 use crate::entries::entries_from;
-use crate::stored_runs::{StoredRun, find_in_runs};
-use crate::tables::find;
+use crate::stored_runs::{StoredRun, find, find_in_runs};
 use cs_frame::{Format, Locator, Places, ShardId, entry_weight};
 
 /// 1 where there is a locator, 0 where there is none.

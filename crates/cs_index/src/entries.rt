@@ -7,8 +7,7 @@ ghost use Rattle.cs_index.specs.Read.{ArePlaces, AreStarts, IsReadable};
 ghost use Rattle.cs_index.specs.Sorted.{IsPlace, IsStart, first_of};
 ghost use Rattle.cs_index.specs.State.{IsNext, IsStored, id_number, named_entry, newest_first};
 
-use crate::stored_runs::StoredRun;
-use crate::tables::{is_at, is_before, place};
+use crate::stored_runs::{StoredRun, is_at, is_before, place};
 use cs_frame::{Locator, Places, ShardId};
 use std::marker::Model;
 

@@ -12,8 +12,7 @@ ghost use Rattle.cs_index.specs.State.{IsSet, IsWhole, id_number, index_of, newe
 use crate::counts::{MOST_EXTENTS, count_living, count_newest, one_if_living, recount, sum_after};
 use crate::entries::{Entries, entries_after, entries_from};
 use crate::live::{Cleared, LiveChunk, NONE_KNOWN, known_up_to, search, still_cleared};
-use crate::stored_runs::{StoredRun, are_ids, count_after, find_in_runs};
-use crate::tables::{find, put};
+use crate::stored_runs::{StoredRun, are_ids, count_after, find, find_in_runs, put};
 use cs_frame::{Format, Locator, Places, Run, ShardId, entry_weight};
 use cs_refusal::Refusal;
 use std::alloc::{AllocError, Global};

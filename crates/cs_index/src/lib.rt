@@ -6,7 +6,6 @@
 //! all are read in order, table and runs side by side.
 #![tactic(auto)]
 
-mod behind;
 mod counted_copies;
 mod counts;
 mod entries;
@@ -14,14 +13,11 @@ mod index_laws;
 mod indexes;
 mod live;
 mod mergers;
-mod places;
-mod reach;
-mod runs_apart;
+mod run_places;
 mod stages;
-mod stages_apart;
+mod stages_v2;
 mod stagings;
 mod stored_runs;
-mod tables;
 
 pub use counted_copies::ChunkCopy;
 pub use entries::Entries;

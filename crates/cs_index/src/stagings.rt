@@ -1,23 +1,23 @@
 //! Runs and roots that are staged.
-ghost use Rattle.std.specs.Prelude.{◌≡◌, ℕ, ◌+◌, ◌*◌, ◌^◌, ◌<◌, ◌≤◌, ◌↔◌, ◌++◌, ◌∷◌, ◌⊎◌, [], IfOk, IsTrue, MatchBool, MatchResult, OnErr, OnOk, length, map, slice_index, vec_capacity, vec_len};
+ghost use Rattle.std.specs.Prelude.{◌≡◌, ℕ, ◌+◌, ◌^◌, ◌<◌, ◌≤◌, ◌↔◌, ◌++◌, ◌∷◌, ◌⊎◌, [], IfOk, IsTrue, MatchResult, OnErr, length, map, slice_index, vec_capacity, vec_len};
 ghost use Rattle.std.specs.List.{AllByRecursion};
 ghost use Rattle.cs_deps.specs.State.{State as GraphState};
-ghost use Rattle.cs_extent.specs.Appended.{IsAppended};
+ghost use Rattle.cs_extent.specs.Appended.{IsAppendedBy};
 ghost use Rattle.cs_extent.specs.Frames.{AreResetsStaged, root_family};
 ghost use Rattle.cs_extent.specs.Purposes.{reason_of};
 ghost use Rattle.cs_extent.specs.State.{State as ExtentsState, extents_of, shape};
-ghost use Rattle.cs_extent.specs.Worn.{IsFrameWorn};
+ghost use Rattle.cs_extent.specs.Worn.{IsFrameWornBy};
 ghost use Rattle.cs_frame.specs.FormatRuns.{run_size};
+ghost use Rattle.cs_frame.specs.Formats.{place_of};
 ghost use Rattle.cs_frame.specs.Frames.{page_count};
 ghost use Rattle.cs_frame.specs.Geometries.{IsKnown};
 ghost use Rattle.cs_frame.specs.Locators.{KeepFormat};
 ghost use Rattle.cs_frame.specs.Roots.{greatest_runs};
 ghost use Rattle.cs_frame.specs.Runs.{IsRun, entries_of};
-ghost use Rattle.law_machine.specs.Extents.{NoPlace, Placed};
+ghost use Rattle.law_machine.specs.Extents.{Goes};
 ghost use Rattle.law_machine.specs.Geometry.{pages_first_in};
 ghost use Rattle.law_machine.specs.Index.{run_weight};
-ghost use Rattle.cs_index.specs.Staged.{IsExact, IsRootOver, IsRootWorn, IsRunStaged, IsWhy, run_frame};
-ghost use Rattle.cs_frame.specs.Formats.{place_of};
+ghost use Rattle.cs_index.specs.Staged.{IsExact, IsRootOver, IsRootWorn, IsRunStagedBy, IsWhy, run_frame};
 ghost use Rattle.cs_index.specs.State.{IsShort, named_entry, newest_first};
 
 use crate::stored_runs::StoredRun;
@@ -41,7 +41,6 @@ pub fn is_last_root(graph: &Graph) -> bool
 /// Stages the next version of the root, in this format, over runs whose frames begin at these places, oldest first. It needs all plain
 /// writes that were staged where those don't come first.
 pub fn stage_root(
-    alloc: Global,
     graph: &mut Graph,
     format: Format,
     pages_first: bool,
@@ -60,6 +59,7 @@ pub fn stage_root(
     ensures families { length graph.new.staging.latest ≡ length graph.old.staging.latest }
     ensures rises { slice_index graph.old.staging.latest root_family ≤ slice_index graph.new.staging.latest root_family }
 {
+    let alloc = *places.allocator();
     let version = graph.last_version(ROOT) + 1;
     let root = Root {
         format,
@@ -88,7 +88,7 @@ pub fn frame_of(alloc: Global, format: Format, run: &Run) -> Result<Vec<[u8; 409
 
 /// Where the frames of these runs begin, with room for one more.
 fn places_of(alloc: Global, runs: &[StoredRun]) -> Result<Vec<Locator>, AllocError>
-    requires { length runs.now < 24 }
+    requires { length runs.now ≤ 24 }
     ensures places { IfOk result (λ places. places.items ≡ map (λ run. run.place) runs.now) }
     ensures room { IfOk result (λ places. vec_len places < vec_capacity places) }
 {
@@ -97,14 +97,6 @@ fn places_of(alloc: Global, runs: &[StoredRun]) -> Result<Vec<Locator>, AllocErr
         places.push_reserved(run.place);
     }
     Ok(places)
-}
-
-/// Whether an extent takes a frame of so many pages.
-fn has_place(extents: &Extents, pages: usize, purpose: Purpose) -> bool
-    requires { (1 ≤ pages) × (pages ≤ (shape extents.now).pages) }
-    ensures { MatchBool result ((e : ℕ) × Placed (shape extents.now) (extents_of extents.now) (reason_of purpose) pages e) (NoPlace (shape extents.now) (extents_of extents.now) (reason_of purpose) pages) }
-{
-    extents.fits(&[pages], purpose)
 }
 
 /// How many pages the frame of a run has.
@@ -117,48 +109,31 @@ pub fn run_pages(extents: &Extents, run: &Run) -> usize
     frame_pages(run_size(extents.geometry().format(), run))
 }
 
-/// Whether an extent takes the frame of a run.
-pub fn run_fits(extents: &Extents, run: &Run, purpose: Purpose) -> bool
-    requires some { 1 ≤ length run.now.entries.items }
-    requires short { AllByRecursion IsShort (map named_entry run.now.entries.items) }
-    requires weight { run_weight (shape extents.now).weigh (map named_entry run.now.entries.items) ≤ (shape extents.now).most_weight }
-    ensures { MatchBool result ((e : ℕ) × Placed (shape extents.now) (extents_of extents.now) (reason_of purpose) (length (run_frame extents.now (map named_entry run.now.entries.items))) e) (NoPlace (shape extents.now) (extents_of extents.now) (reason_of purpose) (length (run_frame extents.now (map named_entry run.now.entries.items)))) }
-{
-    has_place(extents, run_pages(extents, run), purpose)
-}
-
 /// Makes what is written with a run: the pages of its frame, the places of the older runs with room for one more, and
 /// room in the graph for all that is staged.
 ///
-/// 30 `Full` where no extent takes the frame, then 35 `WornOut` where the last number of a root is given.
+/// 35 `WornOut` where the last number of a root is given; 9 `OutOfMemory` may come instead.
 fn prepare(
-    alloc: Global,
     extents: &Extents,
     graph: &mut Graph,
     run: &Run,
     older: &[StoredRun],
-    purpose: Purpose,
 ) -> Result<(Vec<[u8; 4096]>, Vec<Locator>), Refusal>
     requires run { IsRun extents.now.format run.now }
     requires weight { run_weight (shape extents.now).weigh (map named_entry run.now.entries.items) ≤ (shape extents.now).most_weight }
-    requires few { length older.now < greatest_runs extents.now.format }
-    requires families { root_family < length graph.old.staging.latest }
+    requires few { length older.now ≤ 24 }
+    requires families { length graph.old.staging.latest ≡ 1 + (shape extents.now).sections }
     ensures frame { IfOk result (λ made. made.0.items ≡ run_frame extents.now (map named_entry run.now.entries.items)) }
     ensures pages { IfOk result (λ made. (1 ≤ length made.0.items) × (length made.0.items ≤ (shape extents.now).pages)) }
     ensures places { IfOk result (λ made. made.1.items ≡ map (λ run. run.place) older.now) }
     ensures spare { IfOk result (λ made. vec_len made.1 < vec_capacity made.1) }
     ensures room { IfOk result (λ made. length made.0.items + 2 ≤ graph.new.room) }
-    ensures placed { OnOk result ((e : ℕ) × Placed (shape extents.now) (extents_of extents.now) (reason_of purpose) (length (run_frame extents.now (map named_entry run.now.entries.items))) e) }
-    ensures why { IsExact result (NoPlace (shape extents.now) (extents_of extents.now) (reason_of purpose) (length (run_frame extents.now (map named_entry run.now.entries.items))))
-        (IsRootWorn graph.old.staging) }
+    ensures why { IsExact result ⊥ (IsRootWorn graph.old.staging) }
     ensures rest { graph.new ≡ record graph.old { room = graph.new.room } }
 {
-    let _extents = extents.extent_count();
+    let alloc = *run.entries.allocator();
     let frame = frame_of(alloc, extents.geometry().format(), run)?;
     let places = places_of(alloc, older)?;
-    if !has_place(extents, frame.len(), purpose) {
-        return Err(Refusal::Full);
-    }
     if is_last_root(graph) {
         return Err(Refusal::WornOut);
     }
@@ -166,9 +141,8 @@ fn prepare(
     Ok((frame, places))
 }
 
-/// Appends the frame of a run, and stages the root over the runs whose places these are and over this one.
+/// Appends the frame of a run, for which there is a place, and stages the root over the runs whose places these are and over this one.
 fn write_run(
-    alloc: Global,
     extents: &mut Extents,
     graph: &mut Graph,
     frame: &[[u8; 4096]],
@@ -179,7 +153,7 @@ fn write_run(
     requires pages { (1 ≤ length frame.now) × (length frame.now ≤ (shape extents.old).pages) }
     requires families { length graph.old.staging.latest ≡ 1 + (shape extents.old).sections }
     requires resets { AreResetsStaged (extents_of extents.old) graph.old.staging }
-    requires placed { (e : ℕ) × Placed (shape extents.old) (extents_of extents.old) (reason_of purpose) (length frame.now) e }
+    requires placed { (e : ℕ) × Goes (shape extents.old) (shape extents.old).apart (extents_of extents.old) (reason_of purpose) (length frame.now) e }
     requires number { ¬ IsRootWorn graph.old.staging }
     requires room { length frame.now + 2 ≤ graph.old.room }
     requires commands { commands < 2 ^ 63 }
@@ -187,11 +161,11 @@ fn write_run(
     requires marks { KeepFormat extents.old.format places.items }
     requires spare { vec_len places < vec_capacity places }
     ensures staged { IfOk result (λ made. (between : GraphState)
-        × IsAppended extents.old graph.old (reason_of purpose) frame.now made.0 extents.new between
+        × IsAppendedBy (shape extents.old).apart extents.old graph.old (reason_of purpose) frame.now made.0 extents.new between
         × IsRootOver extents.old.format (pages_first_in extents.old.format) between graph.new made.1 commands (places.items ++ made.0 ∷ [])) }
     ensures resets { AreResetsStaged (extents_of extents.new) graph.new.staging }
     ensures families { length graph.new.staging.latest ≡ length graph.old.staging.latest }
-    ensures worn { MatchResult result (λ _. ¬ IsFrameWorn extents.old (reason_of purpose) graph.old.staging (length frame.now)) (λ refusal. (refusal ≡ Refusal.WornOut) × IsFrameWorn extents.old (reason_of purpose) graph.old.staging (length frame.now)) }
+    ensures why { IsExact result ⊥ (IsFrameWornBy (shape extents.old).apart extents.old (reason_of purpose) graph.old.staging (length frame.now)) }
     ensures refused { OnErr result (extents.new ≡ extents.old) }
     ensures unstaged { OnErr result (graph.new ≡ record graph.old { room = graph.new.room }) }
 {
@@ -200,20 +174,18 @@ fn write_run(
     match extents.append(graph, frame, purpose) {
         Ok((place, _)) => {
             places.push_reserved(place);
-            let version = stage_root(alloc, graph, format, pages_first, places, commands);
+            let version = stage_root(graph, format, pages_first, places, commands);
             Ok((place, version))
         }
         Err(refusal) => Err(refusal),
     }
 }
 
-/// Stages a run behind the older ones, for this purpose, and the root over all of them. Answers where the run's
-/// frame begins, and the version of the root.
+/// Stages a run, for which there is a place, behind the older ones, for this purpose, and the root over all of them. Answers where the
+/// run's frame begins, and the version of the root.
 ///
-/// 30 `Full` where no extent takes the frame, then 35 `WornOut` where a number would pass 2^63 - 1; 9 `OutOfMemory` may
-/// come instead of either.
+/// 35 `WornOut` where a number would pass 2^63 - 1; 9 `OutOfMemory` may come instead.
 pub fn stage_run(
-    alloc: Global,
     extents: &mut Extents,
     graph: &mut Graph,
     run: &Run,
@@ -225,20 +197,50 @@ pub fn stage_run(
     requires weight { run_weight (shape extents.old).weigh (map named_entry run.now.entries.items) ≤ (shape extents.old).most_weight }
     requires few { length older.now < greatest_runs extents.old.format }
     requires marks { KeepFormat extents.old.format (map (λ run. run.place) older.now) }
+    requires placed { (e : ℕ) × Goes (shape extents.old) (shape extents.old).apart (extents_of extents.old) (reason_of purpose) (length (run_frame extents.old (map named_entry run.now.entries.items))) e }
     requires families { length graph.old.staging.latest ≡ 1 + (shape extents.old).sections }
     requires resets { AreResetsStaged (extents_of extents.old) graph.old.staging }
     requires commands { commands < 2 ^ 63 }
-    ensures staged { IfOk result (λ made. IsRunStaged extents.old graph.old (reason_of purpose) (map named_entry run.now.entries.items) (newest_first older.now) (place_of made.0) made.1 commands extents.new graph.new) }
+    ensures staged { IfOk result (λ made. IsRunStagedBy (shape extents.old).apart extents.old graph.old (reason_of purpose) (map named_entry run.now.entries.items) (newest_first older.now) (place_of made.0) made.1 commands extents.new graph.new) }
     ensures resets { AreResetsStaged (extents_of extents.new) graph.new.staging }
     ensures families { length graph.new.staging.latest ≡ length graph.old.staging.latest }
-    ensures why { IsExact result (NoPlace (shape extents.old) (extents_of extents.old) (reason_of purpose) (length (run_frame extents.old (map named_entry run.now.entries.items))))
-        (IsRootWorn graph.old.staging ⊎ IsFrameWorn extents.old (reason_of purpose) graph.old.staging (length (run_frame extents.old (map named_entry run.now.entries.items)))) }
+    ensures why { IsExact result ⊥ (IsRootWorn graph.old.staging ⊎ IsFrameWornBy (shape extents.old).apart extents.old (reason_of purpose) graph.old.staging (length (run_frame extents.old (map named_entry run.now.entries.items)))) }
     ensures refused { OnErr result (extents.new ≡ extents.old) }
     ensures unstaged { OnErr result (graph.new ≡ record graph.old { room = graph.new.room }) }
 {
-    let _extents = extents.extent_count();
-    let (frame, places) = prepare(alloc, extents, graph, run, older, purpose)?;
-    write_run(alloc, extents, graph, &frame, places, commands, purpose)
+    let (frame, places) = prepare(extents, graph, run, older)?;
+    write_run(extents, graph, &frame, places, commands, purpose)
+}
+
+/// Stages the root over these runs, the oldest first, which needs all plain writes that were staged where those don't come first.
+///
+/// 35 `WornOut` where the last number of a root is given; 9 `OutOfMemory` may come instead.
+pub fn stage_over(
+    alloc: Global,
+    graph: &mut Graph,
+    format: Format,
+    pages_first: bool,
+    runs: &[StoredRun],
+    commands: u64,
+) -> Result<u64, Refusal>
+    requires format { IsKnown format }
+    requires families { root_family < length graph.old.staging.latest }
+    requires few { length graph.old.staging.latest ≤ 16 }
+    requires runs { length runs.now ≤ greatest_runs format }
+    requires marks { KeepFormat format (map (λ run. run.place) runs.now) }
+    requires commands { commands < 2 ^ 63 }
+    ensures staged { IfOk result (λ v. IsRootOver format pages_first graph.old graph.new v commands (map (λ run. run.place) runs.now)) }
+    ensures families { length graph.new.staging.latest ≡ length graph.old.staging.latest }
+    ensures resets { (x : _) → AreResetsStaged x graph.old.staging → AreResetsStaged x graph.new.staging }
+    ensures why { IsExact result ⊥ (IsRootWorn graph.old.staging) }
+    ensures unstaged { OnErr result (graph.new ≡ record graph.old { room = graph.new.room }) }
+{
+    let places = places_of(alloc, runs)?;
+    if is_last_root(graph) {
+        return Err(Refusal::WornOut);
+    }
+    graph.reserve(1)?;
+    Ok(stage_root(graph, format, pages_first, places, commands))
 }
 
 /// Stages a root of this format without runs, which needs all plain writes that were staged where those don't come first.
@@ -265,5 +267,5 @@ pub fn stage_empty(
         return Err(Refusal::WornOut);
     }
     graph.reserve(1)?;
-    Ok(stage_root(alloc, graph, format, pages_first, Vec::new(alloc), commands))
+    Ok(stage_root(graph, format, pages_first, Vec::new(alloc), commands))
 }

@@ -2,11 +2,11 @@
 use Rattle.std.proofs.Common.{All, ◌+◌, ◌≡◌, ◌⊎◌, inl, inr, ℕ, List, [], map, replicate, refl, sym, ◌∙◌, ap, subst, arith}
 use Rattle.std.proofs.lemmas.List.{ext_get_or, get_or-replicate, length-replicate}
 use Rattle.std.specs.List.{range_with_len}
-use Rattle.cs_disk.specs.Disk.{Image, State, applied, flushed, seen}
+use Rattle.cs_disk.specs.Disk.{Image, State, Write, applied, flushed, seen}
 use Rattle.cs_frame.specs.Geometries.{Dimensions, IsGeometry}
 use Rattle.cs_twin.specs.declared.pairs.Pair.{Pair}
 use Rattle.cs_twin.specs.Pairs.{ArePairs, Versions, blank, shown, shown_state}
-use Rattle.cs_mount.specs.StorePairs.{pages_of, store_pair, store_pairs}
+use Rattle.cs_mount.specs.StorePairs.{blank_disk, pages_of, store_pair, store_pairs}
 use Rattle.cs_twin.proofs.Leaving.{are_on, shown_All}
 use Rattle.cs_twin.proofs.Shown.{length-shown}
 use Rattle.cs_mount.proofs.Twins.{are_store_pairs, listed, unlisted, unlisted_apart}
@@ -34,6 +34,11 @@ apart_of d g = by_format g.known
     by_format : (d.format ≡ 2) ⊎ (d.format ≡ 3) → ArePairs (store_pairs d) (pages_of d)
     by_format (inl two) = unlisted_apart (store_pairs d) (pages_of d) (sym (unlisted d [] (λ three. omega (arith, two, three)) refl))
     by_format (inr three) = subst (λ (l : List Pair). ArePairs l (pages_of d)) (listed d (map (store_pair d) (range_with_len 0 (1 + d.sections))) (1 + d.sections) three refl refl) (are_store_pairs d g three)
+
+-- a disk of zeros, all of them durable
+pub blank_from : (d : Dimensions) (s : State) → s.durable ≡ replicate (pages_of d) zeros → s.volatile ≡ [] → s ≡ blank_disk d
+blank_from d s durable none =
+    ap (λ (image : Image). record { durable = image; volatile = s.volatile }) durable ∙ ap (λ (writes : List Write). record { durable = replicate (pages_of d) zeros; volatile = writes }) none
 
 -- So a new device is, before a store is made on it.
 pub new_shows : (V : Versions) (d : Dimensions) (s : State) → IsGeometry d.format d.extents d.pages d.sections → s.durable ≡ replicate (pages_of d) zeros → s.volatile ≡ []

@@ -2,6 +2,7 @@ pub mod Spelling
 pub mod Twins
 pub mod Unpaired
 pub mod Telling
+pub mod Making
 pub mod Mounting
 pub mod Lowering
 pub mod Sealing

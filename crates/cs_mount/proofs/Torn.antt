@@ -12,7 +12,7 @@ use Rattle.cs_core.specs.cs_extent.State.{shape}
 use Rattle.cs_frame.specs.FirstFormat.{SpellsPageZero}
 use Rattle.cs_frame.specs.Formats.{formats_of}
 use Rattle.cs_frame.specs.Geometries.{Dimensions, IsGeometry, section_size}
-use Rattle.cs_core.proofs.law_refinement.Readable.{section_spelled}
+use Rattle.cs_reader.proofs.Readable.{section_spelled}
 use Rattle.law_machine.specs.Element.{Map}
 use Rattle.law_machine.specs.Geometry.{shape_of}
 use Rattle.law_machine.specs.Recovery.{Recovers}

@@ -12,7 +12,7 @@ use Rattle.cs_twin.specs.Pairs.{ArePairs, half}
 use Rattle.cs_mount.specs.StorePairs.{pages_of, store_pair, store_pairs}
 
 -- an element of a list that is made of its places
-made_at : {A : Type 0} (f : ℕ → A) (a n k : ℕ) (x : A) → slice_get (map f (range_with_len a n)) k ≡ Some x → (k < n) × (f (a + k) ≡ x)
+pub made_at : {A : Type 0} (f : ℕ → A) (a n k : ℕ) (x : A) → slice_get (map f (range_with_len a n)) k ≡ Some x → (k < n) × (f (a + k) ≡ x)
 made_at f a zero k x at = cc
 made_at f a (suc n) zero x at = (omega arith, ap f (omega arith) ∙ same_Some (f a) x at)
 made_at f a (suc n) (suc k) x at = let more = made_at f (a + 1) n k x at in (omega (arith, more.0), ap f (omega arith) ∙ more.1)

@@ -28,10 +28,10 @@ frame_between : (frames p : ℕ) → p ≢ 0 → p ≢ 1 → p < 2 + frames
 frame_between frames p zeroth first lt = grind (arith, nat_tests)
 
 module _ (d : Dimensions) (g : IsGeometry d.format d.extents d.pages d.sections) (three : d.format ≡ 3) where
-  listed_pairs : store_pairs d ≡ map (store_pair d) (range_with_len 0 (1 + d.sections))
+  pub listed_pairs : store_pairs d ≡ map (store_pair d) (range_with_len 0 (1 + d.sections))
   listed_pairs = ap (λ (b : Bool). if b then map (store_pair d) (range_with_len 0 (1 + d.sections)) else []) (eq-eqb d.format 3 three)
 
-  pair_there : (k : ℕ) → k ≤ d.sections → slice_get (store_pairs d) k ≡ Some (store_pair d k)
+  pub pair_there : (k : ℕ) → k ≤ d.sections → slice_get (store_pairs d) k ≡ Some (store_pair d k)
   pair_there k le =
       let zeroth : 0 + k ≡ k = omega arith in
       ap (λ (l : List Pair). slice_get l k) listed_pairs ∙ made_there (store_pair d) 0 (1 + d.sections) k (omega (arith, le)) ∙ ap (λ (m : ℕ). Some (store_pair d m)) zeroth

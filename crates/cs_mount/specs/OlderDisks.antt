@@ -21,3 +21,7 @@ root_of d = d.root
 -- what it shows
 abbrev pub state_lowered : {D : Type 0} {disks : PageDisk D} → AsOf D disks → State
 state_lowered {disks = disks} d = lowered_state d.geometry d.root (disks.state d.disk)
+
+-- how many writes it refused
+abbrev pub refused_of : {D : Type 0} {disks : PageDisk D} → AsOf D disks → ℕ
+refused_of d = d.refused

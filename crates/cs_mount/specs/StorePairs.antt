@@ -1,7 +1,7 @@
 -- The pairs of a store: which pages they are, and when one of them is whole.
-use Rattle.std.specs.Prelude.{◌==◌, ◌&&◌, ◌+◌, ◌-◌, ◌*◌, ℕ, Bool, List, [], Option, Some, None, if◌then◌else◌, map, nat_lt, slice_index}
+use Rattle.std.specs.Prelude.{◌==◌, ◌&&◌, ◌+◌, ◌-◌, ◌*◌, ℕ, Bool, List, [], Option, Some, None, if◌then◌else◌, map, nat_lt, replicate, slice_index}
 use Rattle.std.specs.List.{range_with_len}
-use Rattle.cs_disk.specs.Disk.{Image, page}
+use Rattle.cs_disk.specs.Disk.{Image, State, page}
 use Rattle.cs_frame.specs.Bytes.{number}
 use Rattle.cs_frame.specs.declared.faults.FormatFault.{FormatFault}
 use Rattle.cs_frame.specs.FirstFormat.{page_zero_fault}
@@ -15,6 +15,10 @@ use Rattle.cs_twin.specs.declared.pairs.Pair.{Pair}
 -- the pages of the device of a store
 abbrev pub pages_of : Dimensions → ℕ
 pages_of d = device_pages d.format d.extents d.pages d.sections
+
+-- the disk of a store before it is made: zeros, all of them durable
+abbrev pub blank_disk : Dimensions → State
+blank_disk d = record { durable = replicate (pages_of d) (replicate 4096 0); volatile = [] }
 
 -- The pairs of a store count from 0: that of section 0, that of the root, and those of the other sections. Their twins are the last pages of
 -- the device, from the very last on downwards.

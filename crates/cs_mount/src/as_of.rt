@@ -25,13 +25,14 @@ pub struct AsOf<D: PageDisk> {
 }
 
 impl<D: PageDisk> AsOf<D> {
-    ghost use Rattle.cs_mount.specs.OlderDisks.{dimensions_of, root_of, shown_below};
+    ghost use Rattle.cs_mount.specs.OlderDisks.{dimensions_of, refused_of, root_of, shown_below};
 
     /// The disk of a store of this geometry, as of the root of this version.
     pub fn new(alloc: Global, disk: D, geometry: Geometry, root: u64) -> Self
         ensures below { shown_below result ≡ disk }
         ensures geometry { dimensions_of result ≡ geometry }
         ensures root { root_of result ≡ root }
+        ensures refused { refused_of result ≡ 0 }
     {
         AsOf {
             alloc,
@@ -138,6 +139,12 @@ impl<D: PageDisk> PageDisk for AsOf<D> {
     ghost page_count = { λ d. D.page_count d.disk };
 
     ghost failure_count = { λ d. min (D.failure_count d.disk + d.refused) (2 ^ 64 - 1) };
+
+    ghost refusal_count = { λ d. D.refusal_count d.disk + d.refused };
+
+    ghost sound = { λ d. D.sound d.disk };
+
+    ghost takes = { λ _ _ _. ⊥ };
 
     ghost moment = { λ d. D.moment d.disk };
 

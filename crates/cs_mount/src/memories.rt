@@ -1,10 +1,10 @@
 //! Stores in memory.
-ghost use Rattle.std.specs.Prelude.{◌≡◌, IfErr, IfOk, None, [], replicate};
+ghost use Rattle.std.specs.Prelude.{◌≡◌, IfErr, IfOk, None, []};
 ghost use Rattle.cs_core.specs.Started.{IsNewOn, new_stored};
 ghost use Rattle.cs_core.specs.cs_extent.State.{shape};
 ghost use Rattle.cs_disk.specs.Disk.{page};
 ghost use Rattle.cs_frame.specs.Formats.{formats_of};
-ghost use Rattle.cs_frame.specs.Geometries.{device_pages};
+ghost use Rattle.cs_mount.specs.StorePairs.{blank_disk};
 ghost use Rattle.law_machine.specs.Recovery.{Recovers};
 ghost use Rattle.cs_twin.specs.Paired.{state_shown};
 
@@ -24,8 +24,7 @@ impl MountOptions {
         ensures found { IfOk result (λ core. core.found ≡ (0, 0)) }
         ensures start { IfOk result (λ core. Recovers (shape core.store.extents) (formats_of (shape core.store.extents)) (page core.opened) 0 (λ id. None)) }
         // The superblock and the root are written and durable, on pages of zeros.
-        ensures written { IfOk result (λ core. IsNewOn geometry.format geometry.extents geometry.pages geometry.sections
-            (record { durable = replicate (device_pages geometry.format geometry.extents geometry.pages geometry.sections) (replicate 4096 0); volatile = [] }) (state_shown core.disk)) }
+        ensures written { IfOk result (λ core. IsNewOn geometry.format geometry.extents geometry.pages geometry.sections (blank_disk geometry) (state_shown core.disk)) }
         ensures memory { IfErr result (λ refusal. refusal ≡ Refusal.OutOfMemory) }
     {
         let Ok(disk) = MemoryDisk::new(self.alloc, geometry.device_pages()) else {

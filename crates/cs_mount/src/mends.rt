@@ -1,9 +1,9 @@
 // Opened stores whose damaged pages are written anew.
 ghost use Rattle.std.specs.Prelude.{◌≡◌, ◌≢◌, ◌⊎◌, ◌↔◌, [], ℕ, IfErr, IfOk, MatchResult, None, Some};
 ghost use Rattle.std.specs.List.{AllByRecursion};
-ghost use Rattle.cs_disk.specs.Disk.{LeavesOnly, MayLeave, page, seen};
+ghost use Rattle.cs_disk.specs.Disk.{LeavesOnly, MayLeave, Rises, page, seen};
 ghost use Rattle.cs_twin.specs.Findings.{finding_in, passed_over};
-ghost use Rattle.cs_twin.specs.Paired.{disk_below, left_as_shown, moment_of, pairs_of, rules_of, state_shown, versions_of};
+ghost use Rattle.cs_twin.specs.Paired.{IsSound, disk_below, failures_of, left_as_shown, moment_of, pairs_of, refusals_of, rules_of, state_shown, versions_of};
 ghost use Rattle.cs_twin.specs.Pairs.{half, is_turned};
 
 use crate::mounts::Mounted;
@@ -20,7 +20,7 @@ use cs_refusal::Refusal;
 /// Where an opening can't tell, as of a root that no section records yet, the store was opened as of the older one, and that is what is written.
 ///
 /// Refused 1 DeviceFault, and 9 OutOfMemory, with the disk: some of the damaged pages may be written anew then and the rest not, and what shows is the same, so the
-/// store can be opened from the device and this be done again. Up to format 2 a store has no page twice, and the disk is flushed alone.
+/// store can be opened from the device and this be done again. A store of the older formats has no page twice, and the disk is flushed alone.
 pub fn mend<D: PageDisk + Drop>(core: Core<Mounted<D>>) -> Result<Mounted<D>, (Refusal, Mounted<D>)>
     // No page is passed over any more.
     ensures whole { D.honest (disk_below core.disk) → IfOk result (λ disk. AllByRecursion (λ x. passed_over (finding_in (versions_of core.disk) (seen (D.state (disk_below disk))) x) ≡ None) (pairs_of core.disk)) }
@@ -35,6 +35,9 @@ pub fn mend<D: PageDisk + Drop>(core: Core<Mounted<D>>) -> Result<Mounted<D>, (R
     ensures pairs { MatchResult result (λ disk. pairs_of disk ≡ pairs_of core.disk) (λ refused. pairs_of refused.1 ≡ pairs_of core.disk) }
     ensures rules { MatchResult result (λ disk. rules_of disk ≡ rules_of core.disk) (λ refused. rules_of refused.1 ≡ rules_of core.disk) }
     ensures refusals { IfErr result (λ refused. (refused.0 ≡ Refusal.DeviceFault) ⊎ (refused.0 ≡ Refusal.OutOfMemory)) }
+    // 1 is counted; and by a disk in pairs where no write to a pair was in doubt it is an answer of the disk below.
+    ensures cause { IfErr result (λ refused. refused.0 ≡ Refusal.DeviceFault → Rises (failures_of core.disk) (failures_of refused.1)) }
+    ensures unrefused { IsSound core.disk → MatchResult result (λ disk. refusals_of disk ≡ refusals_of core.disk) (λ refused. refusals_of refused.1 ≡ refusals_of core.disk) }
 {
     let mut disk = core.into_disk();
     match disk.repair_all() {

@@ -1,14 +1,14 @@
 // Stores over disks in pairs: how they are made and opened.
-ghost use Rattle.std.specs.Prelude.{◌≡◌, ◌≢◌, ◌⊎◌, ◌↔◌, ◌+◌, ◌<◌, ◌≤◌, ℕ, [], Err, IfErr, IfOk, MatchResult, None, OnOk, Some, replicate};
+ghost use Rattle.std.specs.Prelude.{◌≡◌, ◌≢◌, ◌⊎◌, ◌↔◌, ◌+◌, ◌<◌, ◌≤◌, ℕ, [], Err, IfErr, IfOk, MatchResult, None, OnOk, Some};
 ghost use Rattle.cs_core.specs.cs_chunk.Reads.{IsNoAnswer};
 ghost use Rattle.cs_reader.specs.Openings.{IsOpeningRefusal, IsWhyNotOpened};
 ghost use Rattle.cs_core.specs.Openings.{IsOpened};
 ghost use Rattle.cs_core.specs.Started.{IsNewOn, new_stored};
-ghost use Rattle.cs_disk.specs.Disk.{Image, MayLeave, flushed, page, seen};
+ghost use Rattle.cs_disk.specs.Disk.{Image, MayLeave, Rises, flushed, page, seen};
 ghost use Rattle.cs_core.specs.cs_extent.State.{shape};
 ghost use Rattle.cs_frame.specs.Formats.{formats_of};
 ghost use Rattle.cs_frame.specs.Geometries.{IsGeometry, device_pages, section_size};
-ghost use Rattle.cs_core.specs.law_refinement.Counts.{HasCount};
+ghost use Rattle.cs_reader.specs.Counts.{HasCount};
 ghost use Rattle.law_machine.specs.Element.{Map};
 ghost use Rattle.law_machine.specs.Geometry.{shape_of};
 ghost use Rattle.law_machine.specs.Recovery.{Recovers};
@@ -16,7 +16,7 @@ ghost use Rattle.cs_mount.specs.Looks.{IsTaken};
 ghost use Rattle.cs_twin.specs.Paired.{disk_below, left_as_shown, state_shown};
 ghost use Rattle.cs_twin.specs.Pairs.{shown_state};
 ghost use Rattle.cs_mount.specs.Showing.{ShowsOn, findings_on, shown_on};
-ghost use Rattle.cs_mount.specs.StorePairs.{store_pairs, store_version};
+ghost use Rattle.cs_mount.specs.StorePairs.{blank_disk, store_pairs, store_version};
 
 use crate::looks::is_taken;
 use crate::mount_options::MountOptions;
@@ -27,7 +27,7 @@ use cs_frame::Geometry;
 use cs_refusal::Refusal;
 use cs_twin::{Finding, Paired};
 
-/// A disk over which a store lies: in format 3 its most important pages have two pages each.
+/// A disk over which a store lies: its most important pages have two pages each, but in the older formats.
 pub type Mounted<D> = Paired<D, StoreRules>;
 
 impl MountOptions {
@@ -52,7 +52,7 @@ impl MountOptions {
         ensures start { IfOk result (λ core. D.honest disk → Recovers (shape core.store.extents) (formats_of (shape core.store.extents)) (page core.opened) 0 (λ id. None)) }
         ensures written { D.honest disk → IfOk result (λ core. IsNewOn geometry.format geometry.extents geometry.pages geometry.sections (shown_state (store_version (Some geometry)) (store_pairs geometry) (flushed (D.state disk))) (state_shown core.disk)) }
         // So it is on pages of zeros.
-        ensures zeros { D.honest disk → (D.state disk).durable ≡ replicate (device_pages geometry.format geometry.extents geometry.pages geometry.sections) (replicate 4096 0) → (D.state disk).volatile ≡ [] → IfOk result (λ core. IsNewOn geometry.format geometry.extents geometry.pages geometry.sections (record { durable = replicate (device_pages geometry.format geometry.extents geometry.pages geometry.sections) (replicate 4096 0); volatile = [] }) (state_shown core.disk)) }
+        ensures zeros { D.honest disk → D.state disk ≡ blank_disk geometry → IfOk result (λ core. IsNewOn geometry.format geometry.extents geometry.pages geometry.sections (blank_disk geometry) (state_shown core.disk)) }
         ensures pages { MatchResult result (λ core. D.page_count (disk_below core.disk) ≡ D.page_count disk) (λ refused. D.page_count refused.1 ≡ D.page_count disk) }
         ensures honest { MatchResult result (λ core. D.honest disk ↔ D.honest (disk_below core.disk)) (λ refused. D.honest disk ↔ D.honest refused.1) }
         ensures sized { OnOk result (D.page_count disk ≡ device_pages geometry.format geometry.extents geometry.pages geometry.sections) }
@@ -61,6 +61,8 @@ impl MountOptions {
         ensures same { D.page_count disk ≢ device_pages geometry.format geometry.extents geometry.pages geometry.sections → result ≡ Err (Refusal.NotAStore, disk) }
         // It is refused 45 only where a store is there, or what is left of one.
         ensures occupied { D.honest disk → IfErr result (λ refused. refused.0 ≡ Refusal.Occupied → IsTaken (D.page_count disk) (seen (D.state disk)) (store_version (Some geometry)) (store_pairs geometry)) }
+        // Of an honest disk the device alone refuses it 1.
+        ensures cause { D.honest disk → IfErr result (λ refused. refused.0 ≡ Refusal.DeviceFault → Rises (D.failure_count disk) (D.failure_count refused.1)) }
         // No store is made there, and it is as it was then.
         ensures taken { D.honest disk → IsTaken (D.page_count disk) (seen (D.state disk)) (store_version (Some geometry)) (store_pairs geometry) → MatchResult result (λ core. ⊥) (λ refused. D.state refused.1 ≡ D.state disk) }
     {
@@ -115,6 +117,8 @@ impl MountOptions {
         // Whatever the disk answers.
         ensures number { IfErr result (λ refused. IsOpeningRefusal refused.0) }
         ensures small { D.page_count disk < 10 → result ≡ Err (Refusal.NotAStore, disk) }
+        // 1 is an answer of the device.
+        ensures cause { IfErr result (λ refused. refused.0 ≡ Refusal.DeviceFault → Rises (D.failure_count disk) (D.failure_count refused.1)) }
         // Nothing is written, whether it is opened or not: the device holds what it held, or that made durable.
         ensures unwritten { D.honest disk → MatchResult result (λ opened. D.state (disk_below opened.0.disk) ≡ flushed (D.state disk)) (λ refused. (D.state refused.1 ≡ D.state disk) ⊎ (D.state refused.1 ≡ flushed (D.state disk))) }
         // Two flushes, and no write; if it is refused, two at most.

@@ -1,13 +1,13 @@
 // Stores that are opened as of an older root.
 ghost use Rattle.std.specs.Prelude.{◌≡◌, ◌≢◌, ◌⊎◌, ◌↔◌, ◌+◌, ◌<◌, ◌≤◌, [], Err, IfErr, IfOk, MatchResult, None, OnOk, Some};
-ghost use Rattle.cs_core.specs.cs_chunk.Reads.{IsNoAnswer};
+ghost use Rattle.cs_core.specs.cs_chunk.Reads.{IsCaused, IsNoAnswer};
 ghost use Rattle.cs_reader.specs.Openings.{IsOpeningRefusal, IsWhyNotOpened};
 ghost use Rattle.cs_core.specs.Openings.{IsOpened};
-ghost use Rattle.cs_disk.specs.Disk.{flushed, page, seen};
+ghost use Rattle.cs_disk.specs.Disk.{Rises, flushed, page, seen};
 ghost use Rattle.cs_disk.specs.Reads.{OnlyReads};
 ghost use Rattle.cs_mount.specs.Older.{older_on, root_found};
-ghost use Rattle.cs_mount.specs.OlderDisks.{shown_below, state_lowered};
-ghost use Rattle.cs_twin.specs.Paired.{disk_below};
+ghost use Rattle.cs_mount.specs.OlderDisks.{refused_of, shown_below, state_lowered};
+ghost use Rattle.cs_twin.specs.Paired.{IsSound, disk_below, refusals_of};
 ghost use Rattle.cs_mount.specs.Showing.{findings_on};
 ghost use Rattle.cs_mount.specs.StorePairs.{dimensions_on, pages_of};
 
@@ -43,6 +43,7 @@ fn find_older<D: PageDisk>(alloc: Global, disk: &mut D) -> Result<Geometry, Refu
     ensures disk { OnlyReads D.PageDisk disk.old disk.new }
     ensures none { D.honest disk.old → IfErr result (λ refusal. IsNoAnswer refusal ⊎ ((refusal ≡ Refusal.NotAStore) × (dimensions_on (D.page_count disk.old) (seen (D.state disk.old)) ≡ None))) }
     ensures number { IfErr result IsOpeningRefusal }
+    ensures cause { IsCaused (D.failure_count disk.old) (D.failure_count disk.new) result }
 {
     match find_geometry(alloc, disk) {
         Ok(Some(geometry)) => Ok(geometry),
@@ -67,6 +68,10 @@ fn show_older<D: PageDisk + Drop>(
     ensures honest { MatchResult result (λ shown. D.honest disk ↔ D.honest (disk_below (shown_below shown.0))) (λ refused. D.honest disk ↔ D.honest refused.1) }
     ensures pages { MatchResult result (λ shown. D.page_count (disk_below (shown_below shown.0)) ≡ D.page_count disk) (λ refused. D.page_count refused.1 ≡ D.page_count disk) }
     ensures refusals { IfErr result (λ refused. IsNoAnswer refused.0) }
+    ensures cause { IfErr result (λ refused. refused.0 ≡ Refusal.DeviceFault → Rises (D.failure_count disk) (D.failure_count refused.1)) }
+    ensures failures { IfOk result (λ shown. D.failure_count disk ≤ D.failure_count (disk_below (shown_below shown.0))) }
+    ensures unrefused { IfOk result (λ shown. (refusals_of (shown_below shown.0) ≡ 0) × (refused_of shown.0 ≡ 0)) }
+    ensures sound { IfOk result (λ shown. IsSound (shown_below shown.0)) }
 {
     // Called for its contract alone: what every geometry keeps.
     geometry.extents();
@@ -101,6 +106,8 @@ impl MountOptions {
         ensures refusals { D.honest disk → IfErr result (λ refused. IsNoAnswer refused.0 ⊎ ((refused.0 ≡ Refusal.NotAStore) × (dimensions_on (D.page_count disk) (seen (D.state disk)) ≡ None)) ⊎ IsWhyNotOpened (D.page_count disk) (page (older_on (D.page_count disk) (seen (D.state disk)))) refused.0) }
         ensures number { IfErr result (λ refused. IsOpeningRefusal refused.0) }
         ensures small { D.page_count disk < 10 → result ≡ Err (Refusal.NotAStore, disk) }
+        // 1 is an answer of the device.
+        ensures cause { IfErr result (λ refused. refused.0 ≡ Refusal.DeviceFault → Rises (D.failure_count disk) (D.failure_count refused.1)) }
         // Nothing is written, whether it is opened or not: the device holds what it held, or that made durable.
         ensures unwritten { D.honest disk → MatchResult result (λ opened. D.state (disk_below (shown_below opened.0.disk)) ≡ flushed (D.state disk)) (λ refused. (D.state refused.1 ≡ D.state disk) ⊎ (D.state refused.1 ≡ flushed (D.state disk))) }
         // Two flushes, and no write; where it is refused two at most.

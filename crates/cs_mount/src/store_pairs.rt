@@ -7,7 +7,7 @@ ghost use Rattle.cs_frame.specs.Geometries.{IsGeometry, IsKnown};
 ghost use Rattle.cs_frame.specs.Superblocks.{superblock_fault};
 ghost use Rattle.cs_mount.specs.OfStores.{IsOfStore, is_allowed};
 ghost use Rattle.cs_twin.specs.Pairs.{ArePairs};
-ghost use Rattle.cs_twin.specs.Paired.{disk_below, left_as_shown, pairs_of, rules_of, state_shown};
+ghost use Rattle.cs_twin.specs.Paired.{IsSound, disk_below, left_as_shown, pairs_of, refusals_of, rules_of, state_shown};
 ghost use Rattle.cs_mount.specs.Showing.{ShowsOn, findings_on, shown_on};
 ghost use Rattle.cs_mount.specs.StorePairs.{dimensions_on, first_says, last_says, named, pages_of, pairs_where, root_version, section_at, section_version, store_pair, store_pairs, store_version, zero_said};
 
@@ -180,7 +180,7 @@ fn named(pages: u64, superblock: &Superblock) -> Option<Geometry>
     let extents = u64::from(superblock.extent_count);
     let extent_pages = u64::from(superblock.pages);
     let sections = u64::from(superblock.sections);
-    match Geometry::of_format(3, extents, extent_pages, Some(sections)) {
+    match Geometry::of_format(Format::three(), extents, extent_pages, Some(sections)) {
         Ok(geometry) => {
             if geometry.device_pages() == pages {
                 Some(geometry)
@@ -329,6 +329,10 @@ pub fn open_pairs<D: PageDisk>(
     ensures honest { MatchResult result (λ opened. D.honest disk ↔ D.honest (disk_below opened.0)) (λ refused. D.honest disk ↔ D.honest refused.1) }
     ensures pages { MatchResult result (λ opened. D.page_count (disk_below opened.0) ≡ D.page_count disk) (λ refused. D.page_count refused.1 ≡ D.page_count disk) }
     ensures cause { IfErr result (λ refused. refused.0 ≡ DiskFault.DeviceFault → Rises (D.failure_count disk) (D.failure_count refused.1)) }
+    ensures failures { IfOk result (λ opened. D.failure_count disk ≤ D.failure_count (disk_below opened.0)) }
+    // It refused no call yet, and will refuse no read and no flush.
+    ensures refusals { IfOk result (λ opened. refusals_of opened.0 ≡ 0) }
+    ensures sound { IfOk result (λ opened. IsSound opened.0) }
 {
     let mut disk = disk;
     let geometry = match find_geometry(alloc, &mut disk) {

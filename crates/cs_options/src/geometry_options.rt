@@ -3,7 +3,7 @@ ghost use Rattle.std.specs.Prelude.{◌≡◌, ◌↔◌, ◌⊎◌, ◌*◌, �
 ghost use Rattle.cs_frame.specs.Geometries.{device_pages, sections_needed};
 ghost use Rattle.cs_options.specs.Wishes.{Holds, IsEnough, NoneSuits, Suits};
 
-use cs_frame::Geometry;
+use cs_frame::{Format, Geometry};
 
 /// What a new store is to hold, and how large it may be.
 #[derive(Clone, Copy, Debug, PartialEq, Eq)]
@@ -141,7 +141,7 @@ fn with_pages(wish: Wish, pages: u64, chunks: u64) -> Option<Geometry>
     ensures some { 1 ≤ chunks → chunks ≤ 8 → Holds wish.shard_size wish.shards chunks pages → ((2 * chunks + 4) * pages + 4) * 4096 ≤ wish.size → IsSome result }
 {
     let extents = extents_on(wish.size, pages);
-    let geometry = Geometry::of_format(3, extents, pages, None).ok()?;
+    let geometry = Geometry::of_format(Format::three(), extents, pages, None).ok()?;
     if suits(wish, geometry, chunks) {
         Some(geometry)
     } else {

@@ -5,7 +5,7 @@ ghost use Rattle.cs_options.specs.Asked.{IsMeasurable, TellsFlag, batch_asked, b
 ghost use Rattle.cs_words.specs.RaceNumbers.{IsRaceable};
 
 use clap::ArgMatches;
-use cs_frame::{Geometry, ShardId};
+use cs_frame::{Format, Geometry, ShardId};
 use cs_refusal::Refusal;
 use cs_words::Race;
 
@@ -30,6 +30,9 @@ pub fn geometry_of(options: &ArgMatches) -> Result<Geometry, Refusal>
     let extents = number_given(options, "extents").unwrap_or(6);
     let pages = number_given(options, "pages").unwrap_or(2);
     let sections = number_given(options, "sections");
+    let Some(format) = Format::numbered(format) else {
+        return Err(Refusal::BadGeometry);
+    };
     match Geometry::of_format(format, extents, pages, sections) {
         Ok(geometry) => Ok(geometry),
         Err(_) => Err(Refusal::BadGeometry),

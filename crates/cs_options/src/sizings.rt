@@ -8,7 +8,7 @@ use crate::geometry_options::Wish;
 use crate::options::number_given;
 use crate::sizes::size_of;
 use clap::ArgMatches;
-use cs_frame::Geometry;
+use cs_frame::{Format, Geometry};
 use cs_refusal::Refusal;
 
 /// The bytes of a new store's device where no size is given: 64 MiB.
@@ -97,7 +97,7 @@ pub fn exact_of(options: &ArgMatches) -> Result<Geometry, Refusal>
     let extents = number_given(options, "extents").unwrap_or(64);
     let pages = number_given(options, "pages").unwrap_or(256);
     let sections = number_given(options, "sections");
-    match Geometry::of_format(3, extents, pages, sections) {
+    match Geometry::of_format(Format::three(), extents, pages, sections) {
         Ok(geometry) => Ok(geometry),
         Err(_) => Err(Refusal::BadGeometry),
     }

@@ -5,7 +5,7 @@ use Rattle.std.specs.Prelude.{Option, slice_index}
 use Rattle.cs_chunk.proofs.Framed.{no_fault_there, one_frame}
 use Rattle.cs_chunk.specs.Reads.{IsOfFault, fault_in}
 use Rattle.cs_refusal.specs.declared.refusals.Refusal.{Refusal}
-use Rattle.cs_extent.specs.State.{IsWhole, State as ExtentsState, section_rows, shape}
+use Rattle.cs_extent.specs.State.{IsWhole, State as ExtentsState, extents_at, section_rows, shape}
 use Rattle.cs_frame.proofs.FirstFormatLaws.{spelled_has_none as first_has_none, zero_of_first, zero_of_section}
 use Rattle.cs_frame.proofs.GeometryLaws.{bounds}
 use Rattle.cs_frame.proofs.RootLaws as roots
@@ -20,10 +20,10 @@ use Rattle.cs_frame.specs.Geometries.{IsGeometry, device_pages, section_size}
 use Rattle.cs_frame.specs.Roots.{root_fault}
 use Rattle.cs_frame.specs.FormatRuns.{run_fault}
 use Rattle.cs_frame.specs.Superblocks.{SpellsSuperblock, record_in, superblock_fault}
-use Rattle.law_refinement.proofs.OneByOne.{place_inside}
-use Rattle.law_refinement.proofs.Readable.{all_readable, part, records_low, root_spelled, section_spelled, store_read, visible_store_read, zero_same}
-use Rattle.law_refinement.proofs.Superblocks.{read_whole, section_one}
-use Rattle.law_refinement.specs.ImageReads.{ArePages, AreSectionsRead, IsReadable, IsVisibleStoreRead, SpellsAt, extents_at}
+use Rattle.cs_reader.proofs.OneByOne.{place_inside}
+use Rattle.cs_reader.proofs.Readable.{all_readable, part, records_low, root_spelled, section_spelled, store_read, visible_store_read, zero_same}
+use Rattle.cs_reader.proofs.Superblocks.{read_whole, section_one}
+use Rattle.cs_reader.specs.ImageReads.{ArePages, AreSectionsRead, IsReadable, IsVisibleStoreRead, SpellsAt}
 use Rattle.cs_index.proofs.Sorted.{all_at}
 use Rattle.cs_index.specs.State.{newest_first}
 use Rattle.law_machine.specs.Device.{Shape}

@@ -10,7 +10,7 @@ use Rattle.cs_deps.specs.State.{NoneOn, State as GraphState}
 use Rattle.cs_disk.specs.Disk.{Image, State as DiskState, page, seen}
 use Rattle.cs_extent.proofs.Sections.{geometry_is, rows_are_all}
 use Rattle.cs_extent.specs.Sections.{AreSections, format_of, pages_of, rows_of}
-use Rattle.cs_extent.specs.State.{State as ExtentsState, shape}
+use Rattle.cs_extent.specs.State.{State as ExtentsState, extents_at, shape}
 use Rattle.cs_frame.proofs.RootLaws.{most_runs}
 use Rattle.cs_frame.specs.declared.roots.Root.{Root}
 use Rattle.cs_frame.specs.declared.superblocks.Superblock.{Superblock}
@@ -18,8 +18,8 @@ use Rattle.cs_frame.specs.FirstFormat.{SpellsPageZero, page_zero_fault}
 use Rattle.cs_frame.specs.Geometries.{IsGeometry, device_pages}
 use Rattle.cs_frame.specs.Locators.{FitsLocator}
 use Rattle.cs_frame.specs.Roots.{SpellsRoot, root_fault}
-use Rattle.law_refinement.specs.Images.{graph_at}
-use Rattle.law_refinement.specs.ImageReads.{AreSectionsRead, extents_at}
+use Rattle.cs_reader.specs.Loads.{graph_at}
+use Rattle.cs_reader.specs.ImageReads.{AreSectionsRead}
 use Rattle.law_machine.specs.Geometry.{marks_in}
 use Rattle.cs_reader.specs.declared.heads.Head.{Head}
 use Rattle.cs_reader.specs.Heads.{IsHeadRead, IsWhyNoHead}

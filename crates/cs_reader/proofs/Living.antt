@@ -7,8 +7,8 @@ use Rattle.std.proofs.lemmas.List.{length-map}
 use Rattle.cs_extent.specs.State.{State as ExtentsState}
 use Rattle.cs_frame.specs.declared.locators.Locator.{Locator}
 use Rattle.cs_frame.specs.Formats.{as_locator, place_of}
-use Rattle.law_refinement.specs.Counts.{HasCount}
-use Rattle.law_refinement.specs.ImageReads.{IsLocated}
+use Rattle.cs_reader.specs.Counts.{HasCount}
+use Rattle.cs_reader.specs.ImageReads.{IsLocated}
 use Rattle.cs_index.proofs.Merged.{merged_end, merged_step}
 use Rattle.cs_index.specs.Sorted.{IsMergedTo, live_entry}
 use Rattle.cs_index.specs.State.{IsAfter, IsNext}

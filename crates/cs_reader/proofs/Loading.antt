@@ -23,7 +23,7 @@ use Rattle.cs_frame.specs.FormatRuns.{SpellsRun, run_fault}
 use Rattle.cs_frame.specs.Locators.{FitsLocator, KeepFormat}
 use Rattle.cs_frame.specs.Runs.{FitsEntry, IsRun, entries_of as spelled_entries, entry_of}
 use Rattle.cs_frame.specs.Places.{Listed}
-use Rattle.law_refinement.specs.ImageReads.{AreRunsRead, HasRunAt, IsLocated, IsRunRead}
+use Rattle.cs_reader.specs.ImageReads.{AreRunsRead, HasRunAt, IsLocated, IsRunRead}
 use Rattle.cs_index.proofs.Sorted.{all_append, take_at_get}
 use Rattle.cs_index.specs.declared.stored_runs.StoredRun.{StoredRun}
 use Rattle.law_machine.specs.Formats.{RunFrame}

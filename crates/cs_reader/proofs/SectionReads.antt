@@ -15,7 +15,7 @@ use Rattle.cs_frame.specs.FirstFormat.{SpellsPageZero, page_zero_fault}
 use Rattle.cs_frame.specs.Geometries.{IsGeometry, device_pages, lengths_below, section_length, section_size, section_start}
 use Rattle.cs_frame.specs.Pointers.{FitsExtent}
 use Rattle.cs_frame.specs.Superblocks.{FitsSuperblock, IsSuperblock, SpellsSuperblock, superblock_fault}
-use Rattle.law_refinement.specs.ImageReads.{AreSectionsRead, SpellsAt}
+use Rattle.cs_reader.specs.ImageReads.{AreSectionsRead, SpellsAt}
 use Rattle.cs_index.proofs.Sorted.{all_map, some_at}
 use Rattle.cs_reader.specs.Openings.{HasNumbers, IsOtherFirst, IsSectionThere, IsWhyNoSection, IsWhyNoSections}
 

@@ -8,8 +8,8 @@ use Rattle.cs_extent.proofs.Sections.{geometry_is}
 use Rattle.cs_extent.specs.Sections.{AreSections}
 use Rattle.cs_frame.proofs.GeometryLaws.{bounds}
 use Rattle.cs_frame.specs.declared.superblocks.Superblock.{Superblock}
-use Rattle.law_refinement.proofs.Families.{length-by_family}
-use Rattle.law_refinement.specs.Images.{by_family}
+use Rattle.cs_reader.proofs.ByFamily.{length-by_family}
+use Rattle.cs_reader.specs.Loads.{by_family}
 
 pub inserted : (versions : List ℕ) (root : ℕ) → 0 < length versions → insert versions 1 root ≡ by_family versions root
 inserted [] root some = absurd (omega (arith, some))

@@ -3,8 +3,9 @@ use Rattle.std.specs.Prelude.{◌≡◌, ◌⊎◌, ◌<◌, ℕ, List, MatchBoo
 use Rattle.cs_refusal.specs.declared.refusals.Refusal.{Refusal}
 use Rattle.cs_frame.specs.Geometries.{IsGeometry, device_pages}
 use Rattle.cs_frame.specs.Roots.{SpellsRoot}
-use Rattle.law_refinement.specs.Images.{graph_at}
-use Rattle.law_refinement.specs.ImageReads.{AreSectionsRead, extents_at}
+use Rattle.cs_reader.specs.Loads.{graph_at}
+use Rattle.cs_extent.specs.State.{extents_at}
+use Rattle.cs_reader.specs.ImageReads.{AreSectionsRead}
 use Rattle.cs_reader.specs.declared.heads.Head.{Head}
 use Rattle.cs_reader.specs.Openings.{AreRecordedBy, IsOtherDevice, IsOtherSection, IsRootDamaged, IsSectionDamaged, IsSuperblockDamaged}
 

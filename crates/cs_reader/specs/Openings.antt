@@ -1,12 +1,12 @@
 -- What is read as a store is opened, and why none is.
-use Rattle.std.specs.Prelude.{◌≡◌, ◌≢◌, ◌⊎◌, ◌+◌, ◌*◌, ◌<◌, ◌≤◌, ℕ, true, false, List, [], Some, length, map, slice_get, slice_index}
+use Rattle.std.specs.Prelude.{◌≡◌, ◌≢◌, ◌⊎◌, ◌+◌, ◌*◌, ◌<◌, ◌≤◌, ℕ, true, false, List, Some, length, map, slice_get, slice_index}
 use Rattle.std.specs.List.{AllByRecursion}
 use Rattle.cs_chunk.specs.Chunks.{IsFrameIn}
 use Rattle.cs_chunk.specs.Reads.{IsNoAnswer, IsOfFault, fault_in}
 use Rattle.cs_refusal.specs.declared.refusals.Refusal.{Refusal}
 use Rattle.cs_refusal.specs.declared.refusals.Refusal.TheVariants.{NotAStore, RootLost}
 use Rattle.cs_refusal.specs.Refusals.{number_of}
-use Rattle.cs_extent.specs.State.{IsWhole, State as ExtentsState, extents_of, shape}
+use Rattle.cs_extent.specs.State.{State as ExtentsState, extents_at, shape}
 use Rattle.cs_frame.specs.declared.frames.FrameKind.TheVariants.{Run}
 use Rattle.cs_frame.specs.declared.locators.Locator.{Locator}
 use Rattle.cs_frame.specs.declared.superblocks.Superblock.{Superblock}
@@ -16,23 +16,13 @@ use Rattle.cs_frame.specs.Formats.{as_locator}
 use Rattle.cs_frame.specs.Geometries.{device_pages}
 use Rattle.cs_frame.specs.Roots.{SpellsRoot, root_fault}
 use Rattle.cs_frame.specs.Superblocks.{SpellsSuperblock, superblock_fault}
-use Rattle.law_refinement.specs.ImageReads.{AreExtentsNoted, AreLocated, AreRunsRead, AreSectionsRead, AreVisibleLocated, IsLocated, IsRunRead, IsStoreRead, IsVisibleStoreRead, extents_at}
+use Rattle.cs_reader.specs.ImageReads.{AreLocated, AreRunsRead, AreSectionsRead, AreVisibleLocated, IsLocated, IsRunRead, IsStoreRead, IsVisibleStoreRead}
 use Rattle.cs_index.specs.declared.stored_runs.StoredRun.{StoredRun}
-use Rattle.cs_index.specs.State.{State as IndexState, newest_first}
+use Rattle.cs_index.specs.State.{newest_first}
 use Rattle.law_machine.specs.Element.{Entry, Locator as Place}
 use Rattle.law_machine.specs.Formats.{RunFrame}
 use Rattle.law_machine.specs.Index.{entries_of, live_at, named_weight}
 use Rattle.law_machine.specs.Lists.{◌∈◌}
-use Rattle.law_refinement.specs.cs_reclaim.Rooted.{freed_under}
-
--- The extents of a store as it is opened, from those that were read, an index of the runs that were read, and this version of the root:
--- they are as they were read where chunks and runs may lie on one extent; where they lie apart it is noted on which of them runs lie, and
--- those on which nothing lives and no run lies are emptied under the root.
-pub record AreExtentsOpened (x : ExtentsState) (i : IndexState) (root : ℕ) (y : ExtentsState) : Type 0 where
-  pub same_shape : shape y ≡ shape x
-  pub together : (shape x).apart ≡ false → y ≡ x
-  pub apart : (shape x).apart ≡ true
-      → (noted : ExtentsState) × IsWhole noted × AreExtentsNoted x i.runs noted × (extents_of y ≡ freed_under (shape noted) (extents_of noted) i [] root)
 
 -- A whole store of this format was read: where hidden entries stand what all entries name is there, else what the newest entry of each
 -- identifier names.

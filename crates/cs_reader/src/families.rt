@@ -1,7 +1,7 @@
 //! The graph of a store on which nothing was staged.
 ghost use Rattle.std.specs.Prelude.{◌≡◌, ◌+◌, ◌^◌, ◌<◌, ◌≤◌, IfOk, length, map, vec_capacity, vec_len};
 ghost use Rattle.cs_extent.specs.Sections.{AreSections};
-ghost use Rattle.law_refinement.specs.Images.{by_family, graph_at};
+ghost use Rattle.cs_reader.specs.Loads.{by_family, graph_at};
 
 use cs_deps::Graph;
 use cs_frame::Superblock;

@@ -6,8 +6,9 @@ ghost use Rattle.cs_disk.specs.Reads.{OnlyReads};
 ghost use Rattle.cs_extent.specs.Sections.{AreSections, format_of, pages_of, rows_of};
 ghost use Rattle.cs_frame.specs.FirstFormat.{SpellsPageZero};
 ghost use Rattle.cs_frame.specs.Geometries.{device_pages};
-ghost use Rattle.law_refinement.specs.Images.{graph_at};
-ghost use Rattle.law_refinement.specs.ImageReads.{AreSectionsRead, extents_at};
+ghost use Rattle.cs_reader.specs.Loads.{graph_at};
+ghost use Rattle.cs_extent.specs.State.{extents_at};
+ghost use Rattle.cs_reader.specs.ImageReads.{AreSectionsRead};
 ghost use Rattle.cs_reader.specs.Heads.{IsHeadRead, IsWhyNoHead};
 ghost use Rattle.cs_reader.specs.Openings.{AreRecordedBy, IsOpeningRefusal};
 

@@ -1,25 +1,23 @@
 //! The index and the extents of a store, as they are made of what was read.
-ghost use Rattle.std.specs.Prelude.{◌≡◌, ◌≢◌, ◌⊎◌, ◌||◌, ◌+◌, ◌-◌, ◌^◌, ◌<◌, ◌≤◌, ℕ, [], IfErr, IfOk, MatchBool, OnErr, OnOk, length, map};
+ghost use Rattle.std.specs.Prelude.{◌≡◌, ◌≢◌, ◌⊎◌, ◌<◌, ◌≤◌, ℕ, [], IfErr, IfOk, MatchBool, OnOk, length, map};
 ghost use Rattle.std.specs.List.{AllByRecursion};
-ghost use Rattle.cs_extent.specs.State.{extents_of, shape};
+ghost use Rattle.cs_extent.specs.State.{shape};
 ghost use Rattle.cs_frame.specs.Formats.{place_of};
 ghost use Rattle.cs_frame.specs.Locators.{KeepFormat};
 ghost use Rattle.cs_frame.specs.Runs.{IsRun};
-ghost use Rattle.law_refinement.specs.Counts.{HasCount};
-ghost use Rattle.law_refinement.specs.Images.{index_at};
-ghost use Rattle.law_refinement.specs.ImageReads.{AreLocated, AreVisibleLocated, IsLocated, extents_at};
+ghost use Rattle.cs_reader.specs.Counts.{HasCount};
+ghost use Rattle.cs_reader.specs.Loads.{index_at};
+ghost use Rattle.cs_reader.specs.ImageReads.{AreLocated, AreVisibleLocated};
 ghost use Rattle.cs_index.specs.Sorted.{live_entry};
 ghost use Rattle.cs_index.specs.State.{index_of, newest_first};
-ghost use Rattle.law_machine.specs.Apart.{any_run_on};
 ghost use Rattle.law_machine.specs.Index.{entries_of, live_at, named_weight};
-ghost use Rattle.cs_reader.specs.Openings.{AreExtentsOpened, AreLiveLocated, AreLocatedBy, IsOpeningRefusal};
+ghost use Rattle.cs_reader.specs.Openings.{AreLiveLocated, AreLocatedBy, IsOpeningRefusal};
 
 use crate::run_readings::{are_located, are_places_located};
 use cs_extent::Extents;
 use cs_frame::Locator;
 use cs_index::{Index, StoredRun};
 use cs_refusal::Refusal;
-use law_refinement::reclaim::{Copies, free_blank};
 use std::alloc::Global;
 
 /// 1 if a shard has locators, 0 if it was deleted.
@@ -144,34 +142,4 @@ pub fn load_index(alloc: Global, extents: &Extents, runs: Vec<StoredRun>) -> Res
     } else {
         load_whole(alloc, extents, runs)
     }
-}
-
-/// Notes on which extents these runs lie.
-fn note_runs(runs: &[StoredRun], extents: &mut Extents)
-    requires { AllByRecursion (λ run. run.place.extent < (shape extents.old).extents) runs.now }
-    ensures extents { extents_of extents.new ≡ record (extents_of extents.old) { of_runs = λ e. any_run_on (newest_first runs.now) e || (extents_of extents.old).of_runs e } }
-    ensures shape { shape extents.new ≡ shape extents.old }
-{
-    for k in 0..runs.len() {
-        let run = &runs[k];
-        extents.set_kind(usize::from(run.place.extent), true);
-    }
-}
-
-/// Readies extents that were read. If chunks and runs lie apart it notes on which of them runs lie, and empties the blank ones under the
-/// root, as no sweep is unfinished.
-pub fn ready_extents(index: &Index, extents: &mut Extents, copies: &Copies, root: u64)
-    requires read { extents.old ≡ extents_at extents.old.format extents.old.pages extents.old.sections extents.old.written }
-    requires places { AllByRecursion (λ run. run.place.extent < (shape extents.old).extents) index.now.runs }
-    requires none { copies.now ≡ [] }
-    requires root { root < 2 ^ 63 }
-    ensures { AreExtentsOpened extents.old index.now root extents.new }
-{
-    if !extents.is_apart() {
-        return;
-    }
-    note_runs(index.runs(), extents);
-    // Called for its contract alone: what all extents keep.
-    extents.extent_count();
-    free_blank(index, extents, copies, root);
 }

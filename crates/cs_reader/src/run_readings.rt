@@ -9,7 +9,7 @@ ghost use Rattle.cs_extent.specs.State.{shape};
 ghost use Rattle.cs_frame.specs.FormatRuns.{SpellsRun, run_fault};
 ghost use Rattle.cs_frame.specs.Geometries.{IsKnown};
 ghost use Rattle.cs_frame.specs.Runs.{IsRun, entries_of};
-ghost use Rattle.law_refinement.specs.ImageReads.{AreLocated, IsLocated, IsRunRead};
+ghost use Rattle.cs_reader.specs.ImageReads.{AreLocated, IsLocated, IsRunRead};
 ghost use Rattle.cs_reader.specs.Openings.{IsOpeningRefusal, IsWhyNoRuns, IsWhyNotRead};
 
 use cs_chunk::frame_at;

@@ -7,7 +7,7 @@ ghost use Rattle.cs_extent.specs.Sections.{AreSections, format_of, pages_of, row
 ghost use Rattle.cs_frame.specs.FirstFormat.{SpellsPageZero, page_zero_fault};
 ghost use Rattle.cs_frame.specs.Geometries.{IsKnown, device_pages};
 ghost use Rattle.cs_frame.specs.Superblocks.{SpellsSuperblock, superblock_fault};
-ghost use Rattle.law_refinement.specs.ImageReads.{AreSectionsRead};
+ghost use Rattle.cs_reader.specs.ImageReads.{AreSectionsRead};
 ghost use Rattle.cs_reader.specs.Openings.{HasNumbers, IsOpeningRefusal, IsOtherFirst, IsWhyNoSection, IsWhyNoSections};
 
 use cs_disk::{PageDisk, refusal_of_disk};

@@ -1,3 +1,4 @@
+pub mod ByRule
 pub mod Copying
 pub mod Freeing
 pub mod Keeping

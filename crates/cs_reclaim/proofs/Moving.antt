@@ -142,6 +142,14 @@ pub append_why_of : {T : Type 0} (Placed : ℕ → Type 0) (Worn : Type 0) → (
 append_why_of Placed Worn has_place (Ok t) place Given there full worn refusals given = append_why Placed Worn has_place (Ok t) place full worn refusals (there t given)
 append_why_of Placed Worn has_place (Err f) place Given there full worn refusals given = append_why Placed Worn has_place (Err f) place full worn refusals tt
 
+-- the same, by a rule that is known to be this one
+pub append_why_by : {T : Type 0} (b apart : Bool) → b ≡ apart → (Placed : Bool → ℕ → Type 0) (Worn : Bool → Type 0) → ((a : Bool) → Worn a → (e : ℕ) × Placed a e)
+    → (r : Result T Refusal) (place : T → ℕ) (Given : Bool → T → Type 0) → ((a : Bool) (t : T) → Given a t → Placed a (place t))
+    → (r ≡ Err Full) ↔ ((e : ℕ) → Placed b e → ⊥) → (r ≡ Err WornOut) ↔ Worn b → IfErr r (λ f. (f ≡ Full) ⊎ (f ≡ WornOut) ⊎ (f ≡ OutOfMemory)) → IfOk r (Given b)
+    → IsExact r ((e : ℕ) → Placed apart e → ⊥) (Worn apart)
+append_why_by b apart rule Placed Worn has_place r place Given there full worn refusals given =
+    subst (λ (a : Bool). IsExact r ((e : ℕ) → Placed a e → ⊥) (Worn a)) rule (append_why_of (Placed b) (Worn b) (has_place b) r place (Given b) (there b) full worn refusals given)
+
 module _ (No Worn : Type 0) where
   why_refusal : (f : Refusal) → IsWhy f No Worn → (f ≡ Full) ⊎ (f ≡ WornOut) ⊎ (f ≡ OutOfMemory)
   why_refusal Full why = inl refl

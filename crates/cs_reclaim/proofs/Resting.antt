@@ -77,10 +77,10 @@ resets_then S x y z t copies v most rest freed old le e =
 
 -- ---- the root that was staged
 
-module _ (go : Bool) (k : ℕ) (s t : State) (x y : ExtentsState) (g h : Graph) (reason : Reason) (v commands : ℕ) (staged : IsPartStagedBy true go k s x g reason v commands t y h) where
-  part_shape : shape y ≡ shape x
+module _ (apart go : Bool) (k : ℕ) (s t : State) (x y : ExtentsState) (g h : Graph) (reason : Reason) (v commands : ℕ) (staged : IsPartStagedBy apart go k s x g reason v commands t y h) where
+  pub part_shape : shape y ≡ shape x
   part_shape = ⊎_elim
-      (λ (m : (entries : List Entry) × (place : Place) × (entries ≢ []) × IsRunOf go (part s k) entries × IsRunAppendedBy true x g reason entries place y staged.between
+      (λ (m : (entries : List Entry) × (place : Place) × (entries ≢ []) × IsRunOf go (part s k) entries × IsRunAppendedBy apart x g reason entries place y staged.between
       × (t.runs ≡ record { place = place; entries = entries } ∷ drop k s.runs)). m.4.same_shape)
       (λ (n : IsRunOf go (part s k) [] × (y ≡ x) × (staged.between ≡ g) × (t.runs ≡ drop k s.runs)). ap shape n.1)
       staged.appended
@@ -100,9 +100,9 @@ module _ (s t : State) (x y : ExtentsState) (g h : Graph) (v commands : ℕ) (st
   pub staged_shape : shape y ≡ shape x
   staged_shape = ⊎_elim
       (λ (one : IsNewestStagedApart (takes_apart (shape x) s) s x g ForRun v commands t y h).
-      part_shape (deletions_go (shape x) s (takes_apart (shape x) s)) (takes_apart (shape x) s) s t x y g h ForRun v commands one)
+      part_shape true (deletions_go (shape x) s (takes_apart (shape x) s)) (takes_apart (shape x) s) s t x y g h ForRun v commands one)
       (λ (all : IsFullApart (WritesNewest (shape x) s (takes_apart (shape x) s)) x ForRun × IsNewestStagedApart (length s.runs) s x g ForMerge v commands t y h).
-      part_shape (deletions_go (shape x) s (length s.runs)) (length s.runs) s t x y g h ForMerge v commands all.1)
+      part_shape true (deletions_go (shape x) s (length s.runs)) (length s.runs) s t x y g h ForMerge v commands all.1)
       staged
 
   pub staged_limit : t.limit ≡ s.limit
@@ -120,15 +120,15 @@ module _ (s t : State) (x y : ExtentsState) (g h : Graph) (v commands : ℕ) (st
   pub staged_root : root_family < length h.staging.latest → slice_index h.staging.latest root_family ≡ v
   staged_root families = ⊎_elim
       (λ (one : IsNewestStagedApart (takes_apart (shape x) s) s x g ForRun v commands t y h).
-      part_root (deletions_go (shape x) s (takes_apart (shape x) s)) (takes_apart (shape x) s) s t x y g h ForRun v commands one families)
+      part_root true (deletions_go (shape x) s (takes_apart (shape x) s)) (takes_apart (shape x) s) s t x y g h ForRun v commands one families)
       (λ (all : IsFullApart (WritesNewest (shape x) s (takes_apart (shape x) s)) x ForRun × IsNewestStagedApart (length s.runs) s x g ForMerge v commands t y h).
-      part_root (deletions_go (shape x) s (length s.runs)) (length s.runs) s t x y g h ForMerge v commands all.1 families)
+      part_root true (deletions_go (shape x) s (length s.runs)) (length s.runs) s t x y g h ForMerge v commands all.1 families)
       staged
 
   pub staged_small : v < 2 ^ 63
   staged_small = ⊎_elim
       (λ (one : IsNewestStagedApart (takes_apart (shape x) s) s x g ForRun v commands t y h).
-      part_small (deletions_go (shape x) s (takes_apart (shape x) s)) (takes_apart (shape x) s) s t x y g h ForRun v commands one)
+      part_small true (deletions_go (shape x) s (takes_apart (shape x) s)) (takes_apart (shape x) s) s t x y g h ForRun v commands one)
       (λ (all : IsFullApart (WritesNewest (shape x) s (takes_apart (shape x) s)) x ForRun × IsNewestStagedApart (length s.runs) s x g ForMerge v commands t y h).
-      part_small (deletions_go (shape x) s (length s.runs)) (length s.runs) s t x y g h ForMerge v commands all.1)
+      part_small true (deletions_go (shape x) s (length s.runs)) (length s.runs) s t x y g h ForMerge v commands all.1)
       staged

@@ -1,6 +1,6 @@
 -- A retired extent keeps the chunks of every shard.
-use Rattle.std.proofs.Common.{◌≡◌, ◌≢◌, ◌∙◌, inl, inr, ⊎_elim, ℕ, zero, suc, ◌+◌, ◌<◌, Bool, true, false, List, [], ◌∷◌, ◌++◌, Some, length, map, slice_get, refl, sym, ap, subst}
-use Rattle.std.specs.Prelude.{if◌then◌else◌, reverse}
+use Rattle.std.proofs.Common.{◌≡◌, ◌≢◌, ◌∙◌, inl, inr, ⊎_elim, ℕ, zero, suc, ◌+◌, ◌<◌, Bool, List, [], ◌∷◌, ◌++◌, Some, length, map, slice_get, refl, sym, ap, subst}
+use Rattle.std.specs.Prelude.{reverse}
 use Rattle.std.proofs.lemmas.Option.{same_Some, some_pair_parts}
 use Rattle.cs_chunk.proofs.Appends.{HasWrites, has_writes}
 use Rattle.cs_chunk.proofs.Newest.{of_stand, one_view, stand_of}
@@ -15,7 +15,6 @@ use Rattle.cs_deps.specs.Pending.{Waits}
 use Rattle.cs_deps.specs.Staging.{Staging}
 use Rattle.cs_deps.specs.State.{IsNewestOn, IsWhole, NoneOn, State as Graph, Write, write_of}
 use Rattle.cs_disk.specs.Disk.{Image, page}
-use Rattle.cs_extent.proofs.Fitting.{with_other}
 use Rattle.cs_extent.proofs.Given.{in_either}
 use Rattle.cs_extent.proofs.Staged.{get_front}
 use Rattle.cs_extent.specs.Frames.{root_family}
@@ -30,7 +29,7 @@ use Rattle.law_machine.specs.Extents.{Extents, ForMove, marked}
 use Rattle.law_machine.specs.Formats.{Stand, places}
 use Rattle.law_machine.specs.Geometry.{pages_first_in}
 use Rattle.law_machine.specs.Index.{IsMergedRun, NothingLive, live_at}
-use Rattle.law_machine.specs.Lists.{with, ◌∈◌}
+use Rattle.law_machine.specs.Lists.{◌∈◌}
 use Rattle.cs_reclaim.specs.Keeps.{AreBelow, IsChunkThere, places_at}
 use Rattle.cs_reclaim.specs.Moves.{chunk_frame}
 use Rattle.cs_reclaim.specs.Retired.{IsRetired}
@@ -144,13 +143,9 @@ module _ (s t : IndexState) (x y : ExtentsState) (g h : Graph) (e v commands : �
       ))
       retired.1.appended
 
-  -- what counts as found elsewhere does, as the extent is emptied, and a frame elsewhere stays below its pointer
-  found_else : (b : Bool) (f : ℕ → ℕ) (d : ℕ) → d ≢ e → (if b then with f e 0 else f) d ≡ f d
-  found_else true f d other = with_other f e 0 d other
-  found_else false f d other = refl
-
-  found_then : (d : ℕ) → d ≢ e → (extents_of y).found d ≡ (extents_of x).found d
-  found_then d other = ap (λ (z : Extents). z.found d) retired.2 ∙ found_else (shape mid).fills (extents_of mid).found d other ∙ mid_found d
+  -- what counts as found does, as the extent is emptied, and a frame elsewhere stays below its pointer
+  found_then : (d : ℕ) → (extents_of y).found d ≡ (extents_of x).found d
+  found_then d = ap (λ (z : Extents). z.found d) retired.2 ∙ mid_found d
 
   below : (l : Locator) (f : List (List ℕ)) → l.extent ≢ e → IsBelow (extents_of mid) l f → IsBelow (extents_of y) l f
   below l f other under = subst (λ (z : Extents). IsBelow z l f) (sym retired.2) (below_reset (extents_of mid) e v l f other under)
@@ -158,7 +153,7 @@ module _ (s t : IndexState) (x y : ExtentsState) (g h : Graph) (e v commands : �
   there_then : (l : Locator) (c : List ℕ) → l.extent ≢ e → IsChunkThere x view l c → IsChunkThere y now l c
   there_then l c other was =
       let here = still l c was in
-      there_still x y l c retired.3 (found_then l.extent other) view now was.0 here.0 (below l (chunk_frame x c) other here.1)
+      there_still x y l c retired.3 (found_then l.extent) view now was.0 here.0 (below l (chunk_frame x c) other here.1)
 
   all_stay : (ls : List Place) (cs : List (List ℕ)) → ((l : Place) → l ∈ ls → l.extent ≢ e)
       → AreChunksIn x view (map as_locator ls) cs → AreBelow (shape x) (extents_of x) (map as_locator ls) cs

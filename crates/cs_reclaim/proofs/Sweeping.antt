@@ -9,7 +9,6 @@ use Rattle.cs_deps.specs.Staging.{IsVersionStaged, Staging}
 use Rattle.cs_deps.specs.State.{State as GraphState}
 use Rattle.cs_extent.proofs.Fitting.{with_other}
 use Rattle.cs_extent.specs.Appended.{IsAppended}
-use Rattle.cs_extent.specs.Changes.{emptied_in}
 use Rattle.cs_extent.specs.Frames.{AreResetsStaged, root_family}
 use Rattle.cs_extent.specs.State.{State as ExtentsState, extents_of, shape}
 use Rattle.cs_frame.specs.declared.locators.Locator.{Locator}
@@ -17,7 +16,7 @@ use Rattle.cs_index.specs.Staged.{IsMergeStaged, IsRunAppended}
 use Rattle.cs_index.specs.State.{State, index_of}
 use Rattle.law_machine.specs.Device.{Shape}
 use Rattle.law_machine.specs.Element.{Entry, Locator as Place}
-use Rattle.law_machine.specs.Extents.{Extents, HasRoom, IsFirstEmpty, Placed, Purpose, empties, marked, spare, taken}
+use Rattle.law_machine.specs.Extents.{Extents, HasRoom, IsFirstEmpty, Placed, Purpose, emptied, empties, forgotten, marked, spare, taken}
 use Rattle.law_machine.specs.Index.{IsMergedRun, live_at}
 use Rattle.law_machine.specs.Lists.{with}
 use Rattle.cs_reclaim.specs.Sweeps.{IsNotSweepable, IsSwept}
@@ -85,6 +84,9 @@ module _ (s : State) (x : ExtentsState) (g : GraphState) (reason : Purpose) (v c
       (λ (none : Nothing). ap (λ (z : ExtentsState). (extents_of z).generation e) none.1)
       m.appended
 
+  pub merge_shape : shape y ≡ shape x
+  merge_shape = ⊎_elim (λ (run : Appended). run.4.same_shape) (λ (none : Nothing). ap shape none.1) m.appended
+
   pub merge_root : root_family < length h.staging.latest → slice_index h.staging.latest root_family ≡ v
   merge_root families = root_is m.between.staging h.staging v m.root.needs m.root.version families
     where
@@ -102,7 +104,11 @@ with_le f e v d n le more = split (d == e)
     split true = more
     split false = le
 
-pub resets_emptied : (S : Shape) (x y z : Extents) (s : Staging) (e v : ℕ) (b : Bool) → y ≡ emptied_in S x e v → z ≡ marked y e b → slice_index s.latest root_family ≡ v → AreResetsStaged x s → AreResetsStaged z s
-resets_emptied S x y z s e v b empty mark root staged d =
+-- where chunks and runs may lie on one extent nothing else is noted of what is emptied
+pub emptied_alone : (S : Shape) (x y : Extents) (e v : ℕ) → S.apart ≡ false → y ≡ forgotten S.apart (emptied x e v) e → y ≡ emptied x e v
+emptied_alone S x y e v rule is = subst (λ (b : Bool). y ≡ forgotten b (emptied x e v) e) rule is
+
+pub resets_emptied : (x y z : Extents) (s : Staging) (e v : ℕ) (b : Bool) → y ≡ emptied x e v → z ≡ marked y e b → slice_index s.latest root_family ≡ v → AreResetsStaged x s → AreResetsStaged z s
+resets_emptied x y z s e v b empty mark root staged d =
     let is : z.reset d ≡ with x.reset e v d = ap (λ (w : Extents). w.reset d) mark ∙ ap (λ (w : Extents). w.reset d) empty in
     omega (arith, is, with_le x.reset e v d (slice_index s.latest root_family) (staged d) (omega (arith, root)))

@@ -1,3 +1,4 @@
+pub mod ByRule
 pub mod Copied
 pub mod Keeps
 pub mod Moves

@@ -1,4 +1,5 @@
-//! Sweeps where chunks and runs lie apart: what lives on an extent is copied chunk by chunk, and the copies count once it is retired.
+//! How format 3 sweeps, where chunks and runs lie apart: what lives on an extent is copied chunk by chunk, and the copies count once it is
+//! retired.
 ghost use Rattle.std.specs.Prelude.{◌≡◌, ◌↔◌, ◌⊎◌, ◌+◌, ◌*◌, ◌<◌, ◌≤◌, ◌∷◌, ℕ, List, [], IfErr, IfOk, IsTrue, MatchResult, None, OnErr, OnOk, Some, false, length, option_map, true};
 ghost use Rattle.cs_chunk.specs.Chunks.{IsFrameIn};
 ghost use Rattle.cs_chunk.specs.Newest.{AreNewest};
@@ -25,7 +26,8 @@ ghost use Rattle.cs_reclaim.specs.Copied.{AllUpTo, AreInOrder, IsCopyMade, last_
 ghost use Rattle.cs_reclaim.specs.Moves.{AnswersMove, AnswersPlaceBy, IsMoveFullBy, IsMoveWornBy, NowhereBy, chunk_frame};
 ghost use Rattle.cs_reclaim.specs.Sweeps.{IsSweptApart};
 
-use crate::blanks::is_any_swept;
+use crate::roots::is_any_swept;
+use crate::sweeps::Sweeps;
 use cs_chunk::read_frame;
 use cs_deps::Graph;
 use cs_disk::PageDisk;
@@ -34,77 +36,21 @@ use cs_frame::{FrameKind, Locator, ShardId, encode_frame};
 use cs_index::{ChunkCopy, Index, LiveChunk};
 use cs_refusal::Refusal;
 use std::alloc::Global;
-use std::marker::Model;
 
-/// What a sweep copied, until a root after its end. A chunk that was copied counts where it lay until the extent is retired. Its value
-/// lists the copies newest first.
-#[derive(Debug, Drop)]
-pub struct Copies {
-    /// Oldest first.
-    pub(crate) made: Vec<ChunkCopy>,
-}
-
-impl Model for Copies {
-    ghost use Rattle.std.specs.Prelude.{◌<◌, List};
-    ghost use Rattle.std.specs.List.{AllByRecursion};
-    ghost use Rattle.cs_index.specs.Copies.{newest_copies};
-    ghost use Rattle.law_machine.specs.Element.{Copy};
-
-    ghost Value = { List Copy };
-
-    ghost view = { λ x. newest_copies x.made.items };
-
-    ghost invariant = { λ x. AllByRecursion (λ c. c.chunk < 8) x.made.items };
-}
-
-impl Copies {
-    /// No copies. Asks for no memory.
-    pub fn none(alloc: Global) -> Copies
-        ensures { result ≡ [] }
-    {
-        Copies {
-            made: Vec::new(alloc),
-        }
-    }
-
-    /// Whether no copy is noted.
-    pub fn is_empty(&self) -> bool
-        ensures { IsTrue result ↔ (self.now ≡ []) }
-    {
-        self.made.is_empty()
-    }
-
-    /// How many copies are noted.
-    pub fn len(&self) -> usize
-        ensures { result ≡ length self.now }
-    {
-        self.made.len()
-    }
-
-    /// Which chunk was copied last, by identifier and number, counted from 0.
-    pub fn last(&self) -> Option<(ShardId, usize)>
-        ensures { option_map numbered result ≡ last_of self.now }
-    {
-        match self.made.last() {
-            Some(copy) => Some((copy.id, copy.chunk)),
-            None => None,
-        }
-    }
-
+impl Sweeps {
     /// Begins to sweep an extent: it is marked, and it is neither the open extent nor the one that the next copy goes to any more.
     ///
     /// 33 `NotSweepable` where an extent is being swept, copies of an earlier sweep are noted, or the extent isn't there, is empty or
     /// holds runs.
-    pub fn begin(&self, extents: &mut Extents, extent: usize) -> Result<(), Refusal>
-        ensures begun { OnOk result (extents_of extents.new ≡ swept_aside (shape extents.old) (extents_of extents.old) extent) }
+    pub(crate) fn begin_copying(&self, extents: &mut Extents, extent: usize) -> Result<(), Refusal>
+        ensures begun { OnOk result ((extents_of extents.new ≡ swept_aside (shape extents.old) (extents_of extents.old) extent) × (self.now ≡ [])) }
         ensures swept { OnOk result (IsSweptApart (shape extents.new) (extents_of extents.new) extent) }
-        ensures none { OnOk result (self.now ≡ []) }
         ensures shape { shape extents.new ≡ shape extents.old }
         ensures refused { (result ≡ Err Refusal.NotSweepable) ↔ MayNotBegin (shape extents.old) (extents_of extents.old) self.now extent }
         ensures refusals { IfErr result (λ r. r ≡ Refusal.NotSweepable) }
         ensures same { OnErr result (extents.new ≡ extents.old) }
     {
-        if !self.may_begin(extents, extent) {
+        if !self.may_begin_copying(extents, extent) {
             return Err(Refusal::NotSweepable);
         }
         extents.set_swept(extent, true);
@@ -114,7 +60,7 @@ impl Copies {
 
     /// Whether a sweep of an extent may begin: no other goes on or left copies, and the extent is there, isn't empty and holds chunks.
     /// Costs a pass over the extents.
-    pub fn may_begin(&self, extents: &Extents, extent: usize) -> bool
+    pub(crate) fn may_begin_copying(&self, extents: &Extents, extent: usize) -> bool
         ensures may { IsTrue result → ¬ MayNotBegin (shape extents.now) (extents_of extents.now) self.now extent }
         ensures not { ¬ (IsTrue result) → MayNotBegin (shape extents.now) (extents_of extents.now) self.now extent }
     {
@@ -131,7 +77,7 @@ impl Copies {
     ///
     /// 1 `DeviceFault`, 20 to 24 and 26 as `read_frame`, then 30 `Full`, then 35 `WornOut`; 9 `OutOfMemory` may come instead of
     /// any. After a refusal nothing has changed but room for more.
-    pub fn copy_one<D: PageDisk>(
+    pub(crate) fn copy_one<D: PageDisk>(
         &mut self,
         alloc: Global,
         extent: usize,
@@ -140,6 +86,7 @@ impl Copies {
         graph: &mut Graph,
         disk: &mut D,
     ) -> Result<Option<(ShardId, usize)>, Refusal>
+        requires apart { (shape extents.old).apart ≡ true }
         requires swept { IsSweptApart (shape extents.old) (extents_of extents.old) extent }
         requires order { AreInOrder self.old }
         requires up_to { AllUpTo (index_of index.now) self.old extent }
@@ -203,6 +150,7 @@ impl Copies {
         disk: &mut D,
         live: &LiveChunk,
     ) -> Result<(), Refusal>
+        requires apart { (shape extents.old).apart ≡ true }
         requires chunk { live.now.chunk < 8 }
         requires extent { live.now.place.extent < (shape extents.old).extents }
         requires page { live.now.place.page < (shape extents.old).pages }
@@ -246,6 +194,7 @@ impl Copies {
         live: &LiveChunk,
         frame: &[[u8; 4096]],
     ) -> Result<(), Refusal>
+        requires apart { (shape extents.old).apart ≡ true }
         requires chunk { live.now.chunk < 8 }
         requires pages { (1 ≤ length frame.now) × (length frame.now ≤ (shape extents.old).pages) }
         requires families { length graph.old.staging.latest ≡ 1 + (shape extents.old).sections }
@@ -273,15 +222,6 @@ impl Copies {
         });
         Ok(())
     }
-
-    /// Gives up the sweep of an extent. What it copied doesn't count, and stays noted until the next root.
-    pub fn abandon(extents: &mut Extents, extent: usize)
-        requires inside { extent < (shape extents.old).extents }
-        ensures marked { extents_of extents.new ≡ marked (extents_of extents.old) extent false }
-        ensures shape { shape extents.new ≡ shape extents.old }
-    {
-        extents.set_swept(extent, false);
-    }
 }
 
 /// Appends the frame of a copy, and answers where it begins.
@@ -290,6 +230,7 @@ fn append_copied(
     graph: &mut Graph,
     frame: &[[u8; 4096]],
 ) -> Result<Locator, Refusal>
+    requires apart { (shape extents.old).apart ≡ true }
     requires pages { (1 ≤ length frame.now) × (length frame.now ≤ (shape extents.old).pages) }
     requires families { length graph.old.staging.latest ≡ 1 + (shape extents.old).sections }
     requires resets { AreResetsStaged (extents_of extents.old) graph.old.staging }
@@ -301,7 +242,7 @@ fn append_copied(
     ensures families { length graph.new.staging.latest ≡ length graph.old.staging.latest }
     ensures shape { shape extents.new ≡ shape extents.old }
 {
-    let made = match extents.append_apart(graph, frame, Purpose::Move) {
+    let made = match extents.append(graph, frame, Purpose::Move) {
         Ok(made) => made,
         Err(refusal) => return Err(refusal),
     };

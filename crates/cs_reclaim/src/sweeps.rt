@@ -1,137 +1,182 @@
-//! Sweeps of one extent each.
-ghost use Rattle.std.specs.Prelude.{◌≡◌, ◌↔◌, ◌⊎◌, ◌+◌, ◌*◌, ◌^◌, ◌<◌, ◌≤◌, ℕ, List, IfErr, IfOk, IsTrue, MatchOption, MatchResult, None, OnErr, OnOk, Some, false, length, map, true};
+//! The sweeps of a store: what lives on an extent goes elsewhere chunk by chunk, and then the extent is emptied.
+ghost use Rattle.std.specs.Prelude.{◌≡◌, ◌↔◌, ◌⊎◌, ◌+◌, ◌*◌, ◌<◌, ◌≤◌, ◌^◌, ℕ, List, [], IfErr, IfOk, IsTrue, None, OnErr, OnOk, Some, false, length, option_map, true};
 ghost use Rattle.cs_chunk.specs.Chunks.{IsFrameIn};
 ghost use Rattle.cs_chunk.specs.Newest.{AreNewest};
 ghost use Rattle.cs_chunk.specs.Reads.{IsCaused, IsReadRefusal, fault_in};
 ghost use Rattle.cs_disk.specs.Disk.{seen};
 ghost use Rattle.cs_disk.specs.Reads.{OnlyReads};
-ghost use Rattle.cs_extent.specs.Appended.{IsAppended};
 ghost use Rattle.cs_extent.specs.Frames.{AreResetsStaged};
 ghost use Rattle.cs_extent.specs.State.{extents_of, shape};
-ghost use Rattle.cs_extent.specs.Worn.{IsFrameWorn};
 ghost use Rattle.cs_frame.specs.declared.frames.FrameKind.TheVariants.{Chunk};
-ghost use Rattle.cs_frame.specs.declared.locators.Locator.{Locator as Spot};
-ghost use Rattle.cs_frame.specs.Formats.{as_locator, place_of};
-ghost use Rattle.cs_frame.specs.Locators.{KeepFormat};
-ghost use Rattle.cs_index.specs.Staged.{IsExact, IsWhy};
-ghost use Rattle.cs_index.specs.State.{IsSet, id_number, index_of};
+ghost use Rattle.cs_frame.specs.Formats.{as_locator};
+ghost use Rattle.cs_index.specs.Copies.{numbered};
+ghost use Rattle.cs_index.specs.Merges.{deletions_go, stage_takes};
+ghost use Rattle.cs_index.specs.Staged.{IsExact};
+ghost use Rattle.cs_index.specs.State.{id_number, index_of};
 ghost use Rattle.law_machine.specs.Element.{Locator as Place};
-ghost use Rattle.law_machine.specs.Extents.{ForMove, NoPlace, marked};
 ghost use Rattle.law_machine.specs.Formats.{ChunkFrame};
-ghost use Rattle.law_machine.specs.Index.{FirstLive, NothingLive, live_at, lookup};
-ghost use Rattle.law_machine.specs.Lists.{◌∈◌, nth, replaced};
-ghost use Rattle.cs_reclaim.specs.Moves.{AnswersMove, AnswersPlace, IsMoveFull, IsMoveWorn, IsMoved, chunk_frame};
-ghost use Rattle.cs_reclaim.specs.Retired.{IsRetireFull, IsRetireWorn, IsRetired};
-ghost use Rattle.cs_reclaim.specs.Sweeps.{IsNotSweepable, IsSwept};
+ghost use Rattle.law_machine.specs.Index.{live_at, lookup};
+ghost use Rattle.law_machine.specs.Lists.{◌∈◌};
+ghost use Rattle.cs_reclaim.specs.ByRule.{IsBegunBy, IsMovedBy, IsNextBy, IsRetireExactBy, IsRetiredBy, IsSweepStageFullBy, IsSweepStageWornBy, IsSweepStagedBy, IsSweptBy, MayNotBeginBy, MayStageBy, NothingToMoveBy, StaysBy, is_left_over_by};
+ghost use Rattle.cs_reclaim.specs.Copied.{AllUpTo, AreInOrder, last_of};
+ghost use Rattle.cs_reclaim.specs.Moves.{AnswersMove, AnswersPlaceBy, IsMoveFullBy, IsMoveWornBy};
 
-use cs_chunk::read_frame;
+use crate::roots::both;
+use crate::sweeps_v2::{Sweep, is_sweepable, retire_extent};
 use cs_deps::Graph;
 use cs_disk::PageDisk;
-use cs_extent::{Extents, LAST_GENERATION, Purpose};
-use cs_frame::{FrameKind, Locator, Places, ShardId, encode_frame};
-use cs_index::{Index, LiveChunk};
+use cs_extent::Extents;
+use cs_frame::ShardId;
+use cs_index::{ChunkCopy, Index};
 use cs_refusal::Refusal;
 use std::alloc::Global;
 use std::marker::Model;
 
-/// A sweep of one extent, which is marked as being swept until the sweep is abandoned or has retired it.
+/// What the sweeps of a store copied, until a root after their end. Its value lists the copies newest first.
+///
+/// In format 3 one sweep goes on at a time. It copies what lives on its extent, and a chunk that was copied counts where it lay until the
+/// extent is retired. In the older formats a chunk that is moved counts at once where it is now, and no copy is noted.
 #[derive(Debug, Drop)]
-pub struct Sweep {
-    extent: usize,
+pub struct Sweeps {
+    /// Oldest first.
+    pub(crate) made: Vec<ChunkCopy>,
 }
 
-impl Model for Sweep {
-    ghost use Rattle.std.specs.Prelude.{ℕ};
+impl Model for Sweeps {
+    ghost use Rattle.std.specs.Prelude.{◌<◌, List};
+    ghost use Rattle.std.specs.List.{AllByRecursion};
+    ghost use Rattle.cs_index.specs.Copies.{newest_copies};
+    ghost use Rattle.law_machine.specs.Element.{Copy};
 
-    ghost Value = { ℕ };
+    ghost Value = { List Copy };
 
-    ghost view = { λ x. x.extent };
+    ghost view = { λ x. newest_copies x.made.items };
+
+    ghost invariant = { λ x. AllByRecursion (λ c. c.chunk < 8) x.made.items };
 }
 
-impl Sweep {
-    /// Begins to sweep an extent. 33 `NotSweepable` where it is open, empty or being swept, or there is no such extent.
-    pub fn begin(extents: &mut Extents, extent: usize) -> Result<Sweep, Refusal>
-        ensures sweep { IfOk result (λ s. s ≡ extent) }
-        ensures marked { OnOk result (extents_of extents.new ≡ marked (extents_of extents.old) extent true) }
-        ensures swept { OnOk result (IsSwept (shape extents.new) (extents_of extents.new) extent) }
+impl Sweeps {
+    /// No copies. Asks for no memory.
+    pub fn none(alloc: Global) -> Sweeps
+        ensures { result ≡ [] }
+    {
+        Sweeps {
+            made: Vec::new(alloc),
+        }
+    }
+
+    /// Whether no copy is noted.
+    pub fn is_empty(&self) -> bool
+        ensures { IsTrue result ↔ (self.now ≡ []) }
+    {
+        self.made.is_empty()
+    }
+
+    /// How many copies are noted.
+    pub fn len(&self) -> usize
+        ensures { result ≡ length self.now }
+    {
+        self.made.len()
+    }
+
+    /// Which chunk was copied last, by identifier and number, counted from 0.
+    pub fn last(&self) -> Option<(ShardId, usize)>
+        ensures { option_map numbered result ≡ last_of self.now }
+    {
+        match self.made.last() {
+            Some(copy) => Some((copy.id, copy.chunk)),
+            None => None,
+        }
+    }
+
+    /// Begins to sweep an extent, which is marked. In format 3 it is also neither the open extent any more nor the one that the next copy
+    /// goes to.
+    ///
+    /// 33 `NotSweepable` if the sweep may not begin, as `may_begin` has it.
+    pub fn begin(&self, extents: &mut Extents, extent: usize) -> Result<(), Refusal>
+        ensures begun { OnOk result (IsBegunBy (shape extents.old).apart (shape extents.old) (extents_of extents.old) self.now extent (extents_of extents.new)) }
+        ensures swept { OnOk result (IsSweptBy (shape extents.new).apart (shape extents.new) (extents_of extents.new) extent) }
         ensures shape { shape extents.new ≡ shape extents.old }
-        ensures refused { (result ≡ Err Refusal.NotSweepable) ↔ IsNotSweepable (shape extents.old) (extents_of extents.old) extent }
+        ensures refused { (result ≡ Err Refusal.NotSweepable) ↔ MayNotBeginBy (shape extents.old).apart (shape extents.old) (extents_of extents.old) self.now extent }
         ensures refusals { IfErr result (λ r. r ≡ Refusal.NotSweepable) }
         ensures same { OnErr result (extents.new ≡ extents.old) }
     {
-        if !is_sweepable(extents, extent) {
-            return Err(Refusal::NotSweepable);
+        if extents.is_apart() {
+            return self.begin_copying(extents, extent);
         }
-        extents.set_swept(extent, true);
-        Ok(Sweep { extent })
+        match Sweep::begin(extents, extent) {
+            Ok(_) => Ok(()),
+            Err(refusal) => Err(refusal),
+        }
     }
 
-    /// The sweep of an extent that is marked, None where it isn't marked or isn't there. The mark is all there is to a sweep, so a
-    /// caller keeps either the value from `begin` or the number alone, as the core does.
-    pub fn resume(extents: &Extents, extent: usize) -> Option<Sweep>
-        ensures { MatchOption result (((shape extents.now).extents ≤ extent) ⊎ ((extents_of extents.now).swept extent ≡ false)) (λ s. (s ≡ extent) × (extent < (shape extents.now).extents) × ((extents_of extents.now).swept extent ≡ true)) }
+    /// Whether a sweep of an extent may begin: no other goes on or left copies, and the extent is there, isn't empty and holds chunks.
+    /// Costs a pass over the extents. In the older formats: the extent is there, and neither open, empty nor being swept.
+    pub fn may_begin(&self, extents: &Extents, extent: usize) -> bool
+        ensures may { IsTrue result → ¬ MayNotBeginBy (shape extents.now).apart (shape extents.now) (extents_of extents.now) self.now extent }
+        ensures not { ¬ (IsTrue result) → MayNotBeginBy (shape extents.now).apart (shape extents.now) (extents_of extents.now) self.now extent }
     {
-        if extent < extents.extent_count() && extents.is_swept(extent) {
-            Some(Sweep { extent })
+        if extents.is_apart() {
+            self.may_begin_copying(extents, extent)
         } else {
-            None
+            is_sweepable(extents, extent)
         }
     }
 
-    /// The extent that is swept.
-    pub fn extent(&self) -> usize
-        ensures { result ≡ self.now }
-    {
-        self.extent
-    }
-
-    /// Moves the first live chunk, by identifier and then by chunk, off the extent: appends a frame of the same
-    /// bytes with `Purpose::Move`, and points the shard at it. Answers the identifier and the number of the chunk,
-    /// counted from 0, or None where nothing is live there. Frames of other extents aren't read. The search goes on in the
-    /// index from where the last one on this extent ended, as `Index::first_live` does.
+    /// Moves the next chunk off an extent, by identifier and then by chunk: appends a frame of the same bytes with `Purpose::Move`.
+    /// Returns the identifier and the number of the chunk, counted from 0, or None if nothing is left to move.
+    ///
+    /// In format 3 the chunk is copied: it counts where it lay, the copy is noted, and the search goes on in the index after the last copy.
+    /// In the older formats the shard names the new place at once, and the search goes on as `Index::first_live` does.
     ///
     /// 1 `DeviceFault`, 20 to 24 and 26 as `read_frame`, then 30 `Full`, then 35 `WornOut`; 9 `OutOfMemory` may come instead of
     /// any. After a refusal nothing has changed but room for more.
     pub fn move_one<D: PageDisk>(
-        &self,
+        &mut self,
         alloc: Global,
+        extent: usize,
         index: &mut Index,
         extents: &mut Extents,
         graph: &mut Graph,
         disk: &mut D,
     ) -> Result<Option<(ShardId, usize)>, Refusal>
-        requires swept { IsSwept (shape extents.old) (extents_of extents.old) self.now }
+        requires swept { IsSweptBy (shape extents.old).apart (shape extents.old) (extents_of extents.old) extent }
+        requires order { (shape extents.old).apart ≡ true → AreInOrder self.old }
+        requires up_to { (shape extents.old).apart ≡ true → AllUpTo (index_of index.old) self.old extent }
         requires format { index.old.format ≡ (shape extents.old).format }
         requires there { (id : ℕ) (l : Place) → l ∈ live_at (index_of index.old) id → (l.extent < (shape extents.old).extents) × (l.page < (shape extents.old).pages) }
         requires device { 2 + (shape extents.old).extents * (shape extents.old).pages ≤ D.page_count disk.old }
         requires families { length graph.old.staging.latest ≡ 1 + (shape extents.old).sections }
         requires resets { AreResetsStaged (extents_of extents.old) graph.old.staging }
 
-        // Nothing is moved exactly where nothing is live there, and then nothing changes.
-        ensures none { (result ≡ Ok None) ↔ NothingLive (index_of index.old) self.now }
-        ensures unchanged { result ≡ Ok None → (index.new ≡ index.old) × (extents.new ≡ extents.old) × (graph.new ≡ graph.old) × (disk.new ≡ disk.old) }
+        // Nothing is moved exactly where nothing is left to move, and then nothing changes.
+        ensures none { (result ≡ Ok None) ↔ NothingToMoveBy (shape extents.old).apart (index_of index.old) self.old extent }
+        ensures unchanged { result ≡ Ok None → (self.new ≡ self.old) × (index.new ≡ index.old) × (extents.new ≡ extents.old) × (graph.new ≡ graph.old) × (disk.new ≡ disk.old) }
 
-        // Else the first live chunk is moved, byte for byte.
-        ensures moved { (id : ShardId) (chunk : ℕ) → result ≡ Ok (Some (id, chunk))
-            → (payload : List ℕ) × (move : IsMoved index.old extents.old graph.old self.now (id_number id) chunk payload index.new extents.new graph.new)
-            × (D.honest disk.old → (view : ℕ → List ℕ) → AreNewest graph.old (seen (D.state disk.old)) view → IsFrameIn extents.old view ChunkFrame (as_locator move.from) payload) }
+        // Else the next chunk is moved, byte for byte.
+        ensures moved { (id : ShardId) (chunk : ℕ) → result ≡ Ok (Some (id, chunk)) → (payload : List ℕ) × (from : Place)
+            × IsMovedBy (shape extents.old).apart index.old extents.old graph.old self.old extent (id_number id) chunk from payload index.new extents.new graph.new self.new
+            × (D.honest disk.old → (view : ℕ → List ℕ) → AreNewest graph.old (seen (D.state disk.old)) view → IsFrameIn extents.old view ChunkFrame (as_locator from) payload) }
 
-        // The refusals of a frame are those of the first live chunk's, and the others come where it has no fault.
+        // The refusals of a frame are those of the next chunk's, and the others come where it has no fault.
         ensures damaged { D.honest disk.old → (view : ℕ → List ℕ) → AreNewest graph.old (seen (D.state disk.old)) view
-            → (id chunk : ℕ) (from : Place) → FirstLive (index_of index.old) self.now id chunk from → AnswersMove (fault_in extents.old view Chunk (as_locator from)) result }
+            → (id chunk : ℕ) (from : Place) → IsNextBy (shape extents.old).apart (index_of index.old) self.old extent id chunk from → AnswersMove (fault_in extents.old view Chunk (as_locator from)) result }
         ensures why { D.honest disk.old → (view : ℕ → List ℕ) → AreNewest graph.old (seen (D.state disk.old)) view
-            → (id chunk : ℕ) (from : Place) (payload : List ℕ) → FirstLive (index_of index.old) self.now id chunk from
-            → IsFrameIn extents.old view ChunkFrame (as_locator from) payload → AnswersPlace extents.old graph.old.staging payload result }
+            → (id chunk : ℕ) (from : Place) (payload : List ℕ) → IsNextBy (shape extents.old).apart (index_of index.old) self.old extent id chunk from
+            → IsFrameIn extents.old view ChunkFrame (as_locator from) payload → AnswersPlaceBy (shape extents.old).apart extents.old graph.old.staging payload result }
         // Whatever the disk answers, 30 and 35 come only where the frame of some payload finds no place, or no numbers.
-        ensures full { IfErr result (λ r. r ≡ Refusal.Full → IsMoveFull extents.old) }
-        ensures worn { IfErr result (λ r. r ≡ Refusal.WornOut → IsMoveWorn extents.old graph.old.staging) }
+        ensures full { IfErr result (λ r. r ≡ Refusal.Full → IsMoveFullBy (shape extents.old).apart extents.old) }
+        ensures worn { IfErr result (λ r. r ≡ Refusal.WornOut → IsMoveWornBy (shape extents.old).apart extents.old graph.old.staging) }
         ensures refusals { IfErr result (λ r. IsReadRefusal r ⊎ (r ≡ Refusal.Full) ⊎ (r ≡ Refusal.WornOut)) }
-        ensures refused { OnErr result (index.new ≡ record index.old { room = index.new.room }) }
+        ensures refused { OnErr result (StaysBy (shape extents.old).apart index.old index.new) }
+        ensures kept { OnErr result (self.new ≡ self.old) }
         ensures unwritten { OnErr result (extents.new ≡ extents.old) }
         ensures unstaged { OnErr result (graph.new ≡ record graph.old { room = graph.new.room }) }
 
         // Whatever the answer, the sweep goes on, and the next append may be made.
-        ensures still { IsSwept (shape extents.new) (extents_of extents.new) self.now }
+        ensures still { IsSweptBy (shape extents.new).apart (shape extents.new) (extents_of extents.new) extent }
+        ensures order { (shape extents.old).apart ≡ true → AreInOrder self.new }
+        ensures up_to { (shape extents.old).apart ≡ true → AllUpTo (index_of index.new) self.new extent }
         ensures resets { AreResetsStaged (extents_of extents.new) graph.new.staging }
         ensures families { length graph.new.staging.latest ≡ length graph.old.staging.latest }
         ensures shape { shape extents.new ≡ shape extents.old }
@@ -142,48 +187,53 @@ impl Sweep {
         ensures disk { OnlyReads D.PageDisk disk.old disk.new }
         ensures cause { IsCaused (D.failure_count disk.old) (D.failure_count disk.new) result }
     {
-        let Some(live) = index.first_live(self.extent) else {
-            return Ok(None);
-        };
-        match move_live(alloc, index, extents, graph, disk, &live) {
-            Ok(()) => Ok(Some((live.id, live.chunk))),
-            Err(refusal) => Err(refusal),
+        if extents.is_apart() {
+            self.copy_one(alloc, extent, index, extents, graph, disk)
+        } else {
+            let sweep = Sweep { extent };
+            sweep.move_one(alloc, index, extents, graph, disk)
         }
     }
 
-    /// Retires the extent, on which nothing may be live: stages one run of all that is live, with `Purpose::Move`, and the
-    /// root over it, and empties the extent under that root. Answers the root's version. The extent isn't being swept any
-    /// more. `commands` is how many puts and deletes the root includes.
+    /// Retires an extent that is swept, on which nothing is left to move: it isn't being swept any more, a root is staged, and the extent is
+    /// emptied under it. Returns the root's version. `commands` is how many puts and deletes the root includes.
     ///
-    /// 34 `StillLive` where something is live there, then 30 `Full` where no extent takes the run, then 35 `WornOut`, also
-    /// where the extent's generation is the greatest; 9 `OutOfMemory` may come instead of any. After a refusal nothing has
-    /// changed but room for more, and the sweep comes back.
+    /// In format 3 what was copied counts, where the chunk still lies where it was copied from, the root is staged as by `stage`, and no
+    /// copy is noted after it. The extent is emptied with the other blank ones. In the older formats one run of all that is live is staged
+    /// with `Purpose::Move`, and the root over it.
+    ///
+    /// 34 `StillLive` if a chunk is left to move, then 30 `Full` if no extent takes a run, then 35 `WornOut`, also
+    /// if the extent's generation is the greatest; 9 `OutOfMemory` may come instead of any. After a refusal nothing has
+    /// changed but room for more.
     pub fn retire(
-        self,
+        &mut self,
+        extent: usize,
         index: &mut Index,
         extents: &mut Extents,
         graph: &mut Graph,
         commands: u64,
-    ) -> Result<u64, (Refusal, Sweep)>
-        requires swept { IsSwept (shape extents.old) (extents_of extents.old) self }
+    ) -> Result<u64, Refusal>
+        requires swept { IsSweptBy (shape extents.old).apart (shape extents.old) (extents_of extents.old) extent }
+        requires order { (shape extents.old).apart ≡ true → AreInOrder self.old }
+        requires up_to { (shape extents.old).apart ≡ true → AllUpTo (index_of index.old) self.old extent }
+        requires runs { (shape extents.old).apart ≡ true → length index.old.runs ≤ (shape extents.old).most_runs }
         requires format { index.old.format ≡ (shape extents.old).format }
         requires limit { index.old.limit ≡ (shape extents.old).most_weight }
         requires families { length graph.old.staging.latest ≡ 1 + (shape extents.old).sections }
         requires resets { AreResetsStaged (extents_of extents.old) graph.old.staging }
         requires commands { commands < 2 ^ 63 }
-        ensures retired { IfOk result (λ v. IsRetired index.old extents.old graph.old self v commands index.new extents.new graph.new) }
+        ensures retired { IfOk result (λ v. IsRetiredBy (shape extents.old).apart index.old extents.old graph.old self.old extent v commands index.new extents.new graph.new self.new) }
 
-        // The map stays.
-        ensures map { (id : ℕ) → live_at (index_of index.new) id ≡ live_at (index_of index.old) id }
+        // Where no copy is to count the map stays.
+        ensures map { (shape extents.old).apart ≡ false → (id : ℕ) → live_at (index_of index.new) id ≡ live_at (index_of index.old) id }
 
         // Which refusal comes, and 9 may come instead of the others.
-        ensures nothing { OnOk result (NothingLive (index_of index.old) self) }
-        ensures alive { (result ≡ Err (Refusal.StillLive, self)) ↔ ¬ NothingLive (index_of index.old) self }
-        ensures why { NothingLive (index_of index.old) self
-            → MatchResult result (λ _. (IsRetireFull index.old extents.old → ⊥) × (IsRetireWorn index.old extents.old graph.old.staging self → ⊥)) (λ r. IsWhy r.0 (IsRetireFull index.old extents.old) (IsRetireWorn index.old extents.old graph.old.staging self)) }
-        ensures refusals { IfErr result (λ r. (r.0 ≡ Refusal.StillLive) ⊎ (r.0 ≡ Refusal.Full) ⊎ (r.0 ≡ Refusal.WornOut) ⊎ (r.0 ≡ Refusal.OutOfMemory)) }
-        ensures back { IfErr result (λ r. r.1 ≡ self) }
+        ensures all { OnOk result (NothingToMoveBy (shape extents.old).apart (index_of index.old) self.old extent) }
+        ensures left { (result ≡ Err Refusal.StillLive) ↔ ¬ NothingToMoveBy (shape extents.old).apart (index_of index.old) self.old extent }
+        ensures why { NothingToMoveBy (shape extents.old).apart (index_of index.old) self.old extent → IsRetireExactBy (shape extents.old).apart result index.old extents.old graph.old self.old extent }
+        ensures refusals { IfErr result (λ r. (r ≡ Refusal.StillLive) ⊎ (r ≡ Refusal.Full) ⊎ (r ≡ Refusal.WornOut) ⊎ (r ≡ Refusal.OutOfMemory)) }
         ensures refused { OnErr result (index.new ≡ index.old) }
+        ensures kept { OnErr result (self.new ≡ self.old) }
         ensures unwritten { OnErr result (extents.new ≡ extents.old) }
         ensures unstaged { OnErr result (graph.new ≡ record graph.old { room = graph.new.room }) }
 
@@ -194,238 +244,68 @@ impl Sweep {
         ensures format { index.new.format ≡ index.old.format }
         ensures limit { index.new.limit ≡ index.old.limit }
     {
-        match retire_extent(self.extent, index, extents, graph, commands) {
-            Ok(root) => Ok(root),
-            Err(refusal) => Err((refusal, self)),
+        if extents.is_apart() {
+            self.retire_copied(extent, index, extents, graph, commands)
+        } else {
+            retire_extent(extent, index, extents, graph, commands)
         }
     }
 
-    /// Ends the sweep; what was moved stays where it is now.
-    pub fn abandon(self, extents: &mut Extents)
-        requires inside { self < (shape extents.old).extents }
-        ensures marked { extents_of extents.new ≡ marked (extents_of extents.old) self false }
+    /// Stages the table and as many of the newest runs as a Stage merges as one run, and the root over what stands then. `commands` is how
+    /// many puts and deletes the root includes. Returns the version of the root, or None if there is nothing to stage: then nothing changes.
+    ///
+    /// In format 3 all become one run if that of the newest goes nowhere. If the table is empty a root alone is staged where copies of a
+    /// sweep that was given up are noted. If no sweep is unfinished no copy is noted after it, and blank extents are emptied under the root.
+    ///
+    /// 30 `Full` if no extent takes a run, then 35 `WornOut` if a number would pass 2^63 - 1; 9 `OutOfMemory` may
+    /// come instead of either. After a refusal nothing has changed but the graph's room.
+    pub fn stage(
+        &mut self,
+        index: &mut Index,
+        extents: &mut Extents,
+        graph: &mut Graph,
+        commands: u64,
+    ) -> Result<Option<u64>, Refusal>
+        requires runs { (shape extents.old).apart ≡ true → length index.old.runs ≤ (shape extents.old).most_runs }
+        requires format { index.old.format ≡ (shape extents.old).format }
+        requires limit { index.old.limit ≡ (shape extents.old).most_weight }
+        requires families { length graph.old.staging.latest ≡ 1 + (shape extents.old).sections }
+        requires resets { AreResetsStaged (extents_of extents.old) graph.old.staging }
+        requires commands { commands < 2 ^ 63 }
+
+        // What is staged.
+        ensures none { IfOk result (λ staged. (staged ≡ None) ↔ ¬ MayStageBy (shape extents.old).apart (shape extents.old) (extents_of extents.old) index.old self.old) }
+        ensures unchanged { result ≡ Ok None → (self.new ≡ self.old) × (index.new ≡ index.old) × (extents.new ≡ extents.old) × (graph.new ≡ graph.old) }
+        ensures staged { (v : ℕ) → result ≡ Ok (Some v) → IsSweepStagedBy (shape extents.old).apart index.old extents.old graph.old self.old v commands index.new extents.new graph.new self.new }
+
+        // The map stays: where kinds share extents every entry if no merge takes deletions away, and all that is live in any case.
+        ensures lookups { (shape extents.old).apart ≡ false → deletions_go (shape extents.old) index.old (stage_takes (shape extents.old) index.old) ≡ false → (id : ℕ) → lookup id (index_of index.new) ≡ lookup id (index_of index.old) }
+        ensures map { (id : ℕ) → live_at (index_of index.new) id ≡ live_at (index_of index.old) id }
+
+        // Whatever the answer, the next append may be made.
+        ensures resets { AreResetsStaged (extents_of extents.new) graph.new.staging }
+        ensures families { length graph.new.staging.latest ≡ length graph.old.staging.latest }
         ensures shape { shape extents.new ≡ shape extents.old }
+        ensures format { index.new.format ≡ index.old.format }
+        ensures limit { index.new.limit ≡ index.old.limit }
+
+        ensures why { IsExact result (IsSweepStageFullBy (shape extents.old).apart index.old extents.old self.old) (IsSweepStageWornBy (shape extents.old).apart index.old extents.old graph.old.staging self.old) }
+        ensures refused { OnErr result (index.new ≡ index.old) }
+        ensures kept { OnErr result (self.new ≡ self.old) }
+        ensures unwritten { OnErr result (extents.new ≡ extents.old) }
+        ensures unstaged { OnErr result (graph.new ≡ record graph.old { room = graph.new.room }) }
     {
-        extents.set_swept(self.extent, false);
+        if extents.is_apart() {
+            self.stage_if_any(index, extents, graph, commands)
+        } else {
+            index.stage(extents, graph, commands)
+        }
     }
-}
 
-/// Whether an extent may be swept: it is there, and neither open, empty nor being swept.
-pub fn is_sweepable(extents: &Extents, extent: usize) -> bool
-    ensures may { IsTrue result → ¬ IsNotSweepable (shape extents.now) (extents_of extents.now) extent }
-    ensures not { ¬ (IsTrue result) → IsNotSweepable (shape extents.now) (extents_of extents.now) extent }
-{
-    extent < extents.extent_count()
-        && extents.pointer(extent) > 0
-        && !extents.is_open(extent)
-        && !extents.is_swept(extent)
-}
-
-/// Reads the frame of a live chunk, and appends it again.
-fn move_live<D: PageDisk>(
-    alloc: Global,
-    index: &mut Index,
-    extents: &mut Extents,
-    graph: &mut Graph,
-    disk: &mut D,
-    live: &LiveChunk,
-) -> Result<(), Refusal>
-    requires there { nth (live_at (index_of index.old) (id_number live.now.id)) live.now.chunk ≡ Some (place_of live.now.place) }
-    requires format { index.old.format ≡ (shape extents.old).format }
-    requires extent { live.now.place.extent < (shape extents.old).extents }
-    requires page { live.now.place.page < (shape extents.old).pages }
-    requires device { 2 + (shape extents.old).extents * (shape extents.old).pages ≤ D.page_count disk.old }
-    requires families { length graph.old.staging.latest ≡ 1 + (shape extents.old).sections }
-    requires resets { AreResetsStaged (extents_of extents.old) graph.old.staging }
-    ensures moved { OnOk result ((payload : List ℕ) × (to : Spot) × IsAppended extents.old graph.old ForMove (chunk_frame extents.old payload) to extents.new graph.new
-        × IsSet index.old (id_number live.now.id) (replaced (live_at (index_of index.old) (id_number live.now.id)) live.now.chunk (place_of to)) index.new
-        × (to.mark ≡ live.now.place.mark)
-        × (D.honest disk.old → (view : ℕ → List ℕ) → AreNewest graph.old (seen (D.state disk.old)) view → IsFrameIn extents.old view ChunkFrame live.now.place payload)) }
-    ensures damaged { D.honest disk.old → (view : ℕ → List ℕ) → AreNewest graph.old (seen (D.state disk.old)) view → AnswersMove (fault_in extents.old view Chunk live.now.place) result }
-    ensures why { D.honest disk.old → (view : ℕ → List ℕ) (payload : List ℕ) → AreNewest graph.old (seen (D.state disk.old)) view
-        → IsFrameIn extents.old view ChunkFrame live.now.place payload → AnswersPlace extents.old graph.old.staging payload result }
-    ensures full { IfErr result (λ r. r ≡ Refusal.Full → IsMoveFull extents.old) }
-    ensures worn { IfErr result (λ r. r ≡ Refusal.WornOut → IsMoveWorn extents.old graph.old.staging) }
-    ensures refusals { IfErr result (λ r. IsReadRefusal r ⊎ (r ≡ Refusal.Full) ⊎ (r ≡ Refusal.WornOut)) }
-    ensures refused { OnErr result (index.new ≡ record index.old { room = index.new.room }) }
-    ensures unwritten { OnErr result (extents.new ≡ extents.old) }
-    ensures unstaged { OnErr result (graph.new ≡ record graph.old { room = graph.new.room }) }
-    ensures resets { AreResetsStaged (extents_of extents.new) graph.new.staging }
-    ensures families { length graph.new.staging.latest ≡ length graph.old.staging.latest }
-    ensures shape { shape extents.new ≡ shape extents.old }
-    ensures format { index.new.format ≡ index.old.format }
-    ensures limit { index.new.limit ≡ index.old.limit }
-    ensures disk { OnlyReads D.PageDisk disk.old disk.new }
-    ensures cause { IsCaused (D.failure_count disk.old) (D.failure_count disk.new) result }
-{
-    let payload = match read_frame(alloc, extents, graph, disk, FrameKind::Chunk, live.place) {
-        Ok(payload) => payload,
-        Err(refusal) => return Err(refusal),
-    };
-    match encode_frame(alloc, FrameKind::Chunk, &payload) {
-        Ok(frame) => move_to(alloc, index, extents, graph, live, &frame),
-        Err(_) => Err(Refusal::OutOfMemory),
-    }
-}
-
-/// Appends the frame of a live chunk, and points its shard there.
-fn move_to(
-    alloc: Global,
-    index: &mut Index,
-    extents: &mut Extents,
-    graph: &mut Graph,
-    live: &LiveChunk,
-    frame: &[[u8; 4096]],
-) -> Result<(), Refusal>
-    requires there { nth (live_at (index_of index.old) (id_number live.now.id)) live.now.chunk ≡ Some (place_of live.now.place) }
-    requires format { index.old.format ≡ (shape extents.old).format }
-    requires pages { (1 ≤ length frame.now) × (length frame.now ≤ (shape extents.old).pages) }
-    requires families { length graph.old.staging.latest ≡ 1 + (shape extents.old).sections }
-    requires resets { AreResetsStaged (extents_of extents.old) graph.old.staging }
-    ensures moved { OnOk result ((to : Spot) × IsAppended extents.old graph.old ForMove frame.now to extents.new graph.new × IsSet index.old (id_number live.now.id) (replaced (live_at (index_of index.old) (id_number live.now.id)) live.now.chunk (place_of to)) index.new) }
-    ensures why { IsExact result (NoPlace (shape extents.old) (extents_of extents.old) ForMove (length frame.now)) (IsFrameWorn extents.old ForMove graph.old.staging (length frame.now)) }
-    ensures refused { OnErr result (index.new ≡ record index.old { room = index.new.room }) }
-    ensures unwritten { OnErr result (extents.new ≡ extents.old) }
-    ensures unstaged { OnErr result (graph.new ≡ record graph.old { room = graph.new.room }) }
-    ensures resets { AreResetsStaged (extents_of extents.new) graph.new.staging }
-    ensures families { length graph.new.staging.latest ≡ length graph.old.staging.latest }
-    ensures shape { shape extents.new ≡ shape extents.old }
-    ensures format { index.new.format ≡ index.old.format }
-    ensures limit { index.new.limit ≡ index.old.limit }
-{
-    let before = match places_with_room(alloc, index, live.id) {
-        Ok(places) => places,
-        Err(refusal) => return Err(refusal),
-    };
-    let mut after = Places::from_slice(alloc, before.as_slice())?;
-    let place = match append_moved(extents, graph, frame) {
-        Ok(place) => place,
-        Err(refusal) => return Err(refusal),
-    };
-    after.set(live.chunk, place);
-    point_at(index, live.id, before.as_slice(), after);
-    Ok(())
-}
-
-/// Appends a frame for a move, and answers where it begins.
-fn append_moved(
-    extents: &mut Extents,
-    graph: &mut Graph,
-    frame: &[[u8; 4096]],
-) -> Result<Locator, Refusal>
-    requires pages { (1 ≤ length frame.now) × (length frame.now ≤ (shape extents.old).pages) }
-    requires families { length graph.old.staging.latest ≡ 1 + (shape extents.old).sections }
-    requires resets { AreResetsStaged (extents_of extents.old) graph.old.staging }
-    ensures appended { IfOk result (λ to. IsAppended extents.old graph.old ForMove frame.now to extents.new graph.new) }
-    ensures why { IsExact result (NoPlace (shape extents.old) (extents_of extents.old) ForMove (length frame.now)) (IsFrameWorn extents.old ForMove graph.old.staging (length frame.now)) }
-    ensures unwritten { OnErr result (extents.new ≡ extents.old) }
-    ensures unstaged { OnErr result (graph.new ≡ record graph.old { room = graph.new.room }) }
-    ensures resets { AreResetsStaged (extents_of extents.new) graph.new.staging }
-    ensures families { length graph.new.staging.latest ≡ length graph.old.staging.latest }
-    ensures shape { shape extents.new ≡ shape extents.old }
-{
-    let made = match extents.append(graph, frame, Purpose::Move) {
-        Ok(made) => made,
-        Err(refusal) => return Err(refusal),
-    };
-    Ok(made.0)
-}
-
-/// Gives a shard these places, where the index has room for the entry.
-fn point_at(index: &mut Index, id: ShardId, before: &[Locator], after: Places)
-    requires before { lookup (id_number id) (index_of index.old) ≡ Some (map place_of before.now) }
-    requires after { (1 ≤ length after.items) × (length after.items ≤ 8) }
-    requires no_more { length after.items ≤ length before.now }
-    requires marks { KeepFormat index.old.format after.items }
-    requires room { 0 < index.old.room }
-    ensures { IsSet index.old (id_number id) (map place_of after.items) index.new }
-{
-    match index.replace_if(id, before, after) {
-        Ok(_) => {}
-        Err(_) => unreachable!(),
-    }
-}
-
-/// Where the chunks of a shard are, with room in the index for another entry of it.
-fn places_with_room(alloc: Global, index: &mut Index, id: ShardId) -> Result<Places, Refusal>
-    ensures places { IfOk result (λ places. map place_of places.items ≡ live_at (index_of index.old) (id_number id)) }
-    ensures short { IfOk result (λ places. length places.items ≤ 8) }
-    ensures marks { IfOk result (λ places. KeepFormat index.old.format places.items) }
-    ensures room { OnOk result (0 < index.new.room) }
-    ensures rest { index.new ≡ record index.old { room = index.new.room } }
-    ensures refusals { IfErr result (λ r. r ≡ Refusal.OutOfMemory) }
-{
-    index.reserve(1)?;
-    places_of(alloc, index, id)
-}
-
-/// Where the chunks of a shard are.
-fn places_of(alloc: Global, index: &Index, id: ShardId) -> Result<Places, Refusal>
-    ensures places { IfOk result (λ places. map place_of places.items ≡ live_at (index_of index.now) (id_number id)) }
-    ensures short { IfOk result (λ places. length places.items ≤ 8) }
-    ensures marks { IfOk result (λ places. KeepFormat index.now.format places.items) }
-    ensures refusals { IfErr result (λ r. r ≡ Refusal.OutOfMemory) }
-{
-    match index.lookup(id) {
-        Some(places) => Ok(Places::from_slice(alloc, places)?),
-        None => Ok(Places::none()),
-    }
-}
-
-/// Stages the merged run and its root, and empties the extent under that root.
-fn retire_extent(
-    extent: usize,
-    index: &mut Index,
-    extents: &mut Extents,
-    graph: &mut Graph,
-    commands: u64,
-) -> Result<u64, Refusal>
-    requires swept { IsSwept (shape extents.old) (extents_of extents.old) extent }
-    requires format { index.old.format ≡ (shape extents.old).format }
-    requires limit { index.old.limit ≡ (shape extents.old).most_weight }
-    requires families { length graph.old.staging.latest ≡ 1 + (shape extents.old).sections }
-    requires resets { AreResetsStaged (extents_of extents.old) graph.old.staging }
-    requires commands { commands < 2 ^ 63 }
-    ensures retired { IfOk result (λ v. IsRetired index.old extents.old graph.old extent v commands index.new extents.new graph.new) }
-    ensures map { (id : ℕ) → live_at (index_of index.new) id ≡ live_at (index_of index.old) id }
-    ensures nothing { OnOk result (NothingLive (index_of index.old) extent) }
-    ensures alive { (result ≡ Err Refusal.StillLive) ↔ ¬ NothingLive (index_of index.old) extent }
-    ensures why { NothingLive (index_of index.old) extent → IsExact result (IsRetireFull index.old extents.old) (IsRetireWorn index.old extents.old graph.old.staging extent) }
-    ensures refusals { IfErr result (λ r. (r ≡ Refusal.StillLive) ⊎ (r ≡ Refusal.Full) ⊎ (r ≡ Refusal.WornOut) ⊎ (r ≡ Refusal.OutOfMemory)) }
-    ensures refused { OnErr result (index.new ≡ index.old) }
-    ensures unwritten { OnErr result (extents.new ≡ extents.old) }
-    ensures unstaged { OnErr result (graph.new ≡ record graph.old { room = graph.new.room }) }
-    ensures resets { AreResetsStaged (extents_of extents.new) graph.new.staging }
-    ensures families { length graph.new.staging.latest ≡ length graph.old.staging.latest }
-    ensures shape { shape extents.new ≡ shape extents.old }
-    ensures format { index.new.format ≡ index.old.format }
-    ensures limit { index.new.limit ≡ index.old.limit }
-{
-    let _extents = extents.extent_count();
-    if index.first_live(extent).is_some() {
-        return Err(Refusal::StillLive);
-    }
-    if extents.generation(extent) == LAST_GENERATION {
-        return Err(why_worn(index, extents));
-    }
-    let root = index.stage_merged(extents, graph, commands, Purpose::Move)?;
-    match extents.reset(extent, root) {
-        Ok(()) => {}
-        Err(_) => unreachable!(),
-    }
-    extents.set_swept(extent, false);
-    Ok(root)
-}
-
-/// Why an extent of the greatest generation isn't retired: 30 `Full` comes before 35 `WornOut`, and 9 where memory ran out.
-fn why_worn(index: &Index, extents: &Extents) -> Refusal
-    requires format { index.now.format ≡ (shape extents.now).format }
-    requires limit { index.now.limit ≡ (shape extents.now).most_weight }
-    ensures { ((result ≡ Refusal.WornOut) × (IsRetireFull index.now extents.now → ⊥)) ⊎ ((result ≡ Refusal.Full) × IsRetireFull index.now extents.now) ⊎ (result ≡ Refusal.OutOfMemory) }
-{
-    match index.merged_fits(extents, Purpose::Move) {
-        Ok(true) => Refusal::WornOut,
-        Ok(false) => Refusal::Full,
-        Err(_) => Refusal::OutOfMemory,
+    /// Whether copies of a sweep that was given up are noted still. In the older formats none are.
+    pub fn are_left_over(&self, extents: &Extents) -> bool
+        ensures { result ≡ is_left_over_by (shape extents.now).apart (shape extents.now) (extents_of extents.now) self.now }
+    {
+        both(extents.is_apart(), self.are_idle(extents))
     }
 }

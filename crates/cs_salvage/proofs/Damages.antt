@@ -5,7 +5,7 @@ use Rattle.cs_chunk.proofs.Framed.{no_fault_there}
 use Rattle.cs_chunk.specs.Chunks.{AreChunksIn, IsFrameIn}
 use Rattle.cs_chunk.specs.Reads.{IsNoAnswer, fault_in}
 use Rattle.cs_refusal.specs.declared.refusals.Refusal.{Refusal}
-use Rattle.cs_extent.specs.State.{State as ExtentsState, shape}
+use Rattle.cs_extent.specs.State.{State as ExtentsState, extents_at, shape}
 use Rattle.cs_frame.proofs.MarkLaws.{fault_of_meant}
 use Rattle.cs_frame.specs.declared.faults.FormatFault.{FormatFault}
 use Rattle.cs_frame.specs.declared.frames.FrameKind.TheVariants.{Chunk}
@@ -13,8 +13,8 @@ use Rattle.cs_frame.specs.declared.locators.Locator.{Locator}
 use Rattle.cs_frame.specs.Formats.{as_locator, formats_of, refusal_of}
 use Rattle.cs_frame.specs.Frames.{meant_fault}
 use Rattle.cs_frame.specs.Geometries.{device_pages}
-use Rattle.law_refinement.proofs.Superblocks.{read_whole}
-use Rattle.law_refinement.specs.ImageReads.{ArePages, AreSectionsRead, extents_at}
+use Rattle.cs_reader.proofs.Superblocks.{read_whole}
+use Rattle.cs_reader.specs.ImageReads.{ArePages, AreSectionsRead}
 use Rattle.cs_index.specs.State.{index_of}
 use Rattle.law_machine.proofs.Filled.{damage_here}
 use Rattle.law_machine.specs.Element.{Bytes, Content, Damaged, Locator as Place, Map}

@@ -11,8 +11,8 @@ use Rattle.cs_disk.specs.Disk.{Rises}
 use Rattle.cs_extent.specs.State.{IsWhole, State as ExtentsState, shape}
 use Rattle.cs_frame.specs.declared.locators.Locator.{Locator}
 use Rattle.cs_frame.specs.Formats.{as_locator, formats_of, place_of}
-use Rattle.law_refinement.proofs.OneByOne.{place_inside}
-use Rattle.law_refinement.specs.ImageReads.{IsLocated}
+use Rattle.cs_reader.proofs.OneByOne.{place_inside}
+use Rattle.cs_reader.specs.ImageReads.{IsLocated}
 use Rattle.cs_index.specs.State.{index_of}
 use Rattle.law_machine.specs.Element.{Locator as Place}
 use Rattle.law_machine.specs.Index.{joined_bodies, live, live_at, lookup}

@@ -3,19 +3,19 @@ use Rattle.std.proofs.Common.{◌≡◌, ◌≢◌, ◌∙◌, inl, inr, ℕ, �
 use Rattle.std.specs.Prelude.{slice_index, slice_index_or}
 use Rattle.std.specs.List.{AllByRecursion}
 use Rattle.cs_chunk.specs.Chunks.{AreChunksIn, IsFrameIn, end_in}
-use Rattle.cs_extent.specs.State.{State as ExtentsState, section_rows, shape}
+use Rattle.cs_extent.specs.State.{State as ExtentsState, extents_at, section_rows, shape}
 use Rattle.cs_frame.specs.declared.locators.Locator.{Locator}
 use Rattle.cs_frame.specs.Formats.{as_locator, formats_of}
 use Rattle.cs_frame.specs.Geometries.{device_pages}
 use Rattle.cs_frame.specs.Roots.{SpellsRoot}
 use Rattle.cs_frame.specs.Superblocks.{record_in}
-use Rattle.law_refinement.proofs.Listed.{to_all}
-use Rattle.law_refinement.proofs.Readable.{located, part, records_low, rows, rows_at, same_commands, same_places, section_spelled}
-use Rattle.law_refinement.proofs.Reaches.{end_is_limit}
-use Rattle.law_refinement.proofs.Runs.{StandsAt, all_stand, same_listed, same_runs}
-use Rattle.law_refinement.proofs.Superblocks.{at_one, read_format, read_found, read_whole, rows_agree}
-use Rattle.law_refinement.specs.Images.{index_at}
-use Rattle.law_refinement.specs.ImageReads.{ArePages, AreSectionsRead, IsLocated, IsRunRead, extents_at}
+use Rattle.cs_reader.proofs.Listed.{to_all}
+use Rattle.cs_reader.proofs.Readable.{located, part, records_low, rows, rows_at, same_commands, same_places, section_spelled}
+use Rattle.cs_reader.proofs.Reaches.{end_is_limit}
+use Rattle.cs_reader.proofs.Runs.{StandsAt, all_stand, same_listed, same_runs}
+use Rattle.cs_reader.proofs.Superblocks.{at_one, read_format, read_found, read_whole, rows_agree}
+use Rattle.cs_reader.specs.Loads.{index_at}
+use Rattle.cs_reader.specs.ImageReads.{ArePages, AreSectionsRead, IsLocated, IsRunRead}
 use Rattle.cs_index.specs.declared.stored_runs.StoredRun.{StoredRun}
 use Rattle.cs_index.specs.State.{State as IndexState, index_of, newest_first}
 use Rattle.law_machine.specs.Element.{Bytes, Content, Damaged, Locator as Place, Map, Run}

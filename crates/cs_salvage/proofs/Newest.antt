@@ -8,7 +8,7 @@ use Rattle.cs_refusal.specs.declared.refusals.Refusal.{Refusal}
 use Rattle.cs_refusal.specs.declared.refusals.Refusal.TheVariants.{DeviceFault, OutOfMemory}
 use Rattle.cs_extent.specs.State.{State as ExtentsState}
 use Rattle.cs_frame.specs.declared.locators.Locator.{Locator}
-use Rattle.law_refinement.specs.ImageReads.{IsLocated, IsRunRead}
+use Rattle.cs_reader.specs.ImageReads.{IsLocated, IsRunRead}
 use Rattle.cs_index.specs.declared.stored_runs.StoredRun.{StoredRun}
 use Rattle.cs_reader.proofs.Lists.{drop_all, drop_some}
 use Rattle.cs_reader.specs.Openings.{IsWhyNotRead}

@@ -6,8 +6,8 @@ use Rattle.cs_refusal.specs.declared.refusals.Refusal.TheVariants.{DeviceFault, 
 use Rattle.cs_disk.specs.Disk.{Image, State as DiskState, page, seen}
 use Rattle.cs_extent.specs.State.{State as ExtentsState, shape}
 use Rattle.cs_frame.specs.Roots.{SpellsRoot}
-use Rattle.law_refinement.specs.Images.{index_at}
-use Rattle.law_refinement.specs.ImageReads.{AreSectionsRead}
+use Rattle.cs_reader.specs.Loads.{index_at}
+use Rattle.cs_reader.specs.ImageReads.{AreSectionsRead}
 use Rattle.cs_index.specs.declared.stored_runs.StoredRun.{StoredRun}
 use Rattle.cs_index.specs.State.{State as IndexState, newest_first}
 use Rattle.law_machine.specs.Geometry.{weigh_in}

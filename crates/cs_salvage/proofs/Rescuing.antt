@@ -5,7 +5,7 @@ use Rattle.cs_chunk.proofs.Framed.{no_fault_there, one_frame}
 use Rattle.cs_chunk.specs.Reads.{IsOfFault, fault_in}
 use Rattle.cs_refusal.specs.declared.refusals.Refusal.{Refusal}
 use Rattle.cs_refusal.specs.declared.refusals.Refusal.TheVariants.{DeviceFault}
-use Rattle.cs_extent.specs.State.{IsWhole, State as ExtentsState, shape}
+use Rattle.cs_extent.specs.State.{IsWhole, State as ExtentsState, extents_at, shape}
 use Rattle.cs_frame.proofs.FormatRunLaws.{fault-spelled}
 use Rattle.cs_frame.specs.declared.faults.FormatFault.{FormatFault}
 use Rattle.cs_frame.specs.declared.frames.FrameKind.TheVariants.{Run}
@@ -13,10 +13,10 @@ use Rattle.cs_frame.specs.FormatRuns.{run_fault}
 use Rattle.cs_frame.specs.declared.locators.Locator.{Locator}
 use Rattle.cs_frame.specs.Formats.{formats_of}
 use Rattle.cs_frame.specs.Geometries.{device_pages}
-use Rattle.law_refinement.proofs.OneByOne.{place_inside}
-use Rattle.law_refinement.proofs.Readable.{all_readable}
-use Rattle.law_refinement.proofs.Superblocks.{read_whole}
-use Rattle.law_refinement.specs.ImageReads.{ArePages, IsReadable, IsRunRead, extents_at}
+use Rattle.cs_reader.proofs.OneByOne.{place_inside}
+use Rattle.cs_reader.proofs.Readable.{all_readable}
+use Rattle.cs_reader.proofs.Superblocks.{read_whole}
+use Rattle.cs_reader.specs.ImageReads.{ArePages, IsReadable, IsRunRead}
 use Rattle.cs_index.proofs.Sorted.{all_at}
 use Rattle.law_machine.specs.Element.{Damaged, Map}
 use Rattle.law_machine.specs.Index.{lookup}

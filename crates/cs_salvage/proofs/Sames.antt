@@ -4,7 +4,7 @@ use Rattle.std.proofs.lemmas.Option.{same_Some}
 use Rattle.sha2.specs.Sha256.{sha256}
 use Rattle.cs_disk.specs.Disk.{Image}
 use Rattle.cs_frame.specs.Frames.{page_count}
-use Rattle.cs_frame.specs.declared.heads.ChunkHead.{ChunkHead}
+use Rattle.cs_frame.specs.declared.frames.ChunkHead.{ChunkHead}
 use Rattle.cs_frame.specs.declared.identifiers.ShardId.{ShardId}
 use Rattle.cs_frame.specs.Geometries.{Dimensions, IsGeometry}
 use Rattle.cs_frame.specs.Identifiers.{id_bytes, id_number}

@@ -3,16 +3,16 @@ use Rattle.std.proofs.Common.{◌≡◌, ◌≢◌, ◌∙◌, ℕ, ◌-◌, ◌
 use Rattle.std.specs.Prelude.{reverse, slice_index}
 use Rattle.std.specs.List.{AllByRecursion}
 use Rattle.std.proofs.lemmas.List.{length-map, length-reverse}
-use Rattle.cs_extent.specs.State.{State as ExtentsState, section_rows, shape}
+use Rattle.cs_extent.specs.State.{State as ExtentsState, extents_at, section_rows, shape}
 use Rattle.cs_frame.specs.declared.locators.Locator.{Locator}
 use Rattle.cs_frame.specs.Formats.{as_locator, formats_of}
 use Rattle.cs_frame.specs.Geometries.{device_pages}
 use Rattle.cs_frame.specs.Roots.{SpellsRoot}
-use Rattle.law_refinement.proofs.Listed.{to_all}
-use Rattle.law_refinement.proofs.Readable.{same_places}
-use Rattle.law_refinement.proofs.Runs.{StandsAt, all_stand, same_listed, same_runs}
-use Rattle.law_refinement.proofs.Superblocks.{read_format, read_whole}
-use Rattle.law_refinement.specs.ImageReads.{ArePages, AreSectionsRead, IsRunRead, SpellsAt, extents_at}
+use Rattle.cs_reader.proofs.Listed.{to_all}
+use Rattle.cs_reader.proofs.Readable.{same_places}
+use Rattle.cs_reader.proofs.Runs.{StandsAt, all_stand, same_listed, same_runs}
+use Rattle.cs_reader.proofs.Superblocks.{read_format, read_whole}
+use Rattle.cs_reader.specs.ImageReads.{ArePages, AreSectionsRead, IsRunRead, SpellsAt}
 use Rattle.cs_index.specs.declared.stored_runs.StoredRun.{StoredRun}
 use Rattle.cs_index.specs.State.{State as IndexState, index_of, newest_first}
 use Rattle.law_machine.specs.Element.{Locator as Place, Map, Run}

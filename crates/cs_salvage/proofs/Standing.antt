@@ -6,7 +6,7 @@ use Rattle.sha2.specs.Sha256.{sha256}
 use Rattle.sha2.proofs.Facts256.{length-sha256}
 use Rattle.cs_disk.specs.Disk.{Image, page}
 use Rattle.cs_frame.specs.declared.faults.FormatFault.{FormatFault}
-use Rattle.cs_frame.specs.declared.heads.ChunkHead.{ChunkHead}
+use Rattle.cs_frame.specs.declared.frames.ChunkHead.{ChunkHead}
 use Rattle.cs_frame.specs.Bytes.{field}
 use Rattle.cs_frame.specs.Faults.{fault_in}
 use Rattle.cs_frame.specs.Frames.{SpellsFrame, first_page, frame_bytes, frame_count, header_fault, page_count, payload_length, spelled_frame}

@@ -8,7 +8,7 @@ use Rattle.cs_refusal.specs.declared.refusals.Refusal.TheVariants.{Misplaced}
 use Rattle.cs_extent.specs.State.{State as ExtentsState, shape}
 use Rattle.cs_frame.specs.declared.locators.Locator.{Locator}
 use Rattle.cs_frame.specs.Formats.{as_locator, formats_of}
-use Rattle.law_refinement.specs.ImageReads.{IsLocated}
+use Rattle.cs_reader.specs.ImageReads.{IsLocated}
 use Rattle.cs_index.specs.State.{index_of}
 use Rattle.law_machine.specs.Element.{Bytes, Content, Damaged}
 use Rattle.law_machine.specs.Index.{joined_bodies, live_at, lookup}

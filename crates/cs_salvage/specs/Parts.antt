@@ -3,7 +3,7 @@ use Rattle.std.specs.Prelude.{◌≡◌, ◌⊎◌, ◌+◌, ◌^◌, ◌<◌, �
 use Rattle.std.specs.List.{AllPairs}
 use Rattle.sha2.specs.Sha256.{sha256}
 use Rattle.cs_disk.specs.Disk.{Image, page}
-use Rattle.cs_frame.specs.declared.heads.ChunkHead.{ChunkHead}
+use Rattle.cs_frame.specs.declared.frames.ChunkHead.{ChunkHead}
 use Rattle.cs_frame.specs.declared.identifiers.ShardId.{ShardId}
 use Rattle.cs_frame.specs.Bytes.{IsBytes}
 use Rattle.cs_frame.specs.Formats.{formats_of}

@@ -5,8 +5,9 @@ use Rattle.cs_refusal.specs.declared.refusals.Refusal.TheVariants.{NotAStore}
 use Rattle.cs_frame.specs.declared.locators.Locator.{Locator}
 use Rattle.cs_frame.specs.Geometries.{IsGeometry, device_pages}
 use Rattle.cs_frame.specs.Roots.{SpellsRoot}
-use Rattle.law_refinement.specs.Images.{index_at}
-use Rattle.law_refinement.specs.ImageReads.{AreSectionsRead, extents_at}
+use Rattle.cs_reader.specs.Loads.{index_at}
+use Rattle.cs_extent.specs.State.{extents_at}
+use Rattle.cs_reader.specs.ImageReads.{AreSectionsRead}
 use Rattle.cs_index.specs.declared.stored_runs.StoredRun.{StoredRun}
 use Rattle.cs_index.specs.State.{newest_first}
 use Rattle.law_machine.specs.Geometry.{weigh_in}

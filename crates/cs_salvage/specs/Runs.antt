@@ -10,7 +10,7 @@ use Rattle.cs_extent.specs.State.{State as ExtentsState}
 use Rattle.cs_frame.specs.declared.frames.FrameKind.TheVariants.{Run}
 use Rattle.cs_frame.specs.declared.locators.Locator.{Locator}
 use Rattle.cs_frame.specs.FormatRuns.{run_fault}
-use Rattle.law_refinement.specs.ImageReads.{IsLocated, IsRunRead}
+use Rattle.cs_reader.specs.ImageReads.{IsLocated, IsRunRead}
 use Rattle.cs_index.specs.declared.stored_runs.StoredRun.{StoredRun}
 use Rattle.law_machine.specs.Formats.{RunFrame}
 use Rattle.cs_salvage.specs.declared.rescued_runs.DamagedRun.{DamagedRun}

@@ -7,7 +7,7 @@ ghost use Rattle.cs_disk.specs.Disk.{Rises, page, seen};
 ghost use Rattle.cs_disk.specs.Reads.{OnlyReads};
 ghost use Rattle.cs_extent.specs.State.{shape};
 ghost use Rattle.cs_frame.specs.Formats.{formats_of};
-ghost use Rattle.law_refinement.specs.ImageReads.{IsLocated};
+ghost use Rattle.cs_reader.specs.ImageReads.{IsLocated};
 ghost use Rattle.cs_index.specs.State.{id_number, index_of};
 ghost use Rattle.law_machine.specs.Index.{joined_bodies, live_at};
 ghost use Rattle.cs_salvage.specs.Answers.{AreMeantBytes, AreReadBytes, IsAbsent, IsUnknown, IsWhyNoChunks, places_of};

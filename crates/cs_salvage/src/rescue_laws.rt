@@ -3,7 +3,7 @@ ghost use Rattle.std.specs.Prelude.{◌≡◌, ◌≢◌, ◌⊎◌, ℕ, List, 
 ghost use Rattle.cs_disk.specs.Disk.{page, seen};
 ghost use Rattle.cs_extent.specs.State.{shape};
 ghost use Rattle.cs_frame.specs.Formats.{formats_of};
-ghost use Rattle.law_refinement.specs.ImageReads.{ArePages};
+ghost use Rattle.cs_reader.specs.ImageReads.{ArePages};
 ghost use Rattle.cs_index.specs.State.{index_of};
 ghost use Rattle.law_machine.specs.Element.{Damaged, Map};
 ghost use Rattle.law_machine.specs.Index.{lookup};

@@ -7,7 +7,7 @@ ghost use Rattle.cs_disk.specs.Reads.{OnlyReads};
 ghost use Rattle.cs_extent.specs.State.{shape};
 ghost use Rattle.cs_frame.specs.Locators.{KeepFormat};
 ghost use Rattle.cs_frame.specs.Runs.{IsRun};
-ghost use Rattle.law_refinement.specs.Images.{index_at};
+ghost use Rattle.cs_reader.specs.Loads.{index_at};
 ghost use Rattle.cs_index.specs.State.{newest_first};
 ghost use Rattle.law_machine.specs.Geometry.{weigh_in};
 ghost use Rattle.law_machine.specs.Index.{entries_of, named_weight};

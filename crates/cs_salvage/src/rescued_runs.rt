@@ -6,7 +6,7 @@ ghost use Rattle.cs_disk.specs.Disk.{page, seen};
 ghost use Rattle.cs_disk.specs.Reads.{OnlyReads};
 ghost use Rattle.cs_extent.specs.State.{shape};
 ghost use Rattle.cs_frame.specs.Runs.{IsRun};
-ghost use Rattle.law_refinement.specs.ImageReads.{IsRunRead};
+ghost use Rattle.cs_reader.specs.ImageReads.{IsRunRead};
 ghost use Rattle.cs_salvage.specs.Founds.{NothingWaits};
 ghost use Rattle.cs_salvage.specs.Runs.{AreNewestRead, IsDamageCaused, IsWhyNoRun};
 

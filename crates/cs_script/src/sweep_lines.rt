@@ -13,7 +13,7 @@ use std::io;
 use std::io::Write;
 
 /// Moves what is live on an extent, retires it, and prints how many chunks were moved and under which root. A sweep that is
-/// refused after it began is abandoned; up to format 2 what was moved stays where it is then, in format 3 it counts where it lay.
+/// refused after it began is abandoned: what was copied counts where it lay (in the older formats it stays where it was moved to).
 pub fn sweep<D: PageDisk, W: Write>(
     core: &mut Core<D>,
     extent: usize,

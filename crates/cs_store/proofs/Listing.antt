@@ -4,7 +4,7 @@ use Rattle.std.specs.Prelude.{◌↔◌, AllPairs, Contains}
 use Rattle.cs_disk.specs.Disk.{State as DiskState}
 use Rattle.cs_extent.specs.State.{IsWhole, shape}
 use Rattle.cs_frame.specs.Formats.{formats_of}
-use Rattle.law_refinement.specs.Counts.{AreThose, HasCount}
+use Rattle.cs_reader.specs.Counts.{AreThose, HasCount}
 use Rattle.cs_index.specs.State.{State as IndexState, index_of}
 use Rattle.law_machine.proofs.Sorted.{sorted_live}
 use Rattle.law_machine.specs.Element.{Entry, Map}

@@ -37,7 +37,7 @@ pub enum PutError {
     Full,
     /// 31 TooLarge: the shard has more than the greatest number of chunks.
     TooLarge,
-    /// 32 IndexFull: the newest entries of the index would weigh more than they may; up to format 2 the index names as many identifiers as it may.
+    /// 32 IndexFull: the newest entries of the index would weigh more than they may. In the older formats: the index names as many identifiers as it may.
     IndexFull,
     /// 35 WornOut: a number would pass its greatest value.
     WornOut,

@@ -6,7 +6,7 @@ ghost use Rattle.cs_core.specs.Views.{kept};
 ghost use Rattle.cs_disk.specs.Disk.{LeavesOnly, Rises, page, seen};
 ghost use Rattle.cs_disk.specs.Reads.{OnlyReads};
 ghost use Rattle.cs_extent.specs.State.{extents_of, shape};
-ghost use Rattle.law_refinement.specs.Counts.{HasCount};
+ghost use Rattle.cs_reader.specs.Counts.{HasCount};
 ghost use Rattle.cs_index.specs.State.{index_of};
 ghost use Rattle.law_machine.specs.Element.{Map};
 ghost use Rattle.law_machine.specs.Extents.{empties};

@@ -59,7 +59,7 @@ impl OpenOptions {
     ///
     /// Refused 1 DeviceFault if the operating system refuses a call, for example if there is no such file or another
     /// process has it; 6 OddLength; 43 NotAStore if no store of that many pages is in it; 20 to 26 for a page that is
-    /// damaged; in format 3 27 RootLost if the root is older than one that was persistent; and 9 OutOfMemory. The file
+    /// damaged; 27 RootLost if the root is older than one that was persistent; and 9 OutOfMemory. The file
     /// is as it was then.
     pub fn open_file<R: Files<File = File>>(
         self,

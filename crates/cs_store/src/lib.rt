@@ -40,7 +40,7 @@ pub use stores::Store;
 // What callers need of the crates below, so that this one is enough.
 pub use cs_core::Limits;
 pub use cs_disk::{FileDisk, MemoryDisk, PageDisk};
-pub use cs_frame::{Geometry, Locator, ShardId};
+pub use cs_frame::{Format, Geometry, Locator, ShardId};
 pub use cs_index::LiveChunk;
 pub use cs_inspect::{Damage, ExtentUse, RunUse, Scrubbed, Stats};
 pub use cs_mount as mount;

@@ -1,8 +1,8 @@
 //! Stores in memory.
-ghost use Rattle.std.specs.Prelude.{◌≡◌, IfErr, IfOk, None, [], replicate};
+ghost use Rattle.std.specs.Prelude.{◌≡◌, IfErr, IfOk, None, []};
 ghost use Rattle.cs_core.specs.Started.{IsNewOn, new_stored};
 ghost use Rattle.cs_twin.specs.Paired.{state_shown};
-ghost use Rattle.cs_mount.specs.StorePairs.{pages_of};
+ghost use Rattle.cs_mount.specs.StorePairs.{blank_disk};
 ghost use Rattle.cs_store.specs.Maps.{HasMap};
 
 use crate::errors::OpenError;
@@ -21,8 +21,7 @@ impl OpenOptions {
         // It has no shard.
         ensures map { IfOk result (λ made. HasMap made (λ id. None)) }
         // The superblock and the root are written and durable, on pages of zeros.
-        ensures written { IfOk result (λ made. IsNewOn self.geometry.format self.geometry.extents self.geometry.pages self.geometry.sections
-            (record { durable = replicate (pages_of self.geometry) (replicate 4096 0); volatile = [] }) (state_shown made.disk)) }
+        ensures written { IfOk result (λ made. IsNewOn self.geometry.format self.geometry.extents self.geometry.pages self.geometry.sections (blank_disk self.geometry) (state_shown made.disk)) }
         ensures refusals { IfErr result (λ error. error ≡ OpenError.OutOfMemory) }
     {
         let OpenOptions {

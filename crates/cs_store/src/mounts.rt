@@ -1,14 +1,14 @@
 //! Stores whose disks have the pages twice that matter most.
-ghost use Rattle.std.specs.Prelude.{◌+◌, ◌<◌, ◌≤◌, ◌↔◌, ◌≡◌, ◌≢◌, ◌⊎◌, Err, IfErr, IfOk, MatchResult, None, OnOk, Some, [], replicate, ℕ};
+ghost use Rattle.std.specs.Prelude.{◌+◌, ◌<◌, ◌≤◌, ◌↔◌, ◌≡◌, ◌≢◌, ◌⊎◌, Err, IfErr, IfOk, MatchResult, None, OnOk, Some, [], ℕ};
 ghost use Rattle.cs_chunk.specs.Reads.{IsNoAnswer};
 ghost use Rattle.cs_reader.specs.Openings.{IsOpeningRefusal, IsWhyNotOpened};
 ghost use Rattle.cs_core.specs.Openings.{IsOpened};
 ghost use Rattle.cs_core.specs.Started.{IsNewOn, new_stored};
-ghost use Rattle.cs_disk.specs.Disk.{Image, MayLeave, flushed, page, seen};
+ghost use Rattle.cs_disk.specs.Disk.{Image, MayLeave, Rises, flushed, page, seen};
 ghost use Rattle.cs_extent.specs.State.{shape};
 ghost use Rattle.cs_frame.specs.Formats.{formats_of};
 ghost use Rattle.cs_frame.specs.Geometries.{IsGeometry, device_pages, section_size};
-ghost use Rattle.law_refinement.specs.Counts.{HasCount};
+ghost use Rattle.cs_reader.specs.Counts.{HasCount};
 ghost use Rattle.law_machine.specs.Element.{Map};
 ghost use Rattle.law_machine.specs.Geometry.{shape_of};
 ghost use Rattle.law_machine.specs.Recovery.{Recovers};
@@ -16,7 +16,7 @@ ghost use Rattle.cs_mount.specs.Looks.{IsTaken};
 ghost use Rattle.cs_twin.specs.Paired.{disk_below, left_as_shown, state_shown};
 ghost use Rattle.cs_twin.specs.Pairs.{shown_state};
 ghost use Rattle.cs_mount.specs.Showing.{ShowsOn, findings_on, shown_on};
-ghost use Rattle.cs_mount.specs.StorePairs.{pages_of, store_pairs, store_version};
+ghost use Rattle.cs_mount.specs.StorePairs.{blank_disk, pages_of, store_pairs, store_version};
 ghost use Rattle.cs_store.specs.Maps.{HasMap};
 
 use crate::options::OpenOptions;
@@ -27,8 +27,8 @@ use cs_refusal::Refusal;
 
 impl OpenOptions {
     /// Makes a new store of the options' geometry on a disk, with nothing in it: flushes the disk, writes the
-    /// superblock and the root, and makes them durable. In format 3 each section and the root have two pages, and one
-    /// of each is written.
+    /// superblock and the root, and makes them durable. Each section and the root have two pages, but in the older
+    /// formats, and one of each is written.
     ///
     /// If the call is refused, it returns the disk. 43 NotAStore: the disk hasn't the geometry's pages. 45 Occupied: a
     /// store is on it, or what is left of one (`MountOptions::create` of cs_mount), and nothing is written or flushed.
@@ -41,7 +41,7 @@ impl OpenOptions {
         ensures map { D.honest disk → IfOk result (λ made. HasMap made (λ id. None)) }
         ensures written { D.honest disk → IfOk result (λ made. IsNewOn self.geometry.format self.geometry.extents self.geometry.pages self.geometry.sections (shown_state (store_version (Some self.geometry)) (store_pairs self.geometry) (flushed (D.state disk))) (state_shown made.disk)) }
         // So it is on pages of zeros.
-        ensures zeros { D.honest disk → (D.state disk).durable ≡ replicate (pages_of self.geometry) (replicate 4096 0) → (D.state disk).volatile ≡ [] → IfOk result (λ made. IsNewOn self.geometry.format self.geometry.extents self.geometry.pages self.geometry.sections (record { durable = replicate (pages_of self.geometry) (replicate 4096 0); volatile = [] }) (state_shown made.disk)) }
+        ensures zeros { D.honest disk → D.state disk ≡ blank_disk self.geometry → IfOk result (λ made. IsNewOn self.geometry.format self.geometry.extents self.geometry.pages self.geometry.sections (blank_disk self.geometry) (state_shown made.disk)) }
         ensures not_a_store { IfErr result (λ refused. (refused.0 ≡ Refusal.NotAStore) ↔ (D.page_count disk ≢ pages_of self.geometry)) }
         ensures pages { MatchResult result (λ made. D.page_count (disk_below made.disk) ≡ D.page_count disk) (λ refused. D.page_count refused.1 ≡ D.page_count disk) }
         ensures honest { MatchResult result (λ made. D.honest disk ↔ D.honest (disk_below made.disk)) (λ refused. D.honest disk ↔ D.honest refused.1) }
@@ -50,6 +50,8 @@ impl OpenOptions {
         ensures same { D.page_count disk ≢ pages_of self.geometry → result ≡ Err (Refusal.NotAStore, disk) }
         // It is refused 45 only where a store is there, or what is left of one.
         ensures occupied { D.honest disk → IfErr result (λ refused. refused.0 ≡ Refusal.Occupied → IsTaken (D.page_count disk) (seen (D.state disk)) (store_version (Some self.geometry)) (store_pairs self.geometry)) }
+        // Of an honest disk the device alone refuses it 1.
+        ensures cause { D.honest disk → IfErr result (λ refused. refused.0 ≡ Refusal.DeviceFault → Rises (D.failure_count disk) (D.failure_count refused.1)) }
         // No store is made there, and it is as it was then.
         ensures taken { D.honest disk → IsTaken (D.page_count disk) (seen (D.state disk)) (store_version (Some self.geometry)) (store_pairs self.geometry) → MatchResult result (λ made. ⊥) (λ refused. D.state refused.1 ≡ D.state disk) }
     {
@@ -70,7 +72,7 @@ impl OpenOptions {
     }
 
     /// Opens the store on a disk, as it was made persistent or as a crash left it: flushes, and reads the superblock,
-    /// the root and the index's runs. In format 3 each section and the root have two pages, and it takes the newest
+    /// the root and the index's runs. Each section and the root have two pages, but in the older formats, and it takes the newest
     /// that is whole. It also returns what these pages hold: `Finding::passed_over` names a page that wasn't taken.
     ///
     /// Nothing is written. If the call is refused, it returns the disk. 43 NotAStore: no store of that many pages is on
@@ -92,6 +94,8 @@ impl OpenOptions {
         // Whatever the disk answers.
         ensures number { IfErr result (λ refused. IsOpeningRefusal refused.0) }
         ensures small { D.page_count disk < 10 → result ≡ Err (Refusal.NotAStore, disk) }
+        // 1 is an answer of the device.
+        ensures cause { IfErr result (λ refused. refused.0 ≡ Refusal.DeviceFault → Rises (D.failure_count disk) (D.failure_count refused.1)) }
         // Nothing is written, whether it is opened or not: the device holds what it held, or that made durable.
         ensures unwritten { D.honest disk → MatchResult result (λ opened. D.state (disk_below opened.0.disk) ≡ flushed (D.state disk)) (λ refused. (D.state refused.1 ≡ D.state disk) ⊎ (D.state refused.1 ≡ flushed (D.state disk))) }
         // Two flushes, and no write; if it is refused, two at most.
@@ -122,7 +126,7 @@ impl OpenOptions {
 impl<D: PageDisk> Store<D> {
     /// What the pages held of which the store has two, as it was opened by `open_file` or `open_older_file`: those of
     /// the root, which show as page 1, and of each section of the superblock. `Finding::passed_over` names a page that
-    /// is damaged. The list is empty for a store that was made, up to format 2, and for one that `open` or `open_older`
+    /// is damaged. The list is empty for a store that was made, for one of the older formats, and for one that `open` or `open_older`
     /// opened, which return it beside the store.
     pub fn findings(&self) -> &[Finding] {
         &self.findings

@@ -3,7 +3,7 @@ ghost use Rattle.std.specs.Prelude.{◌≡◌, ◌≢◌, ◌⊎◌, ◌↔◌, 
 ghost use Rattle.cs_chunk.specs.Reads.{IsNoAnswer};
 ghost use Rattle.cs_reader.specs.Openings.{IsOpeningRefusal, IsWhyNotOpened};
 ghost use Rattle.cs_core.specs.Openings.{IsOpened};
-ghost use Rattle.cs_disk.specs.Disk.{flushed, page, seen};
+ghost use Rattle.cs_disk.specs.Disk.{Rises, flushed, page, seen};
 ghost use Rattle.cs_mount.specs.Older.{older_on};
 ghost use Rattle.cs_mount.specs.OlderDisks.{shown_below, state_lowered};
 ghost use Rattle.cs_mount.specs.Showing.{findings_on};
@@ -41,6 +41,8 @@ impl OpenOptions {
         ensures refusals { D.honest disk → IfErr result (λ refused. IsNoAnswer refused.0 ⊎ ((refused.0 ≡ Refusal.NotAStore) × (dimensions_on (D.page_count disk) (seen (D.state disk)) ≡ None)) ⊎ IsWhyNotOpened (D.page_count disk) (page (older_on (D.page_count disk) (seen (D.state disk)))) refused.0) }
         ensures number { IfErr result (λ refused. IsOpeningRefusal refused.0) }
         ensures small { D.page_count disk < 10 → result ≡ Err (Refusal.NotAStore, disk) }
+        // 1 is an answer of the device.
+        ensures cause { IfErr result (λ refused. refused.0 ≡ Refusal.DeviceFault → Rises (D.failure_count disk) (D.failure_count refused.1)) }
         // Nothing is written, whether it is opened or not: the device holds what it held, or that made durable.
         ensures unwritten { D.honest disk → MatchResult result (λ opened. D.state (disk_below (shown_below opened.0.disk)) ≡ flushed (D.state disk)) (λ refused. (D.state refused.1 ≡ D.state disk) ⊎ (D.state refused.1 ≡ flushed (D.state disk))) }
         // Two flushes, and no write; if it is refused, two at most.

@@ -2,7 +2,7 @@
 ghost use Rattle.std.specs.Prelude.{◌≡◌};
 
 use cs_core::Limits;
-use cs_frame::Geometry;
+use cs_frame::{Format, Geometry};
 use cs_mount::LIMITS;
 use std::alloc::Global;
 use std::marker::Model;
@@ -32,7 +32,7 @@ impl Model for OpenOptions {
 fn default_geometry() -> Geometry
     ensures { result ≡ record { format = 3; extents = 64; pages = 256; sections = 1 } }
 {
-    match Geometry::of_format(3, 64, 256, None) {
+    match Geometry::of_format(Format::three(), 64, 256, None) {
         Ok(geometry) => geometry,
         Err(_) => unreachable!(),
     }

@@ -47,11 +47,11 @@ impl<D: PageDisk> Store<D> {
     /// Sweeps the extent that is worth it, and says what it freed; None where none is. It sweeps as `sweep` does; a `sync` makes it persistent. To
     /// choose, it reads the first page of each live chunk, and takes memory for a list of them.
     ///
-    /// In stores of formats 1 and 2 that is the extent with most pages that no shard has, where these are more than the index takes that the sweep writes
-    /// anew. So each call that answers something frees pages, and a loop that ends at None ends.
+    /// It is the one with fewest live pages of those that hold chunks, where these and the live pages of another one have room on one extent
+    /// (`fewest_live` of cs_inspect). Sweeps of such two give an extent, the first one or the second.
     ///
-    /// In stores of format 3, where chunks and runs lie apart, it is the one with fewest live pages of those that hold chunks, where these and the live
-    /// pages of another one have room on one extent (`fewest_live` of cs_inspect). Sweeps of such two give an extent, the first one or the second.
+    /// In the older formats it is the extent with most pages that no shard has, where these are more than the index takes that the sweep writes
+    /// anew. So each call that answers something frees pages, and a loop that ends at None ends.
     ///
     /// Refused as `sweep` is. 33 NotSweepable isn't to come, since only an extent is chosen that can be swept; the contracts leave it open. In stores of
     /// format 3 it comes while an extent is marked still (`abandon`), and after a sweep that was given up until a `sync`.

@@ -75,7 +75,7 @@ impl<D: PageDisk> Store<D> {
     /// `get` refuses it. No event is kept of it, and a halted store answers it too.
     ///
     /// Refused 1 DeviceFault or 9 OutOfMemory where the disk refused a read so, 20 BadMagic, 22 BadLength or 24 BadVersion where the header of a
-    /// chunk is damaged, by the first test that fails, and in format 3 26 Misplaced where it is that of another frame, or its digest is damaged.
+    /// chunk is damaged, by the first test that fails, and 26 Misplaced where it is that of another frame, or its digest is damaged.
     pub fn size_of(&mut self, id: ShardId) -> Result<Option<usize>, SizeError>
         ensures answer { (m : Map) → HasMap self.old m → D.honest self.old.disk → IsSized (m (id_number id)) result }
         // Also of a damaged shard what is told is what the headers say.

@@ -45,7 +45,8 @@ impl<D: PageDisk> Store<D> {
     ///
     /// Refused 33 NotSweepable where the extent is open, empty, being swept or not there, in stores of format 3 where it is empty, holds runs or isn't
     /// there, where any extent is being swept, and after a sweep that was given up until a `sync`; 1 DeviceFault; 9 OutOfMemory, where the extent may be being
-    /// swept still; 20 BadMagic, 21 BadDigest, 22 BadLength, 23 BadPadding or 24 BadVersion where a chunk is damaged, and in format 3 26 Misplaced where another frame lies there, of the chunk that `first_on` tells; 30 Full; 34 StillLive; 35 WornOut;
+    /// swept still; 20 BadMagic, 21 BadDigest, 22 BadLength, 23 BadPadding or 24 BadVersion where a chunk is damaged, and 26 Misplaced where
+    /// another frame lies there, of the chunk that `first_on` tells; 30 Full; 34 StillLive; 35 WornOut;
     /// 40 Halted; and 41 HistoryFull where more chunks are to be moved than further events may be kept, of which it makes sure of one alone: sync ahead
     /// of it, or sweep again.
     pub fn sweep(&mut self, extent: usize) -> Result<Swept, SweepError>

@@ -6,6 +6,7 @@ pub mod Right
 pub mod Writing
 pub mod Over
 pub mod Opening
+pub mod Taking
 pub mod Tearing
 pub mod Becoming
 pub mod Mending

@@ -1,8 +1,8 @@
 -- What is noted of pairs.
-use Rattle.std.specs.Prelude.{◌≡◌, ◌+◌, ◌-◌, ◌^◌, ℕ, Bool, List, Some, length, map, min, slice_get}
+use Rattle.std.specs.Prelude.{◌≡◌, ◌≢◌, ◌+◌, ◌-◌, ◌^◌, ℕ, Bool, List, Some, length, map, min, slice_get}
 use Rattle.cs_disk.specs.Disk.{State, Write, seen}
 use Rattle.cs_twin.specs.declared.notes.Notes.{Notes}
-use Rattle.cs_twin.specs.declared.notes.Trust.TheVariants.{Read, Unread}
+use Rattle.cs_twin.specs.declared.notes.Trust.TheVariants.{Doubted, Read, Unread}
 use Rattle.cs_twin.specs.declared.pairs.Pair.{Pair}
 use Rattle.cs_twin.specs.declared.twin_places.Place.{Place}
 use Rattle.cs_twin.specs.declared.twin_places.Place.TheVariants.{Own, OfPair, OfTwin}
@@ -30,6 +30,14 @@ pub record AreRight (V : Versions) (pairs : List Pair) (notes : Notes) (s : Stat
   pub durable : notes.trust ≡ Read → notes.durable.items ≡ map (held_in V s.durable) pairs
   pub newest : notes.trust ≡ Read → notes.newest.items ≡ map (held_in V (seen s)) pairs
   pub unwritten : notes.trust ≡ Unread → NoneIsWritten pairs s
+
+-- no write is in doubt, so no read and no flush is refused without the device
+abbrev pub IsUndoubted : Notes → Type 0
+IsUndoubted notes = notes.trust ≢ Doubted
+
+-- how many calls were refused without the device
+abbrev pub refused_of : Notes → ℕ
+refused_of notes = notes.refused
 
 -- how many calls failed: those of the device, and those that were refused without it
 abbrev pub failed : ℕ → Notes → ℕ

@@ -5,7 +5,7 @@ use Rattle.cs_disk.specs.Disk.{Image, State}
 use Rattle.cs_twin.specs.declared.paired.Paired.{Paired}
 use Rattle.cs_twin.specs.declared.pairs.Pair.{Pair}
 use Rattle.cs_twin.specs.declared.pairs.PageRules.{Ghosts as PageRules}
-use Rattle.cs_twin.specs.Noted.{failed}
+use Rattle.cs_twin.specs.Noted.{IsUndoubted, failed, refused_of}
 use Rattle.cs_twin.specs.Pairs.{Versions, left_shown, shown_state}
 
 -- the disk below
@@ -31,6 +31,14 @@ state_shown {disks = disks} {rules = rules} p = shown_state (rules.version p.rul
 -- how many of its calls failed
 abbrev pub failures_of : {D R : Type 0} {disks : PageDisk D} {rules : PageRules R} → Paired D R disks rules → ℕ
 failures_of {disks = disks} p = failed (disks.failure_count p.disk) p.notes
+
+-- how many of these it refused itself
+abbrev pub refusals_of : {D R : Type 0} {disks : PageDisk D} {rules : PageRules R} → Paired D R disks rules → ℕ
+refusals_of p = refused_of p.notes
+
+-- it refuses no read and no flush itself
+abbrev pub IsSound : {D R : Type 0} {disks : PageDisk D} {rules : PageRules R} → Paired D R disks rules → Type 0
+IsSound p = IsUndoubted p.notes
 
 -- its moment, and the images that a crash at some moment from one on might have left, as they show
 abbrev pub moment_of : {D R : Type 0} {disks : PageDisk D} {rules : PageRules R} → Paired D R disks rules → ℕ

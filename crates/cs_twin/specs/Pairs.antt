@@ -29,6 +29,10 @@ is_turned V image x = nat_le (version_at V image x false) (version_at V image x 
 abbrev pub held_in : Versions → Image → Pair → Held
 held_in V image x = record { turned = is_turned V image x; version = version_at V image x (is_turned V image x) }
 
+-- these bytes are newer than what either half of a pair holds
+abbrev pub IsNewer : Versions → Image → Pair → List ℕ → Type 0
+IsNewer V image x bytes = version_at V image x (is_turned V image x) < V x.page bytes
+
 -- No page of the device is a half of two pairs, nor both halves of one, and each is there.
 pub record ArePairs (pairs : List Pair) (pages : ℕ) : Type 0 where
   pub inside : (k : ℕ) (x : Pair) (twin : Bool) → slice_get pairs k ≡ Some x → half x twin < pages

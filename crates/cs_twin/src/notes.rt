@@ -31,13 +31,13 @@ pub struct Notes {
 
 impl Notes {
     ghost use Rattle.std.specs.Prelude.{◌≡◌, ◌<◌, ◌+◌, ◌-◌, ◌^◌, ◌↔◌, ◌⊎◌, [], Bool, Some, IfOk, IsErrOf, OnErr, OnOk, length, min, not, slice_get};
-    ghost use Rattle.cs_disk.specs.Disk.{Counts, GoesOn, HasCause, LeavesOnly, MayLeave, flushed, page, seen, written};
+    ghost use Rattle.cs_disk.specs.Disk.{Counts, GoesOn, HasCause, LeavesOnly, MayLeave, StaysSound, flushed, page, seen, written};
     ghost use Rattle.cs_disk.specs.Reads.{OnlyReads};
     ghost use Rattle.cs_twin.specs.declared.pairs.Pair.{Pair};
     ghost use Rattle.cs_twin.specs.Findings.{AreMended, finding_in, mended, passed_over};
     ghost use Rattle.cs_twin.specs.Fitting.{IsFit};
-    ghost use Rattle.cs_twin.specs.Noted.{AreNotes, AreRight, failed};
-    ghost use Rattle.cs_twin.specs.Pairs.{ArePairs, half, is_turned, shown, shown_state};
+    ghost use Rattle.cs_twin.specs.Noted.{AreNotes, AreRight, IsUndoubted, failed, refused_of};
+    ghost use Rattle.cs_twin.specs.Pairs.{ArePairs, IsNewer, half, is_turned, shown, shown_state};
 
     /// Notes of so many pairs, of which nothing was read yet.
     pub fn new(alloc: Global, count: usize) -> Result<Self, AllocError>
@@ -89,6 +89,7 @@ impl Notes {
         ensures right { D.honest disk.new → AreRight (R.version rules.now) pairs.now self.new (D.state disk.new) }
         ensures disk { OnlyReads D.PageDisk disk.old disk.new }
         ensures cause { HasCause (failed (D.failure_count disk.old) self.old) (failed (D.failure_count disk.new) self.new) result }
+        ensures sound { StaysSound IsUndoubted refused_of self.old self.new }
     {
         match self.trust {
             Trust::Read => Ok(()),
@@ -123,6 +124,7 @@ impl Notes {
         ensures right { D.honest disk.new → AreRight (R.version rules.now) pairs.now self.new (D.state disk.new) }
         ensures disk { OnlyReads D.PageDisk disk.old disk.new }
         ensures cause { HasCause (failed (D.failure_count disk.old) self.old) (failed (D.failure_count disk.new) self.new) result }
+        ensures sound { StaysSound IsUndoubted refused_of self.old self.new }
     {
         match self.refresh(disk, rules, pairs) {
             Ok(()) => disk.read(half_of(pairs[k], self.newest[k].turned), buffer),
@@ -157,6 +159,8 @@ impl Notes {
         ensures notes { AreNotes pairs.now self.new }
         ensures right { D.honest disk.new → AreRight (R.version rules.now) pairs.now self.new (D.state disk.new) }
         ensures cause { HasCause (failed (D.failure_count disk.old) self.old) (failed (D.failure_count disk.new) self.new) result }
+        ensures taken { D.honest disk.old → (x : Pair) → slice_get pairs.now k ≡ Some x → IsNewer (R.version rules.now) (seen (D.state disk.old)) x bytes.now → refused_of self.new ≡ refused_of self.old }
+        ensures sound { OnOk result (IsUndoubted self.new) }
     {
         let pair = pairs[k];
         let version = match rules.version_of(pair.page, bytes) {
@@ -212,6 +216,8 @@ impl Notes {
         ensures notes { AreNotes pairs.now self.new }
         ensures right { D.honest disk.new → AreRight (R.version rules.now) pairs.now self.new (D.state disk.new) }
         ensures cause { HasCause (failed (D.failure_count disk.old) self.old) (failed (D.failure_count disk.new) self.new) result }
+        ensures taken { D.honest disk.old → IsUndoubted self.old → (x : Pair) → slice_get pairs.now k ≡ Some x → IsNewer (R.version rules.now) (seen (D.state disk.old)) x bytes.now → refused_of self.new ≡ refused_of self.old }
+        ensures sound { OnOk result (IsUndoubted self.new) }
     {
         match self.refresh(disk, rules, pairs) {
             Ok(()) => self.write_half(disk, rules, pairs, k, bytes),
@@ -238,6 +244,7 @@ impl Notes {
         ensures notes { AreNotes pairs.now self.new }
         ensures right { D.honest disk.new → AreRight (R.version rules.now) pairs.now self.new (D.state disk.new) }
         ensures cause { HasCause (failed (D.failure_count disk.old) self.old) (failed (D.failure_count disk.new) self.new) result }
+        ensures sound { StaysSound IsUndoubted refused_of self.old self.new }
     {
         if let Trust::Doubted = self.trust {
             return self.refuse();
@@ -274,6 +281,7 @@ impl Notes {
         ensures notes { AreNotes pairs.now self.new }
         ensures right { D.honest disk.new → AreRight (R.version rules.now) pairs.now self.new (D.state disk.new) }
         ensures cause { HasCause (failed (D.failure_count disk.old) self.old) (failed (D.failure_count disk.new) self.new) result }
+        ensures refused { refused_of self.new ≡ refused_of self.old }
     {
         // Called for its contract alone: what is kept by a write and a flush.
         rules.keep();
@@ -317,6 +325,7 @@ impl Notes {
         ensures notes { AreNotes pairs.now self.new }
         ensures right { D.honest disk.new → AreRight (R.version rules.now) pairs.now self.new (D.state disk.new) }
         ensures cause { HasCause (failed (D.failure_count disk.old) self.old) (failed (D.failure_count disk.new) self.new) result }
+        ensures refused { IsUndoubted self.old → refused_of self.new ≡ refused_of self.old }
     {
         // Called for its contract alone: what is kept by a flush.
         rules.keep();
@@ -347,6 +356,7 @@ impl Notes {
         ensures notes { AreNotes pairs.now self.new }
         ensures right { D.honest disk.new → AreRight (R.version rules.now) pairs.now self.new (D.state disk.new) }
         ensures cause { HasCause (failed (D.failure_count disk.old) self.old) (failed (D.failure_count disk.new) self.new) result }
+        ensures refused { refused_of self.new ≡ refused_of self.old }
     {
         for k in 0..pairs.len() {
             match self.rewrite(disk, rules, pairs, k) {
@@ -378,6 +388,7 @@ impl Notes {
         ensures notes { AreNotes pairs.now self.new }
         ensures right { D.honest disk.new → AreRight (R.version rules.now) pairs.now self.new (D.state disk.new) }
         ensures cause { HasCause (failed (D.failure_count disk.old) self.old) (failed (D.failure_count disk.new) self.new) result }
+        ensures refused { IsUndoubted self.old → refused_of self.new ≡ refused_of self.old }
     {
         // Called for its contract alone: what is kept by a flush.
         rules.keep();

@@ -1,9 +1,10 @@
 // A disk in pairs.
 ghost use Rattle.std.specs.Prelude.{◌≡◌};
-ghost use Rattle.cs_disk.specs.Disk.{IsWhole};
+ghost use Rattle.cs_disk.specs.Disk.{IsWhole, seen};
 ghost use Rattle.cs_twin.specs.Fitting.{IsFit};
 ghost use Rattle.cs_twin.specs.Laws.{ShowsKept};
-ghost use Rattle.cs_twin.specs.Noted.{AreNotes, AreRight, failed};
+ghost use Rattle.cs_twin.specs.Kept.{TakesWrite};
+ghost use Rattle.cs_twin.specs.Noted.{AreNotes, AreRight, IsUndoubted, failed, refused_of};
 ghost use Rattle.cs_twin.specs.Pairs.{ArePairs, left_shown, shown_state};
 
 use crate::findings::Finding;
@@ -41,11 +42,11 @@ pub struct Paired<D: PageDisk, R: PageRules> {
 impl<D: PageDisk, R: PageRules> Paired<D, R> {
     ghost use Rattle.std.specs.Prelude.{◌↔◌, ◌≢◌, ◌⊎◌, ◌+◌, ◌<◌, ◌≤◌, [], ℕ, None, Some, IfErr, IfOk, MatchResult, OnOk, length, map, slice_get};
     ghost use Rattle.std.specs.List.{AllByRecursion};
-    ghost use Rattle.cs_disk.specs.Disk.{HasCause, LeavesOnly, MayLeave, Rises, flushed, page, seen};
+    ghost use Rattle.cs_disk.specs.Disk.{HasCause, LeavesOnly, MayLeave, Rises, StaysSound, flushed, page};
     ghost use Rattle.cs_disk.specs.Reads.{OnlyReads};
     ghost use Rattle.cs_twin.specs.declared.pairs.Pair.{Pair};
     ghost use Rattle.cs_twin.specs.Findings.{finding_in, mended, passed_over};
-    ghost use Rattle.cs_twin.specs.Paired.{disk_below, failures_of, left_as_shown, moment_of, pairs_of, rules_of, state_shown, versions_of};
+    ghost use Rattle.cs_twin.specs.Paired.{IsSound, disk_below, failures_of, left_as_shown, moment_of, pairs_of, refusals_of, rules_of, state_shown, versions_of};
     ghost use Rattle.cs_twin.specs.Pairs.{AreNoOlder, half, is_turned};
 
     /// A disk in these pairs: it flushes the disk below, and has what the rules keep of it. What lies in the pairs is read later.
@@ -64,6 +65,8 @@ impl<D: PageDisk, R: PageRules> Paired<D, R> {
         ensures pages { MatchResult result (λ p. D.page_count (disk_below p) ≡ D.page_count disk) (λ refused. D.page_count refused.1 ≡ D.page_count disk) }
         ensures failures { IfOk result (λ p. D.failure_count disk ≤ D.failure_count (disk_below p)) }
         ensures cause { IfErr result (λ refused. refused.0 ≡ DiskFault.DeviceFault → Rises (D.failure_count disk) (D.failure_count refused.1)) }
+        ensures refusals { IfOk result (λ p. refusals_of p ≡ 0) }
+        ensures sound { IfOk result (λ p. IsSound p) }
     {
         let notes = match Notes::new(alloc, pairs.len()) {
             Ok(notes) => notes,
@@ -88,6 +91,8 @@ impl<D: PageDisk, R: PageRules> Paired<D, R> {
         ensures rules { rules_of self.new ≡ rules_of self.old }
         ensures disk { OnlyReads D.PageDisk (disk_below self.old) (disk_below self.new) }
         ensures cause { HasCause (D.failure_count (disk_below self.old)) (D.failure_count (disk_below self.new)) result }
+        ensures sound { StaysSound IsSound refusals_of self.old self.new }
+        ensures refusals { refusals_of self.new ≡ refusals_of self.old }
     {
         read_findings(alloc, &mut self.disk, &self.rules, &self.pairs)
     }
@@ -110,6 +115,8 @@ impl<D: PageDisk, R: PageRules> Paired<D, R> {
         ensures pairs { pairs_of self.new ≡ pairs_of self.old }
         ensures rules { rules_of self.new ≡ rules_of self.old }
         ensures cause { HasCause (failures_of self.old) (failures_of self.new) result }
+        // Where no write was in doubt it is refused by the disk below alone.
+        ensures refusals { IsSound self.old → refusals_of self.new ≡ refusals_of self.old }
     {
         self.notes
             .repair(&mut self.disk, &self.rules, &self.pairs, place)
@@ -135,6 +142,8 @@ impl<D: PageDisk, R: PageRules> Paired<D, R> {
         ensures pairs { pairs_of self.new ≡ pairs_of self.old }
         ensures rules { rules_of self.new ≡ rules_of self.old }
         ensures cause { HasCause (failures_of self.old) (failures_of self.new) result }
+        // Where no write was in doubt it is refused by the disk below alone.
+        ensures refusals { IsSound self.old → refusals_of self.new ≡ refusals_of self.old }
     {
         self.notes
             .repair_all(&mut self.disk, &self.rules, &self.pairs)
@@ -162,6 +171,8 @@ impl<D: PageDisk, R: PageRules> Paired<D, R> {
         ensures pages { MatchResult result (λ opened. D.page_count (disk_below opened.0) ≡ D.page_count disk) (λ refused. D.page_count refused.1 ≡ D.page_count disk) }
         ensures failures { IfOk result (λ opened. D.failure_count disk ≤ D.failure_count (disk_below opened.0)) }
         ensures cause { IfErr result (λ refused. refused.0 ≡ DiskFault.DeviceFault → Rises (D.failure_count disk) (D.failure_count refused.1)) }
+        ensures refusals { IfOk result (λ opened. refusals_of opened.0 ≡ 0) }
+        ensures sound { IfOk result (λ opened. IsSound opened.0) }
     {
         let mut paired = match Paired::new(alloc, disk, rules, pairs) {
             Ok(paired) => paired,
@@ -212,6 +223,12 @@ impl<D: PageDisk, R: PageRules> PageDisk for Paired<D, R> {
     ghost page_count = { λ p. D.page_count p.disk };
 
     ghost failure_count = { λ p. failed (D.failure_count p.disk) p.notes };
+
+    ghost refusal_count = { λ p. refused_of p.notes };
+
+    ghost sound = { λ p. IsUndoubted p.notes };
+
+    ghost takes = { λ p. TakesWrite (R.version p.rules) (R.allowed p.rules) p.pairs.items (seen (D.state p.disk)) };
 
     ghost moment = { λ p. D.moment p.disk };
 

@@ -79,6 +79,12 @@ impl PageDisk for TearDisk {
 
     ghost failure_count = { λ _. 0 };
 
+    ghost refusal_count = { λ _. 0 };
+
+    ghost sound = { λ _. Unit {0} };
+
+    ghost takes = { λ _ _ _. Unit {0} };
+
     ghost moment = { λ d. memory_moment d.disk };
 
     ghost left_since = { λ d. memory_left_since d.disk };

@@ -25,13 +25,13 @@ pub struct Swept {
 }
 
 /// Moves what is live on an extent and retires it, and gives how many chunks were moved and under which root it was retired. A sweep that is
-/// refused after it began is abandoned: up to format 2 what was moved stays where it is then; in format 3 it counts where it lay,
-/// and the copies are garbage, with which no sweep begins before the next root.
+/// refused after it began is abandoned. What was copied counts where it lay then, and the copies are garbage, with which no sweep begins
+/// before the next root; in the older formats it stays where it was moved to.
 ///
-/// Refused 33 NotSweepable where the extent is empty, being swept or not there; up to format 2 where it is open, in format 3 where it holds
-/// runs, or another sweep goes on or was given up since the last root; 41 HistoryFull where as many events are kept as may be;
-/// 40 Halted; 20 BadMagic, 21 BadDigest, 22 BadLength, 23 BadPadding or 24 BadVersion where a chunk that is to be moved is damaged; 26 Misplaced,
-/// in format 3 alone, where another frame lies in its place; 30 Full;
+/// Refused 33 NotSweepable where the extent is empty, being swept or not there, where it holds runs, or where another sweep goes on or was
+/// given up since the last root (in the older formats where it is open); 41 HistoryFull where as many events are kept as may be;
+/// 40 Halted; 20 BadMagic, 21 BadDigest, 22 BadLength, 23 BadPadding or 24 BadVersion where a chunk that is to be moved is damaged; 26 Misplaced
+/// where another frame lies in its place; 30 Full;
 /// 34 StillLive, by the Retire; 35 WornOut; 1 DeviceFault; and 9 OutOfMemory, also where there was none for the Abandon: the extent is being
 /// swept still then. Whatever the disk does, it is refused for nothing else. It reads each chunk that it moves; what it stages waits until it is
 /// written back.

@@ -23,7 +23,7 @@ use Rattle.cs_frame.specs.declared.locators.Locator.{Locator}
 use Rattle.cs_extent.specs.Appended.{IsAppendedBy}
 use Rattle.cs_extent.specs.Frames.{IsOfFrame, family_of, next_section, root_family, root_recorded}
 use Rattle.cs_extent.specs.State.{State, extents_of, need_of, section_rows, shape}
-use Rattle.law_refinement.proofs.Superblocks.{not_first, own_format, section_listed}
+use Rattle.cs_reader.proofs.Superblocks.{not_first, own_format, section_listed}
 use Rattle.law_refinement.specs.Bridge.{name}
 use Rattle.law_refinement.specs.Stores.{AreWritesOf, IsStagingOf, IsWorldOf}
 use Rattle.law_refinement.proofs.Places.{not_one, one_family}

@@ -4,7 +4,6 @@ use Rattle.std.proofs.lemmas.Bool.{cases_lt, false_from_ne_true}
 use Rattle.std.specs.Prelude.{if◌then◌else◌}
 use Rattle.cs_deps.specs.State.{State as GraphState}
 use Rattle.cs_extent.specs.Appended.{AreAppended}
-use Rattle.cs_extent.specs.Changes.{emptied_in}
 use Rattle.cs_extent.specs.State.{IsWhole, State as ExtentsState, extents_of, shape}
 use Rattle.cs_frame.specs.declared.locators.Locator.{Locator}
 use Rattle.cs_frame.specs.Formats.{as_locator, formats_of, place_of}
@@ -210,9 +209,7 @@ module _ (x : ExtentsState) (g : GraphState) (i : IndexState) (s : State) (whole
       let staged = root_staged_as mid done.between h merged.0 v commands j.runs some_here merged.2 root (shape x) merged.4 (map_now s) pointers in
       let rooted_world : World = happens (shape x) merged.0 (StageRoot commands j.runs (map_now s) pointers) in
       let emptied_now : Extents = marked (forgotten (shape x).apart (emptied merged.0.extents e (suc merged.0.root)) e) e false in
-      let is : extents_of y ≡ emptied_now = extents ∙ ap (λ (S : Shape). marked (emptied_in S (extents_of mid) e v) e false) merged.4
-      ∙ ap (λ (b : Bool). marked (record (emptied (extents_of mid) e v) { found = if b then with (extents_of mid).found e 0 else (extents_of mid).found }) e false) together
-      ∙ ap (λ (z : Extents). marked (emptied z e v) e false) (sym merged.2.extents)
+      let is : extents_of y ≡ emptied_now = extents ∙ ap (λ (z : Extents). marked (emptied z e v) e false) (sym merged.2.extents)
       ∙ ap (λ (k : ℕ). marked (emptied merged.0.extents e k) e false) version
       ∙ ap (λ (b : Bool). marked (forgotten b (emptied merged.0.extents e (suc merged.0.root)) e) e false) (sym together) in (
         retired (shape x) (formats_of (shape x)) before j.runs e,

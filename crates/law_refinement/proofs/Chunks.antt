@@ -15,8 +15,8 @@ use Rattle.law_machine.specs.Formats.{ChunkFrame, Formats, Stand, fault_for, pag
 use Rattle.law_machine.specs.Meant.{same_mark}
 use Rattle.law_machine.specs.Local.{LiesBelow}
 use Rattle.law_machine.specs.Refusal.{Misplaced, Refusal}
-use Rattle.law_refinement.specs.ImageReads.{ArePages}
-use Rattle.law_refinement.proofs.Listed.{bytes_joined, each_has}
+use Rattle.cs_reader.specs.ImageReads.{ArePages}
+use Rattle.cs_reader.proofs.Listed.{bytes_joined, each_has}
 
 length-from : (S : Shape) (F : Formats) (view : ℕ → Page) (e i n : ℕ) → length (pages_from S F view e i n) ≡ n
 length-from S F view e i zero = refl

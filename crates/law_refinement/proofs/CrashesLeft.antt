@@ -8,7 +8,7 @@ use Rattle.cs_disk.specs.Disk.{Image, MayLeave, State as DiskState, Write, kept,
 use Rattle.cs_extent.specs.State.{IsWhole, State as ExtentsState, shape}
 use Rattle.cs_frame.proofs.GeometryLaws.{lies_in_device}
 use Rattle.cs_frame.specs.Formats.{formats_of}
-use Rattle.law_refinement.specs.ImageReads.{page_total}
+use Rattle.cs_reader.specs.ImageReads.{page_total}
 use Rattle.law_machine.proofs.Crash.{leaves_torn}
 use Rattle.law_machine.proofs.LocalRecovery.{recovers_alike, recovers_alike_but}
 use Rattle.law_machine.proofs.Unique.{one_recovery}

@@ -4,7 +4,7 @@ use Rattle.std.specs.Prelude.{slice_index}
 use Rattle.std.specs.List.{AllByRecursion}
 use Rattle.std.proofs.lemmas.List.{length-map}
 use Rattle.cs_reclaim.specs.cs_chunk.Chunks.{end_in}
-use Rattle.cs_extent.specs.State.{State as ExtentsState, extents_of, section_rows, shape}
+use Rattle.cs_extent.specs.State.{State as ExtentsState, extents_at, extents_of, section_rows, shape}
 use Rattle.cs_frame.specs.declared.locators.Locator.{Locator}
 use Rattle.cs_frame.proofs.FormatLaws.{root_fits_from}
 use Rattle.cs_frame.specs.Formats.{as_locator, formats_of, place_of}
@@ -27,13 +27,14 @@ use Rattle.law_machine.specs.Index.{AllPass, Gives, Holds, InBounds, Passes, Rea
 use Rattle.law_machine.specs.Lists.{◌∈◌}
 use Rattle.law_machine.specs.Recovery.{Recovers}
 use Rattle.law_machine.specs.Refusal.{Refusal}
-use Rattle.law_refinement.specs.Images.{IsFoundAs}
-use Rattle.law_refinement.specs.ImageReads.{AreExtentsNoted, AreLocated, ArePages, AreVisibleLocated, IsLocated, IsRunRead, IsStoreRead, IsVisibleStoreRead, extents_at}
+use Rattle.law_refinement.specs.Images.{IsFoundAs, AreExtentsNoted}
+use Rattle.cs_reader.specs.ImageReads.{AreLocated, ArePages, IsLocated, IsRunRead, IsStoreRead, IsVisibleStoreRead}
 use Rattle.law_refinement.proofs.Chunks.{chunk_or_fault}
-use Rattle.law_refinement.proofs.Listed.{found_in, in_all, in_entries, oldest_places}
-use Rattle.law_refinement.proofs.Reaches.{end_is_limit}
-use Rattle.law_refinement.proofs.Runs.{Stored, stands_meant, stands_reach, stands_read, stored_read}
-use Rattle.law_refinement.proofs.Superblocks.{extents_are, extents_fit, extents_with, read_as, read_below, read_fits, read_found, read_listed, read_whole, section_formats, zero_formats}
+use Rattle.cs_reader.proofs.Listed.{found_in, in_all, in_entries, oldest_places}
+use Rattle.cs_reader.proofs.Reaches.{end_is_limit}
+use Rattle.cs_reader.proofs.Runs.{Stored, stands_meant, stands_reach, stands_read, stored_read}
+use Rattle.cs_reader.proofs.Superblocks.{extents_are, extents_fit, extents_with, read_as, read_below, read_fits, read_found, read_listed, read_whole, section_formats, zero_formats}
+use Rattle.cs_reader.proofs.Located.{visible_of}
 
 module _ (view : ℕ → List ℕ) (format : ℕ) (versions records : List ℕ) (pages : ℕ) (written : List (ℕ × ℕ)) (root commands : ℕ) (runs : List StoredRun)
     (read : IsVisibleStoreRead view format versions records pages written root commands runs)
@@ -314,31 +315,6 @@ module _ (view : ℕ → List ℕ) (format : ℕ) (versions records : List ℕ) 
         → (m : Map) × (found : Recovers (shape x) (formats_of (shape x)) view commands m)
         × IsFoundAs (shape x) (formats_of (shape x)) view commands m found noted versions root (newest_first runs)
     noted_recovers noted on is = recovers_by noted (noted_so noted on is)
-
--- ---- where each entry names what is there
-
--- each locator of an entry is located
-abbrev IsEntryLocated : ExtentsState → Entry → Type 0
-IsEntryLocated x e = (k : Place) → k ∈ e.locators → IsLocated x (as_locator k)
-
-places_located : (x : ExtentsState) (ls : List Locator) → AllByRecursion (IsLocated x) ls → (k : Place) → k ∈ map place_of ls → IsLocated x (as_locator k)
-places_located x [] each k none = absurd none
-places_located x (j ∷ ls) each k (inl is) = subst (λ (q : Place). IsLocated x (as_locator q)) (sym is) each.0
-places_located x (j ∷ ls) each k (inr has) = places_located x ls each.1 k has
-
-entries_located : (x : ExtentsState) (xs : Stored) → AllByRecursion (λ entry. AllByRecursion (IsLocated x) entry.1.items) xs → AllByRecursion (IsEntryLocated x) (map named_entry xs)
-entries_located x [] each = tt
-entries_located x (e ∷ xs) each = (places_located x e.1.items each.0, entries_located x xs each.1)
-
-runs_located : (x : ExtentsState) (xs : List StoredRun) → AreLocated x xs → AllByRecursion (λ run. AllByRecursion (IsEntryLocated x) (run_of run).entries) xs
-runs_located x [] each = tt
-runs_located x (run ∷ xs) each = (entries_located x run.entries.items each.0, runs_located x xs each.1)
-
--- what is located of all entries is of those that are visible
-pub visible_of : (x : ExtentsState) (runs : List StoredRun) → AreLocated x runs → AreVisibleLocated x runs
-visible_of x runs all id = found_in (IsEntryLocated x) (λ (o : Option (List Place)). (k : Place) → k ∈ live o → IsLocated x (as_locator k)) (λ k none. absurd none) (λ e is. is)
-    (entries_of (newest_first runs))
-    (in_entries (IsEntryLocated x) (newest_first runs) (all_newest (λ run. AllByRecursion (IsEntryLocated x) run.entries) runs (runs_located x runs all))) id
 
 module _ (view : ℕ → List ℕ) (format : ℕ) (versions records : List ℕ) (pages : ℕ) (written : List (ℕ × ℕ)) (root commands : ℕ) (runs : List StoredRun)
     (read : IsStoreRead view format versions records pages written root commands runs) where

@@ -1,14 +1,6 @@
 pub mod Chunks
-pub mod Entries
-pub mod Families
 pub mod Found
-pub mod Listed
 pub mod New
-pub mod Reaches
-pub mod Readable
-pub mod Runs
-pub mod OneByOne
-pub mod Superblocks
 pub mod Places
 pub mod Heights
 pub mod Closing

@@ -3,7 +3,7 @@ use Rattle.std.proofs.Common.{◌≡◌, ℕ, ◌-◌, ◌<◌, ◌≤◌, List,
 use Rattle.std.specs.Prelude.{replicate, slice_index}
 use Rattle.std.proofs.lemmas.List.{drop-replicate, get_or-replicate, length-replicate, take-replicate}
 use Rattle.cs_extent.proofs.Sections.{part_inside}
-use Rattle.cs_extent.specs.State.{IsWhole, State as ExtentsState, section_rows, shape}
+use Rattle.cs_extent.specs.State.{IsWhole, State as ExtentsState, extents_at, section_rows, shape}
 use Rattle.cs_frame.proofs.FormatLaws.{root_fits_from}
 use Rattle.cs_frame.specs.Formats.{extents_of as listed_extents, formats_of}
 use Rattle.cs_frame.specs.Geometries.{IsGeometry, section_length, section_start}
@@ -11,10 +11,10 @@ use Rattle.cs_frame.specs.Roots.{SpellsRoot}
 use Rattle.cs_frame.specs.Superblocks.{spelled_superblock}
 use Rattle.law_machine.specs.Recovery.{IsNew, Recovers}
 use Rattle.law_refinement.specs.Images.{AreNewSections, IsFoundAs}
-use Rattle.law_refinement.specs.ImageReads.{AreSectionsRead, IsStoreRead, SpellsAt, extents_at}
+use Rattle.cs_reader.specs.ImageReads.{AreSectionsRead, IsStoreRead, SpellsAt}
 use Rattle.law_refinement.proofs.Found.{found_as}
-use Rattle.law_refinement.proofs.Listed.{all_default}
-use Rattle.law_refinement.proofs.Superblocks.{empty_extents_are, not_first, of_section, own_format, read_whole, section_listed}
+use Rattle.cs_reader.proofs.Listed.{all_default}
+use Rattle.cs_reader.proofs.Superblocks.{empty_extents_are, not_first, of_section, own_format, read_whole, section_listed}
 
 module _ (view : ℕ → List ℕ) (format extents pages sections : ℕ) (is : IsGeometry format extents pages sections) (pages_are : AreNewSections view format extents pages sections)
     (root : SpellsRoot (view 1) format 1 0 []) where

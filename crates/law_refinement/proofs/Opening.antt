@@ -13,8 +13,8 @@ use Rattle.law_machine.specs.Open.{extents_read, opened_world, root_read, superb
 use Rattle.law_machine.specs.Recovery.{Recovers}
 use Rattle.cs_extent.specs.Frames.{family_of}
 use Rattle.cs_extent.specs.State.{State, extents_of, need_of, shape}
-use Rattle.law_refinement.proofs.Families.{length-by_family, root_in, section_in}
-use Rattle.law_refinement.specs.Images.{by_family}
+use Rattle.cs_reader.proofs.ByFamily.{length-by_family, root_in, section_in}
+use Rattle.cs_reader.specs.Loads.{by_family}
 use Rattle.law_refinement.specs.Bridge.{Matches, waiting_in}
 use Rattle.law_refinement.proofs.Places.{to_waiting}
 use Rattle.law_refinement.specs.Stores.{IsStagingOf, IsWorldOf}

@@ -12,7 +12,7 @@ use Rattle.cs_extent.specs.State.{IsWhole, State as ExtentsState, shape}
 use Rattle.cs_frame.proofs.GeometryLaws.{model_geometry}
 use Rattle.cs_frame.specs.Formats.{formats_of}
 use Rattle.cs_frame.specs.Geometries.{section_size}
-use Rattle.law_refinement.specs.ImageReads.{page_total}
+use Rattle.cs_reader.specs.ImageReads.{page_total}
 use Rattle.law_machine.proofs.Carries.{and_left, and_true, found}
 use Rattle.law_machine.proofs.Frozen.{page_unwritten}
 use Rattle.law_machine.proofs.Rounds.{before_it}

@@ -3,13 +3,14 @@ use Rattle.std.proofs.Common.{◌≡◌, inl, ℕ, zero, suc, ◌+◌, ◌<◌, 
 use Rattle.cs_disk.proofs.Images.{length-applied}
 use Rattle.cs_disk.proofs.Whole.{BytePages, Pages, left_whole, seen_whole}
 use Rattle.cs_disk.specs.Disk.{Image, IsWhole as IsWholeDisk, MayLeave, State as DiskState, page, seen}
-use Rattle.cs_extent.specs.State.{IsWhole, State as ExtentsState, shape}
+use Rattle.cs_extent.specs.State.{IsWhole, State as ExtentsState, extents_at, shape}
 use Rattle.cs_frame.specs.Formats.{formats_of}
 use Rattle.cs_frame.specs.Geometries.{device_pages}
 use Rattle.law_refinement.proofs.Found.{read_recovers}
-use Rattle.law_refinement.proofs.Superblocks.{read_whole}
-use Rattle.law_refinement.specs.Images.{IsFoundAs, by_family, graph_at, index_at}
-use Rattle.law_refinement.specs.ImageReads.{ArePages, IsStoreRead, extents_at}
+use Rattle.cs_reader.proofs.Superblocks.{read_whole}
+use Rattle.law_refinement.specs.Images.{IsFoundAs}
+use Rattle.cs_reader.specs.Loads.{by_family, graph_at, index_at}
+use Rattle.cs_reader.specs.ImageReads.{ArePages, IsStoreRead}
 use Rattle.cs_index.specs.declared.stored_runs.StoredRun.{StoredRun}
 use Rattle.cs_index.specs.State.{newest_first}
 use Rattle.law_machine.proofs.Opens.{opens_bounded, opens_sound}

@@ -1,12 +1,13 @@
 -- The state in which a store starts where chunks and runs lie apart.
 use Rattle.std.proofs.Common.{◌≡◌, inl, ℕ, ◌+◌, Bool, true, false, if◌then◌else◌, List, [], ◌++◌, length, true≢false, refl, sym, ap, ◌∙◌, subst, arith}
 use Rattle.cs_disk.specs.Disk.{Image, page}
-use Rattle.cs_extent.specs.State.{IsWhole, State as ExtentsState, extents_of, shape}
+use Rattle.cs_extent.specs.State.{IsWhole, State as ExtentsState, extents_at, extents_of, shape}
 use Rattle.cs_frame.specs.Formats.{formats_of}
 use Rattle.cs_frame.specs.Geometries.{device_pages}
 use Rattle.law_refinement.proofs.Found.{noted_recovers}
-use Rattle.law_refinement.specs.Images.{IsFoundAs, by_family, graph_at, index_at}
-use Rattle.law_refinement.specs.ImageReads.{AreExtentsNoted, ArePages, IsVisibleStoreRead, extents_at}
+use Rattle.law_refinement.specs.Images.{IsFoundAs, AreExtentsNoted}
+use Rattle.cs_reader.specs.Loads.{by_family, graph_at, index_at}
+use Rattle.cs_reader.specs.ImageReads.{ArePages, IsVisibleStoreRead}
 use Rattle.cs_index.specs.declared.stored_runs.StoredRun.{StoredRun}
 use Rattle.cs_index.specs.State.{newest_first}
 use Rattle.law_machine.proofs.Opens.{opens_bounded, opens_sound}

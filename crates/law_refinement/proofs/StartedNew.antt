@@ -4,16 +4,16 @@ use Rattle.std.proofs.lemmas.Bool.{cases_Bool}
 use Rattle.std.specs.Prelude.{replicate}
 use Rattle.cs_disk.proofs.Images.{page-applied}
 use Rattle.cs_disk.specs.Disk.{Image, State as DiskState, Write as PageWrite, flushed, latest, page, seen}
-use Rattle.cs_extent.specs.State.{State as ExtentsState, extents_of, shape}
+use Rattle.cs_extent.specs.State.{State as ExtentsState, extents_at, extents_of, shape}
 use Rattle.cs_frame.proofs.GeometryLaws.{lies_in_device}
 use Rattle.cs_frame.specs.Formats.{formats_of}
 use Rattle.cs_frame.specs.Geometries.{IsGeometry, device_pages, section_length, section_size}
 use Rattle.cs_frame.specs.Roots.{SpellsRoot}
 use Rattle.cs_frame.specs.Superblocks.{SpellsSuperblock}
-use Rattle.law_refinement.proofs.Listed.{all_default}
+use Rattle.cs_reader.proofs.Listed.{all_default}
 use Rattle.law_refinement.proofs.New.{new_found, new_whole}
-use Rattle.law_refinement.specs.Images.{AreNewSections, graph_at, index_at}
-use Rattle.law_refinement.specs.ImageReads.{extents_at}
+use Rattle.law_refinement.specs.Images.{AreNewSections}
+use Rattle.cs_reader.specs.Loads.{graph_at, index_at}
 use Rattle.law_machine.specs.Apart.{any_run_on, is_blank_by, is_held_by, reset_all}
 use Rattle.law_machine.specs.Device.{Page}
 use Rattle.law_machine.specs.Extents.{Extents, emptied, forgotten}

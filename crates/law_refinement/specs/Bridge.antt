@@ -44,6 +44,14 @@ pub record AreNeedsOf (S : Shape) (P : Cut) (staged : List Element) (x : Element
   pub only : (z : Name) → Names d z → NeedsName S staged x z
   pub all : (z : Name) → NeedsName S staged x z → Names d z ⊎ MayLeaveOut S P x z
 
+-- d names what this element needs that is staged next in the world, all but what may be left out
+abbrev pub AreNextNeeds : Shape → World → Element → Named → Type 0
+AreNextNeeds S w x d = AreNeedsOf S w.persistent (x ∷ w.elements) x d
+
+-- d names exactly what this element needs that is staged next in the world
+abbrev pub AreExactNeeds : Shape → World → Element → Named → Type 0
+AreExactNeeds S w x d = (z : Name) → Names d z ↔ NeedsName S (x ∷ w.elements) x z
+
 -- each element stands in the graph by its name, with its needs
 abbrev pub Matches : Shape → Cut → List Element → List Element → List (Name × Named) → Type 0
 Matches S P staged [] [] = Unit {0}

@@ -1,20 +1,23 @@
 -- Which world a store is: its extents, and the graph of what it staged.
 use Rattle.std.specs.Prelude.{◌≡◌, ◌↔◌, ◌<◌, ◌≤◌, ℕ, suc, true, false, Contains, List, Some, length, slice_index}
 use Rattle.cs_deps.specs.declared.elements.Element.{Element as Name}
-use Rattle.cs_deps.specs.Staging.{Staging}
-use Rattle.cs_deps.specs.State.{State as GraphState, Write as PageWrite, write_of}
+use Rattle.cs_deps.specs.declared.elements.Element.TheVariants.{Version}
+use Rattle.cs_deps.specs.Named.{Named, Names}
+use Rattle.cs_deps.specs.Staging.{IsVersionStaged, Staging}
+use Rattle.cs_deps.specs.State.{AddsOnly, State as GraphState, Write as PageWrite, write_of}
 use Rattle.law_machine.specs.Cut.{Closed, section_of}
 use Rattle.law_machine.specs.Device.{Shape}
 use Rattle.law_machine.specs.Disk.{page_write}
-use Rattle.law_machine.specs.Element.{Element, Root, Superblock, Write, log_of, roots_of, superblocks_of, writes_of}
+use Rattle.law_machine.specs.Element.{A_root, Element, Root, Superblock, Write, log_of, roots_of, superblocks_of, writes_of}
 use Rattle.law_machine.specs.Lists.{◌∈◌}
 use Rattle.law_machine.specs.Machine.{World}
 use Rattle.law_machine.specs.Round.{IsMember}
 use Rattle.law_machine.specs.Safe.{IsStaged}
 use Rattle.cs_frame.specs.Formats.{formats_of}
-use Rattle.cs_extent.specs.Frames.{family_of, root_family}
+use Rattle.cs_extent.specs.Frames.{IsRootNeed, family_of, root_family, root_pages}
 use Rattle.cs_extent.specs.State.{State, extents_of, need_of, shape}
 use Rattle.law_refinement.specs.Bridge.{IsPendingOf, IsWaiting, name}
+use Rattle.law_refinement.specs.Machines.{write_for}
 
 -- a list has exactly the names of the members of the round that is out
 abbrev pub AreMemberNames : Shape → World → List Name → Type 0
@@ -63,3 +66,17 @@ pub record IsWorldOf (x : State) (g : GraphState) (w : World) : Type 0 where
   -- what was reset goes with a version of the root that was staged
   pub resets : (e : ℕ) → w.extents.reset e ≤ w.root
   pub writes : AreWritesOf (shape x) w g
+
+-- The graph h is g with version v of the root staged, which is r in the machine. It needs the versions of all sections so far and, where
+-- page writes don't come first, all plain writes so far.
+pub record StagesRoot (x : State) (g : GraphState) (v : ℕ) (r : Root) (h : GraphState) : Type 0 where
+  pub needs : Named
+  pub names : (z : Name) → Names needs z ↔ IsRootNeed (root_pages (shape x).pages_first g.staging.staged) g.staging.latest z
+  pub version : IsVersionStaged g.staging root_family v needs h.staging
+  pub page : write_of h (Version root_family v) ≡ Some (write_for x (A_root r))
+  pub others : AddsOnly g h (Version root_family v)
+
+-- the list has so many numbers, which are these
+pub record AreListed (count : ℕ) (given : ℕ → ℕ) (listed : List ℕ) : Type 0 where
+  pub all_listed : length listed ≡ count
+  pub each : (j : ℕ) → j < count → given j ≡ slice_index listed j

@@ -1,26 +1,26 @@
 //! What the calls of a store's parts do, as what the machine's events do.
-ghost use Rattle.std.specs.Prelude.{◌≡◌, ◌≢◌, ◌↔◌, ◌+◌, ◌<◌, ◌≤◌, ◌++◌, ℕ, suc, true, false, List, [], None, length, map, nat_le};
+ghost use Rattle.std.specs.Prelude.{◌≡◌, ◌≢◌, ◌↔◌, ◌+◌, ◌<◌, ◌≤◌, ◌++◌, ℕ, true, false, List, [], None, length, map, nat_le};
 ghost use Rattle.cs_deps.specs.State.{State as GraphState};
 ghost use Rattle.cs_extent.specs.Appended.{AreAppended};
-ghost use Rattle.cs_extent.specs.State.{IsWhole, State as ExtentsState, extents_of, shape};
+ghost use Rattle.cs_extent.specs.State.{State as ExtentsState, extents_of, shape};
 ghost use Rattle.cs_frame.specs.declared.locators.Locator.{Locator};
-ghost use Rattle.cs_frame.specs.Formats.{formats_of, place_of};
+ghost use Rattle.cs_frame.specs.Formats.{place_of};
 ghost use Rattle.cs_index.specs.Merges.{reached, stage_takes};
 ghost use Rattle.cs_index.specs.Staged.{IsMergeStaged, IsNewestStaged, IsPartStaged, IsTableStaged};
 ghost use Rattle.cs_index.specs.State.{IsSet, State as IndexState, index_of};
-ghost use Rattle.law_machine.specs.Append.{chunk_frames};
 ghost use Rattle.law_machine.specs.Device.{Shape};
 ghost use Rattle.law_machine.specs.Element.{Entry, Locator as Place, Run};
-ghost use Rattle.law_machine.specs.Events.{ArePayloads, Does, ReadsNow, mark};
+ghost use Rattle.law_machine.specs.Events.{mark};
 ghost use Rattle.law_machine.specs.Extents.{ForPut, ForRun, marked};
-ghost use Rattle.law_machine.specs.Formats.{ChunkFrame, Formats};
+ghost use Rattle.law_machine.specs.Formats.{Formats};
 ghost use Rattle.law_machine.specs.Index.{FirstLive, IsMergedRun, IsTableRun, NothingLive, entries_of, live_at, lookup, named_weight, names, weight_with};
 ghost use Rattle.law_machine.specs.Sound.{Sound};
-ghost use Rattle.law_machine.specs.State.{Abandon, Abandoned, Accepted, BeginSweep, Delete, MoveOne, Moved, Put, Retire, Retired, Stage, Staged, State, Sweeping, map_now, next_command};
+ghost use Rattle.law_machine.specs.State.{Abandon, Abandoned, BeginSweep, Delete, MoveOne, Moved, Put, Retire, Retired, Stage, Staged, State, Sweeping, map_now};
 ghost use Rattle.cs_reclaim.specs.Moves.{IsMoved};
 ghost use Rattle.cs_reclaim.specs.Retired.{IsRetired};
 ghost use Rattle.cs_reclaim.specs.Sweeps.{IsNotSweepable};
-ghost use Rattle.law_refinement.specs.Parts.{ArePartsOf, IsIndexOf};
+ghost use Rattle.law_refinement.specs.Parts.{ArePartsOf, IsIndexOf, LeadsToParts, LiesTogether};
+ghost use Rattle.law_refinement.specs.Machines.{AreNextPayloads, DoesFor, HasWholeChunkAt, frames_for, next_accepted};
 
 /// What is asked of an index is asked of the machine's: what each identifier has, how many are named and what their entries weigh, what its
 /// runs would be, and what lives on an extent.
@@ -56,21 +56,16 @@ pub fn index_queries_agree()
 /// that is accepted next.
 pub fn put_refines_put()
     ensures { (x y : ExtentsState) (g h : GraphState) (i j : IndexState) (s : State) (id : ℕ) (bytes : List ℕ)
-        (chunks : List (List ℕ)) (ls : List Locator)
-        → (shape x).apart ≡ false → IsWhole x → ArePartsOf x g i s → ArePayloads (shape x) (formats_of (shape x)) id (next_command s) bytes chunks
-        → AreAppended x g ForPut (chunk_frames (shape x) (formats_of (shape x)) chunks) ls y h
-        → IsSet i id (map place_of ls) j
-        → (t : State) × Does (shape x) (formats_of (shape x)) s (Put id bytes) (Accepted (suc (length s.commands))) t
-        × ArePartsOf y h j t }
+        (chunks : List (List ℕ)) (ls : List Locator) → LiesTogether x g i s → AreNextPayloads x s id bytes chunks
+        → AreAppended x g ForPut (frames_for x chunks) ls y h → IsSet i id (map place_of ls) j
+        → LeadsToParts x s (Put id bytes) (next_accepted s) y h j }
 {}
 
 /// An entry without locators is the machine's Delete, and an identifier has locators exactly where the map has it.
 pub fn delete_refines_delete()
     // An identifier that the map has gets an entry without locators: that is the machine's Delete.
     ensures deleted { (x : ExtentsState) (g : GraphState) (i j : IndexState) (s : State) (id : ℕ)
-        → ArePartsOf x g i s → map_now s id ≢ None → IsSet i id [] j
-        → (t : State) × Does (shape x) (formats_of (shape x)) s (Delete id) (Accepted (suc (length s.commands))) t
-        × ArePartsOf x g j t }
+        → ArePartsOf x g i s → map_now s id ≢ None → IsSet i id [] j → LeadsToParts x s (Delete id) (next_accepted s) x g j }
     ensures absent { (S : Shape) (F : Formats) (i : IndexState) (s : State) (id : ℕ)
         → Sound S F s → IsIndexOf i s.table s.runs → (live_at (index_of i) id ≡ []) ↔ (map_now s id ≡ None) }
 {}
@@ -79,41 +74,36 @@ pub fn delete_refines_delete()
 pub fn stage_refines_stage()
     // The table and as many of the newest runs as a Stage of the index merges become one run, or none where it would have no entry.
     ensures newest { (x y : ExtentsState) (g h : GraphState) (i j : IndexState) (s : State) (v : ℕ)
-        → (shape x).apart ≡ false → IsWhole x → ArePartsOf x g i s → i.table ≢ []
-        → IsNewestStaged (stage_takes (shape x) i) i x g v (s.count + length s.commands) j y h
-        → (t : State) × Does (shape x) (formats_of (shape x)) s Stage (Staged v) t × ArePartsOf y h j t }
+        → LiesTogether x g i s → i.table ≢ [] → IsNewestStaged (stage_takes (shape x) i) i x g v (s.count + length s.commands) j y h
+        → LeadsToParts x s Stage (Staged v) y h j }
     // Where a Stage merges by size, these are as many as are reached, and deletions go where that is all.
     ensures sized { (x y : ExtentsState) (g h : GraphState) (i j : IndexState) (s : State) (v : ℕ)
-        → (shape x).apart ≡ false → IsWhole x → ArePartsOf x g i s → (shape x).by_size ≡ true → i.table ≢ []
+        → LiesTogether x g i s → (shape x).by_size ≡ true → i.table ≢ []
         → IsPartStaged (nat_le (length i.runs) (reached (shape x) i)) (reached (shape x) i) i x g ForRun v (s.count + length s.commands) j y h
-        → (t : State) × Does (shape x) (formats_of (shape x)) s Stage (Staged v) t × ArePartsOf y h j t }
+        → LeadsToParts x s Stage (Staged v) y h j }
     // Where it doesn't and there are fewer than four runs, the table becomes one.
     ensures table { (x y : ExtentsState) (g h : GraphState) (i j : IndexState) (s : State) (v : ℕ)
-        → (shape x).apart ≡ false → IsWhole x → ArePartsOf x g i s → (shape x).by_size ≡ false → i.table ≢ [] → length i.runs < 4
-        → IsTableStaged i x g v (s.count + length s.commands) j y h
-        → (t : State) × Does (shape x) (formats_of (shape x)) s Stage (Staged v) t × ArePartsOf y h j t }
+        → LiesTogether x g i s → (shape x).by_size ≡ false → i.table ≢ [] → length i.runs < 4
+        → IsTableStaged i x g v (s.count + length s.commands) j y h → LeadsToParts x s Stage (Staged v) y h j }
     // Where there are four or more then, one run of all that is live takes the place of everything, or none where nothing is live.
     ensures merged { (x y : ExtentsState) (g h : GraphState) (i j : IndexState) (s : State) (v : ℕ)
-        → (shape x).apart ≡ false → IsWhole x → ArePartsOf x g i s → (shape x).by_size ≡ false → i.table ≢ [] → 4 ≤ length i.runs
-        → IsMergeStaged i x g ForRun v (s.count + length s.commands) j y h
-        → (t : State) × Does (shape x) (formats_of (shape x)) s Stage (Staged v) t × ArePartsOf y h j t }
+        → LiesTogether x g i s → (shape x).by_size ≡ false → i.table ≢ [] → 4 ≤ length i.runs
+        → IsMergeStaged i x g ForRun v (s.count + length s.commands) j y h → LeadsToParts x s Stage (Staged v) y h j }
 {}
 
 /// Where chunks and runs may lie on one extent a chunk that a sweep moves is the machine's MoveOne, where what lay there could be read.
 pub fn move_refines_move()
     ensures { (x y : ExtentsState) (g h : GraphState) (i j : IndexState) (s : State) (e id chunk : ℕ) (payload : List ℕ)
-        → (shape x).apart ≡ false → IsWhole x → ArePartsOf x g i s → s.world.extents.swept e ≡ true
-        → (moved : IsMoved i x g e id chunk payload j y h)
-        → s.opening.damage moved.from ≡ None → ReadsNow (shape x) (formats_of (shape x)) s moved.from ChunkFrame payload
-        → (t : State) × Does (shape x) (formats_of (shape x)) s (MoveOne e) (Moved id chunk) t × ArePartsOf y h j t }
+        → LiesTogether x g i s → s.world.extents.swept e ≡ true → (moved : IsMoved i x g e id chunk payload j y h)
+        → HasWholeChunkAt x s moved.from payload → LeadsToParts x s (MoveOne e) (Moved id chunk) y h j }
 {}
 
 /// Where chunks and runs may lie on one extent a retired extent is the machine's Retire.
 pub fn retire_refines_retire()
     ensures { (x y : ExtentsState) (g h : GraphState) (i j : IndexState) (s : State) (e v : ℕ)
-        → (shape x).apart ≡ false → IsWhole x → ArePartsOf x g i s → s.world.extents.swept e ≡ true → e < (shape x).extents → shape y ≡ shape x
+        → LiesTogether x g i s → s.world.extents.swept e ≡ true → e < (shape x).extents → shape y ≡ shape x
         → NothingLive (index_of i) e → IsRetired i x g e v (s.count + length s.commands) j y h
-        → (t : State) × Does (shape x) (formats_of (shape x)) s (Retire e) (Retired v) t × ArePartsOf y h j t }
+        → LeadsToParts x s (Retire e) (Retired v) y h j }
 {}
 
 /// A mark that is set where an extent may be swept is the machine's BeginSweep where chunks and runs may lie on one extent, and one that is
@@ -121,8 +111,8 @@ pub fn retire_refines_retire()
 pub fn marks_refine_sweeps()
     ensures begun { (x y : ExtentsState) (g : GraphState) (i : IndexState) (s : State) (e : ℕ)
         → (shape x).apart ≡ false → ArePartsOf x g i s → ¬ IsNotSweepable (shape x) (extents_of x) e → shape y ≡ shape x → extents_of y ≡ marked (extents_of x) e true
-        → Does (shape x) (formats_of (shape x)) s (BeginSweep e) Sweeping (mark s e true) × ArePartsOf y g i (mark s e true) }
+        → DoesFor x s (BeginSweep e) Sweeping (mark s e true) × ArePartsOf y g i (mark s e true) }
     ensures abandoned { (x y : ExtentsState) (g : GraphState) (i : IndexState) (s : State) (e : ℕ)
         → ArePartsOf x g i s → s.world.extents.swept e ≡ true → shape y ≡ shape x → extents_of y ≡ marked (extents_of x) e false
-        → Does (shape x) (formats_of (shape x)) s (Abandon e) Abandoned (mark s e false) × ArePartsOf y g i (mark s e false) }
+        → DoesFor x s (Abandon e) Abandoned (mark s e false) × ArePartsOf y g i (mark s e false) }
 {}

@@ -6,8 +6,7 @@ ghost use Rattle.cs_deps.specs.Named.{Named, Names};
 ghost use Rattle.cs_deps.specs.Staging.{IsKept, IsSatisfied, Staging};
 ghost use Rattle.cs_deps.specs.State.{State as GraphState};
 ghost use Rattle.cs_extent.specs.Frames.{root_family};
-ghost use Rattle.cs_extent.specs.State.{State as ExtentsState, shape};
-ghost use Rattle.cs_frame.specs.Formats.{formats_of};
+ghost use Rattle.cs_extent.specs.State.{State as ExtentsState};
 ghost use Rattle.cs_index.specs.State.{State as IndexState};
 ghost use Rattle.law_machine.specs.Device.{Page, Shape};
 ghost use Rattle.law_machine.specs.Element.{Map};
@@ -20,6 +19,7 @@ ghost use Rattle.law_machine.specs.State.{Event, NotYet, Persistent, Reply, Sett
 ghost use Rattle.law_machine.specs.Step.{Step};
 ghost use Rattle.law_refinement.specs.Frontiers.{AreRootsOf, IsFrontierOf, IsRootPersistent, Noted, noted_after};
 ghost use Rattle.law_refinement.specs.Parts.{ArePartsOf};
+ghost use Rattle.law_refinement.specs.Machines.{IsFrontierFor, SoundFor};
 
 /// The roots are noted as they are staged, from the one that was read at open on. Those before the persistent one may be let
 /// go.
@@ -40,8 +40,7 @@ pub fn roots_are_noted()
 /// exactly where all that a dependency on its version names is.
 pub fn roots_are_counted()
     ensures frontier { (x : ExtentsState) (g : GraphState) (i : IndexState) (s : State) (roots : List Noted) (n : ℕ)
-        → ArePartsOf x g i s → Sound (shape x) (formats_of (shape x)) s → AreRootsOf roots s → IsFrontierOf g.staging roots n
-        → IsFrontier (shape x) (formats_of (shape x)) s n }
+        → ArePartsOf x g i s → SoundFor x s → AreRootsOf roots s → IsFrontierOf g.staging roots n → IsFrontierFor x s n }
     // Here d names no plain write, and versions 1 to v of the root alone.
     ensures persistent { (staging : Staging) (d : Named) (v : ℕ) → IsKept staging → ((number : ℕ) → ¬ Names d (Plain number))
         → ((family version : ℕ) → Names d (Version family version) ↔ ((family ≡ root_family) × (1 ≤ version) × (version ≤ v)))

@@ -5,10 +5,10 @@ ghost use Rattle.cs_deps.specs.Named.{Named, Names};
 ghost use Rattle.cs_deps.specs.declared.elements.Element.TheVariants.{Plain, Version};
 ghost use Rattle.cs_deps.specs.Staging.{settled, staged_after};
 ghost use Rattle.cs_deps.specs.Pending.{Pending, Closed as IsClosed};
-ghost use Rattle.law_machine.specs.Machine.{World, EndRound, StagePage, happens};
+ghost use Rattle.law_machine.specs.Machine.{World, EndRound, StagePage, happens, write_now};
 ghost use Rattle.cs_deps.specs.Rounds.{IsTaken};
 ghost use Rattle.law_machine.specs.Lists.{◌∈◌};
-ghost use Rattle.law_machine.specs.Element.{Element, A_write, A_superblock, A_root, Write, Superblock, Root, log_of};
+ghost use Rattle.law_machine.specs.Element.{Element, A_write, A_superblock, A_root, Superblock, Root, log_of};
 ghost use Rattle.law_machine.specs.Device.{Shape, Page};
 ghost use Rattle.law_machine.specs.Formats.{Formats};
 ghost use Rattle.law_machine.specs.Cut.{Cut, Closed};
@@ -17,7 +17,7 @@ ghost use Rattle.law_machine.specs.Sound.{Sound};
 ghost use Rattle.law_machine.specs.Round.{IsRound, IsMember};
 ghost use Rattle.law_refinement.specs.Stores.{AreMemberNames};
 ghost use Rattle.cs_extent.specs.Frames.{family_of};
-ghost use Rattle.law_refinement.specs.Bridge.{AreNeedsOf, name, NeedsName, IsPendingOf, IsCutOf, AreNames, IsWaiting, NamesAll};
+ghost use Rattle.law_refinement.specs.Bridge.{AreNeedsOf, name, NeedsName, IsPendingOf, IsCutOf, AreNames, IsWaiting, NamesAll, AreExactNeeds, AreNextNeeds};
 
 /// What a round of the machine takes is the first round of the plan of all that waits.
 pub fn rounds_are_first_rounds()
@@ -37,20 +37,18 @@ pub fn closed_sets_agree()
 pub fn staging_refines_staging()
     // A page of a frame is staged as the next plain write, with needs that name exactly what it needs.
     ensures page { (S : Shape) (F : Formats) (s : State) (g : Pending) (p : ℕ) (bytes : Page) (d : Named) → Sound S F s → IsPendingOf S s.world g
-        → (let write : Write = record { number = suc s.world.written; page = p; bytes = bytes; root = s.world.extents.reset (S.extent p) } in
-        ((z : Name) → Names d z ↔ NeedsName S (A_write write ∷ s.world.elements) (A_write write) z)
-        → IsPendingOf S (happens S s.world (StagePage p bytes)) (staged_after g (Plain (suc s.world.written)) d)) }
+        → AreExactNeeds S s.world (A_write (write_now S s.world p bytes)) d
+        → IsPendingOf S (happens S s.world (StagePage p bytes)) (staged_after g (Plain (suc s.world.written)) d) }
     // The next version of a section of the superblock is staged as that of the section's family, with its needs, of which it may leave out
     // plain writes that are persistent where there are several sections.
     ensures superblock { (S : Shape) (F : Formats) (s : State) (g : Pending) (u : Superblock) (d : Named) (next : World) → Sound S F s → IsPendingOf S s.world g
         → u.version ≡ suc (s.world.superblocks u.section) → next.elements ≡ A_superblock u ∷ s.world.elements → next.persistent ≡ s.world.persistent
-        → AreNeedsOf S s.world.persistent (A_superblock u ∷ s.world.elements) (A_superblock u) d
+        → AreNextNeeds S s.world (A_superblock u) d
         → IsPendingOf S next (staged_after g (Version (family_of u.section) u.version) d) }
     // The next version of the root is staged as that of family 1, with its needs.
     ensures root { (S : Shape) (F : Formats) (s : State) (g : Pending) (r : Root) (d : Named) (next : World) → Sound S F s → IsPendingOf S s.world g
         → r.version ≡ suc s.world.root → next.elements ≡ A_root r ∷ s.world.elements → next.persistent ≡ s.world.persistent
-        → ((z : Name) → Names d z ↔ NeedsName S (A_root r ∷ s.world.elements) (A_root r) z)
-        → IsPendingOf S next (staged_after g (Version 1 r.version) d) }
+        → AreExactNeeds S s.world (A_root r) d → IsPendingOf S next (staged_after g (Version 1 r.version) d) }
     // Where there is one section nothing is left out: needs name exactly what the element needs.
     ensures exact { (S : Shape) (P : Cut) (staged : List Element) (element : Element) (d : Named) (z : Name) → S.sections ≡ 1
         → AreNeedsOf S P staged element d → Names d z ↔ NeedsName S staged element z }

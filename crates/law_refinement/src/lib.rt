@@ -5,7 +5,7 @@
 //! moves, rounds, events, refusals and pages as the machine's.
 //!
 //! In the laws of images `x` is extents, `S` a shape and `F` formats, `n` a number of commands and `m` a map; `view` and `img` are what each page
-//! of the image reads as.
+//! of the image reads as; `read` is what was read of its superblock and its root.
 //!
 //! In those of parts `x` and `y` are extents before and after, `g` and `h` graphs (`g` also what waits in one), `i` and `j` indexes, and `s` and
 //! `t` states of the machine; `w` is a world, `S` a shape and `F` formats. Of the machine's elements `u` is a version of a section of the

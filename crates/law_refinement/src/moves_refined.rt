@@ -1,12 +1,12 @@
 //! The machine's world, and the extents and the graph that a store has: the same appends, resets, roots and rounds.
-ghost use Rattle.std.specs.Prelude.{◌≡◌, ◌↔◌, ◌<◌, ◌++◌, ℕ, Bool, true, List, [], length, map, Some, slice_index};
+ghost use Rattle.std.specs.Prelude.{◌≡◌, ◌++◌, ℕ, Bool, true, List, map, Some};
 ghost use Rattle.cs_deps.specs.declared.elements.Element.{Element as Name};
 ghost use Rattle.cs_deps.specs.Named.{Named, Names};
 ghost use Rattle.cs_deps.specs.Pending.{WaitsAt};
 ghost use Rattle.cs_deps.specs.declared.elements.Element.TheVariants.{Version};
-ghost use Rattle.cs_deps.specs.Staging.{IsVersionStaged, settled};
+ghost use Rattle.cs_deps.specs.Staging.{settled};
 ghost use Rattle.law_machine.specs.Machine.{World, BeginRound, EndRound, ResetExtent, StageRoot, happens, root_now};
-ghost use Rattle.law_machine.specs.Element.{Element, A_root, Map, Run};
+ghost use Rattle.law_machine.specs.Element.{Element, Map, Run};
 ghost use Rattle.law_machine.specs.Device.{Shape, Page};
 ghost use Rattle.law_machine.specs.Formats.{Formats};
 ghost use Rattle.law_machine.specs.Cut.{Cut};
@@ -14,18 +14,18 @@ ghost use Rattle.law_machine.specs.State.{State};
 ghost use Rattle.law_machine.specs.Sound.{Sound};
 ghost use Rattle.law_machine.specs.Append.{Append, AppendAll};
 ghost use Rattle.law_machine.specs.Extents.{Purpose as Reason, emptied, forgotten, marked};
-ghost use Rattle.cs_deps.specs.State.{AddsNone, IsWhole as IsWholeGraph, KeepsBytes, AddsOnly, State as GraphState, write_of};
+ghost use Rattle.cs_deps.specs.State.{AddsNone, IsWhole as IsWholeGraph, KeepsBytes, State as GraphState, write_of};
 ghost use Rattle.cs_frame.specs.declared.locators.Locator.{Locator};
 ghost use Rattle.cs_extent.specs.Appended.{AreAppended, IsAppended};
-ghost use Rattle.cs_extent.specs.Frames.{IsRootNeed, IsSectionNeed, family_of, root_family, root_pages};
-ghost use Rattle.law_refinement.specs.Images.{by_family};
+ghost use Rattle.cs_extent.specs.Frames.{IsSectionNeed, family_of};
 ghost use Rattle.law_machine.specs.Open.{extents_read, opened_world};
 ghost use Rattle.law_machine.specs.Recovery.{Recovers};
-ghost use Rattle.law_machine.specs.Disk.{page_write};
-ghost use Rattle.cs_frame.specs.Formats.{formats_of, place_of};
+ghost use Rattle.cs_frame.specs.Formats.{place_of};
 ghost use Rattle.cs_extent.specs.State.{State as ExtentsState, IsWhole, extents_of, need_of, shape};
-ghost use Rattle.law_refinement.specs.Stores.{AreMemberNames, IsWorldOf};
+ghost use Rattle.law_refinement.specs.Stores.{AreMemberNames, IsWorldOf, AreListed, StagesRoot};
 ghost use Rattle.law_refinement.specs.Bridge.{name, AreNames, IsWaiting};
+ghost use Rattle.cs_reader.specs.Loads.{graph_at};
+ghost use Rattle.law_refinement.specs.Machines.{write_for};
 
 /// What an append does to the extents and the graph of a store is what the machine's append does to its world.
 pub fn append_refines_append()
@@ -45,10 +45,8 @@ pub fn reset_refines_reset()
 /// A version of the root that is staged in the graph, and needs the versions of all sections so far and, where page writes don't come
 /// first, all plain writes so far, is the machine's root.
 pub fn root_refines_root()
-    ensures { (x : ExtentsState) (g h : GraphState) (w : World) (v : ℕ) (needs : Named) (n : ℕ) (runs : List Run) (m : Map) (pointers : ℕ → ℕ)
-        → IsWhole x → IsWorldOf x g w → IsVersionStaged g.staging root_family v needs h.staging
-        → ((z : Name) → Names needs z ↔ IsRootNeed (root_pages (shape x).pages_first g.staging.staged) g.staging.latest z)
-        → write_of h (Version root_family v) ≡ Some (page_write (shape x) (formats_of (shape x)) (A_root (root_now (shape x) w n runs m pointers))) → AddsOnly g h (Version root_family v)
+    ensures { (x : ExtentsState) (g h : GraphState) (w : World) (v n : ℕ) (runs : List Run) (m : Map) (pointers : ℕ → ℕ)
+        → IsWhole x → IsWorldOf x g w → StagesRoot x g v (root_now (shape x) w n runs m pointers) h
         → IsWorldOf x h (happens (shape x) w (StageRoot n runs m pointers)) }
 {}
 
@@ -77,7 +75,7 @@ pub fn stores_keep_their_worlds()
 /// that waits needs staged plain writes, and no later version of the root than the section's next one.
 pub fn what_waits_is_of_the_world()
     ensures writes { (x : ExtentsState) (g : GraphState) (w : World) (element : Element) → IsWorldOf x g w → IsWholeGraph g → IsWaiting w element → KeepsBytes g (name element)
-        → write_of g (name element) ≡ Some (page_write (shape x) (formats_of (shape x)) element) }
+        → write_of g (name element) ≡ Some (write_for x element) }
     ensures needs { (x : ExtentsState) (g : GraphState) (w : World) (section k v : ℕ) (d : Named) (z : Name) → IsWorldOf x g w
         → WaitsAt g.staging.pending k (Version (family_of section) v) d → Names d z → IsSectionNeed 1 g.staging.staged (need_of x section) z }
 {}
@@ -85,8 +83,6 @@ pub fn what_waits_is_of_the_world()
 /// A store that is opened, where nothing waits and no extent was reset, has the machine's world at open.
 pub fn opened_stores_have_worlds()
     ensures { (x : ExtentsState) (g : GraphState) (F : Formats) (img : ℕ → Page) (n : ℕ) (m : Map) (found : Recovers (shape x) F img n m) (versions : List ℕ)
-        → IsWhole x → length versions ≡ (shape x).sections → ((section : ℕ) → section < (shape x).sections → found.versions section ≡ slice_index versions section)
-        → extents_of x ≡ extents_read (shape x) F img n m found
-        → (let numbers : List ℕ = by_family versions found.version in g.staging ≡ record { pending = record { persistent = numbers; waiting = [] }; staged = 0; latest = numbers })
-        → IsWorldOf x g (opened_world (shape x) F img n m found) }
+        → IsWhole x → AreListed (shape x).sections found.versions versions → extents_of x ≡ extents_read (shape x) F img n m found
+        → g.staging ≡ (graph_at versions found.version).staging → IsWorldOf x g (opened_world (shape x) F img n m found) }
 {}

@@ -1,23 +1,20 @@
 //! Why the calls of a store's parts are refused where chunks and runs lie apart, as why the machine's events are.
-ghost use Rattle.std.specs.Prelude.{◌≡◌, ◌⊎◌, ◌↔◌, ◌+◌, ◌^◌, ◌≤◌, ℕ, true, false, List, None, Some, length};
+ghost use Rattle.std.specs.Prelude.{◌≡◌, ◌⊎◌, ◌↔◌, ℕ, true, false, List, Some};
 ghost use Rattle.cs_deps.specs.State.{State as GraphState};
 ghost use Rattle.cs_extent.specs.State.{IsWhole, State as ExtentsState, extents_of, shape};
-ghost use Rattle.cs_extent.specs.Worn.{AreWornBy, IsFrameWornBy};
+ghost use Rattle.cs_extent.specs.Worn.{IsFrameWornBy};
 ghost use Rattle.cs_frame.specs.Formats.{formats_of};
 ghost use Rattle.cs_index.specs.State.{State as IndexState, index_of};
 ghost use Rattle.law_machine.specs.Apart.{AllCopied, DamagedLeft, FirstLeft, FirstUncopied, MayNotBegin, NoRoomToCopy, NothingLeft};
-ghost use Rattle.law_machine.specs.Append.{chunk_frames, page_counts};
 ghost use Rattle.law_machine.specs.Element.{Copy, Locator as Place};
-ghost use Rattle.law_machine.specs.Events.{ArePayloads, ReadsNow};
-ghost use Rattle.law_machine.specs.Extents.{FitsBy, ForMove, ForPut, GoesApart};
-ghost use Rattle.law_machine.specs.Formats.{ChunkFrame, Formats};
-ghost use Rattle.law_machine.specs.Grounds.{NoRoomToPut, Refuses, WouldPass};
+ghost use Rattle.law_machine.specs.Extents.{ForMove};
+ghost use Rattle.law_machine.specs.Formats.{Formats};
+ghost use Rattle.law_machine.specs.Grounds.{NoRoomToPut, Refuses};
 ghost use Rattle.law_machine.specs.Refusal.{NotSweepable, Refusal as Ground};
-ghost use Rattle.law_machine.specs.Sound.{Bounded, Sound};
-ghost use Rattle.law_machine.specs.State.{BeginSweep, MoveOne, Put, State, next_command};
-ghost use Rattle.cs_reclaim.specs.Moves.{chunk_frame};
-ghost use Rattle.law_refinement.specs.Copying.{AreAllPartsOf};
+ghost use Rattle.law_machine.specs.State.{BeginSweep, MoveOne, Put, State};
+ghost use Rattle.law_refinement.specs.Copying.{AreAllPartsOf, IsSoundApart};
 ghost use Rattle.law_refinement.specs.Parts.{ArePartsOf};
+ghost use Rattle.law_refinement.specs.Machines.{AreChunksWornBy, AreCommandsWorn, AreNextPayloads, BoundedFor, ChunksFitBy, GoesNowhereBy, HasChunkAt, HasWholeChunkAt, SoundFor, WouldPassFor, frame_pages};
 
 /// Where chunks and runs lie apart a put is refused for room where its chunks don't fit, and for a number where one of its writes, of its
 /// versions of a section or of the commands would pass its greatest.
@@ -25,18 +22,13 @@ pub fn put_apart_refusals_agree()
     // In whatever payloads of the next command the bytes are, their frames don't fit.
     ensures full { (x : ExtentsState) (g : GraphState) (i : IndexState) (s : State) (id : ℕ) (bytes : List ℕ)
         → (shape x).apart ≡ true → IsWhole x → ArePartsOf x g i s
-        → NoRoomToPut (shape x) (formats_of (shape x)) s id bytes
-        ↔ ((chunks : List (List ℕ)) → ArePayloads (shape x) (formats_of (shape x)) id (next_command s) bytes chunks
-        → ¬ FitsBy (shape x) true (extents_of x) ForPut (page_counts (chunk_frames (shape x) (formats_of (shape x)) chunks))) }
+        → NoRoomToPut (shape x) (formats_of (shape x)) s id bytes ↔ ((chunks : List (List ℕ)) → AreNextPayloads x s id bytes chunks
+        → ¬ ChunksFitBy true x chunks) }
     // The frames fit, and one of their numbers or that of the commands would pass.
     ensures worn { (x : ExtentsState) (g : GraphState) (i : IndexState) (s : State) (id : ℕ) (bytes : List ℕ)
-        → (shape x).apart ≡ true → IsWhole x → ArePartsOf x g i s
-        → Sound (shape x) (formats_of (shape x)) s → Bounded (shape x) (formats_of (shape x)) s
-        → WouldPass (shape x) (formats_of (shape x)) s (Put id bytes)
-        ↔ ((chunks : List (List ℕ)) × ArePayloads (shape x) (formats_of (shape x)) id (next_command s) bytes chunks
-        × FitsBy (shape x) true (extents_of x) ForPut (page_counts (chunk_frames (shape x) (formats_of (shape x)) chunks))
-        × (AreWornBy true x g.staging ForPut (page_counts (chunk_frames (shape x) (formats_of (shape x)) chunks))
-        ⊎ (2 ^ 63 ≤ s.count + length s.commands + 1))) }
+        → (shape x).apart ≡ true → IsWhole x → ArePartsOf x g i s → SoundFor x s → BoundedFor x s → WouldPassFor x s (Put id bytes)
+        ↔ ((chunks : List (List ℕ)) × AreNextPayloads x s id bytes chunks × ChunksFitBy true x chunks
+        × (AreChunksWornBy true x g.staging chunks ⊎ AreCommandsWorn s)) }
 {}
 
 /// Where chunks and runs lie apart: BeginSweep is refused 33 exactly where the extent may not be swept. What a sweep has left to copy is
@@ -56,16 +48,11 @@ pub fn sweep_apart_refusals_agree()
         → DamagedLeft (shape x) (formats_of (shape x)) s e f ↔ (s.opening.damage l ≡ Some f) }
     // The first chunk that is left can be read.
     ensures full { (x : ExtentsState) (g : GraphState) (i : IndexState) (copies : List Copy) (s : State) (e id chunk : ℕ) (l : Place) (payload : List ℕ)
-        → IsWhole x → AreAllPartsOf x g i copies s → FirstUncopied (index_of i) copies e id chunk l
-        → ReadsNow (shape x) (formats_of (shape x)) s l ChunkFrame payload
-        → NoRoomToCopy (shape x) (formats_of (shape x)) s e
-        ↔ ((d : ℕ) → ¬ GoesApart (shape x) (extents_of x) ForMove (length (chunk_frame x payload)) d) }
+        → IsWhole x → AreAllPartsOf x g i copies s → FirstUncopied (index_of i) copies e id chunk l → HasChunkAt x s l payload
+        → NoRoomToCopy (shape x) (formats_of (shape x)) s e ↔ GoesNowhereBy true x payload }
     // So can it, it isn't damaged, the extent is being swept, and there is room.
     ensures worn { (x : ExtentsState) (g : GraphState) (i : IndexState) (copies : List Copy) (s : State) (e id chunk : ℕ) (l : Place) (payload : List ℕ)
-        → (shape x).apart ≡ true → IsWhole x → AreAllPartsOf x g i copies s
-        → Sound (shape x) (formats_of (shape x)) s → Bounded (shape x) (formats_of (shape x)) s
-        → FirstUncopied (index_of i) copies e id chunk l → ReadsNow (shape x) (formats_of (shape x)) s l ChunkFrame payload
-        → s.world.extents.swept e ≡ true → s.opening.damage l ≡ None
-        → ¬ ((d : ℕ) → ¬ GoesApart (shape x) (extents_of x) ForMove (length (chunk_frame x payload)) d)
-        → WouldPass (shape x) (formats_of (shape x)) s (MoveOne e) ↔ IsFrameWornBy true x ForMove g.staging (length (chunk_frame x payload)) }
+        → IsSoundApart x g i copies s → FirstUncopied (index_of i) copies e id chunk l → HasWholeChunkAt x s l payload
+        → s.world.extents.swept e ≡ true → ¬ GoesNowhereBy true x payload
+        → WouldPassFor x s (MoveOne e) ↔ IsFrameWornBy true x ForMove g.staging (frame_pages x payload) }
 {}

@@ -1,59 +1,49 @@
 //! Why the calls of a store's parts are refused, as why the machine's events are.
-ghost use Rattle.std.specs.Prelude.{◌≡◌, ◌≢◌, ◌⊎◌, ◌↔◌, ◌+◌, ◌^◌, ◌<◌, ◌≤◌, ℕ, true, false, List, [], Some, None, length};
+ghost use Rattle.std.specs.Prelude.{◌≡◌, ◌≢◌, ◌⊎◌, ◌↔◌, ◌<◌, ◌≤◌, ℕ, true, false, List, [], Some, None, length};
 ghost use Rattle.cs_reclaim.specs.cs_chunk.Reads.{fault_in};
 ghost use Rattle.cs_frame.specs.Refusals.{refusal_for as refusal_of_fault};
 ghost use Rattle.cs_refusal.specs.Refusals.{number_of};
 ghost use Rattle.cs_deps.specs.State.{State as GraphState};
 ghost use Rattle.cs_extent.specs.State.{IsWhole, State as ExtentsState, extents_of, shape};
-ghost use Rattle.cs_extent.specs.Worn.{AreWorn, IsFrameWorn};
+ghost use Rattle.cs_extent.specs.Worn.{IsFrameWorn};
 ghost use Rattle.cs_frame.specs.declared.faults.FormatFault.{FormatFault};
 ghost use Rattle.cs_frame.specs.declared.frames.FrameKind.{FrameKind};
 ghost use Rattle.cs_frame.specs.declared.locators.Locator.{Locator};
 ghost use Rattle.cs_frame.specs.Formats.{formats_of, refusal_of};
 ghost use Rattle.cs_index.specs.Staged.{IsFull, IsStageWorn, WritesRun};
 ghost use Rattle.cs_index.specs.State.{State as IndexState, index_of};
-ghost use Rattle.law_machine.specs.Append.{chunk_frames, page_counts};
 ghost use Rattle.law_machine.specs.Element.{Locator as Place};
-ghost use Rattle.law_machine.specs.Events.{ArePayloads, ReadsNow};
-ghost use Rattle.law_machine.specs.Extents.{Fits, ForMove, ForPut, ForRun, NoPlace};
-ghost use Rattle.law_machine.specs.Formats.{ChunkFrame, Formats};
-ghost use Rattle.law_machine.specs.Grounds.{NoRoomForRun, NoRoomForTable, NoRoomToMove, NoRoomToPut, NoRoomToStage, Refuses, WouldPass};
+ghost use Rattle.law_machine.specs.Extents.{ForMove, ForRun};
+ghost use Rattle.law_machine.specs.Formats.{Formats};
+ghost use Rattle.law_machine.specs.Grounds.{NoRoomForRun, NoRoomForTable, NoRoomToMove, NoRoomToPut, NoRoomToStage, Refuses};
 ghost use Rattle.law_machine.specs.Index.{FirstLive, NothingLive};
 ghost use Rattle.law_machine.specs.Numbers.{number_of as number_in_machine};
 ghost use Rattle.law_machine.specs.Refusal.{NotSweepable, Refusal as Ground};
-ghost use Rattle.law_machine.specs.Sound.{Bounded, Sound};
-ghost use Rattle.law_machine.specs.State.{Abandon, BeginSweep, Delete, MoveOne, Put, Retire, Stage, State, map_now, next_command};
-ghost use Rattle.cs_reclaim.specs.Moves.{chunk_frame};
+ghost use Rattle.law_machine.specs.State.{Abandon, BeginSweep, Delete, MoveOne, Put, Retire, Stage, State, map_now};
 ghost use Rattle.cs_reclaim.specs.Retired.{IsRetireFull, IsRetireWorn};
 ghost use Rattle.cs_reclaim.specs.Sweeps.{IsNotSweepable};
-ghost use Rattle.law_refinement.specs.Parts.{ArePartsOf};
+ghost use Rattle.law_refinement.specs.Parts.{ArePartsOf, IsSoundTogether, LiesTogether};
 ghost use Rattle.law_refinement.specs.Refusals.{refusal_for};
+ghost use Rattle.law_refinement.specs.Machines.{AreChunksWornBy, AreCommandsWorn, AreNextPayloads, BoundedFor, ChunksFitBy, GoesNowhereBy, HasChunkAt, HasWholeChunkAt, SoundFor, WouldPassFor, frame_pages};
 
 /// Where chunks and runs may lie on one extent there is no room for a put where its chunks don't fit, and it would take a number past its
 /// greatest where its writes, its versions of a section or the commands would.
 pub fn put_refusals_agree()
     // The machine has no room exactly where, in whatever payloads of the next command the bytes are, their frames don't fit.
-    ensures full { (x : ExtentsState) (g : GraphState) (i : IndexState) (s : State) (id : ℕ) (bytes : List ℕ)
-        → (shape x).apart ≡ false → IsWhole x → ArePartsOf x g i s
-        → NoRoomToPut (shape x) (formats_of (shape x)) s id bytes
-        ↔ ((chunks : List (List ℕ)) → ArePayloads (shape x) (formats_of (shape x)) id (next_command s) bytes chunks
-        → ¬ Fits (shape x) (extents_of x) ForPut (page_counts (chunk_frames (shape x) (formats_of (shape x)) chunks))) }
+    ensures full { (x : ExtentsState) (g : GraphState) (i : IndexState) (s : State) (id : ℕ) (bytes : List ℕ) → LiesTogether x g i s
+        → NoRoomToPut (shape x) (formats_of (shape x)) s id bytes ↔ ((chunks : List (List ℕ)) → AreNextPayloads x s id bytes chunks
+        → ¬ ChunksFitBy false x chunks) }
     // A number would pass its greatest exactly where the frames fit, and one of theirs or that of the commands would.
     ensures worn { (x : ExtentsState) (g : GraphState) (i : IndexState) (s : State) (id : ℕ) (bytes : List ℕ)
-        → (shape x).apart ≡ false → IsWhole x → ArePartsOf x g i s → Sound (shape x) (formats_of (shape x)) s → Bounded (shape x) (formats_of (shape x)) s
-        → WouldPass (shape x) (formats_of (shape x)) s (Put id bytes)
-        ↔ ((chunks : List (List ℕ)) × ArePayloads (shape x) (formats_of (shape x)) id (next_command s) bytes chunks
-        × Fits (shape x) (extents_of x) ForPut (page_counts (chunk_frames (shape x) (formats_of (shape x)) chunks))
-        × (AreWorn x g.staging ForPut (page_counts (chunk_frames (shape x) (formats_of (shape x)) chunks))
-        ⊎ (2 ^ 63 ≤ s.count + length s.commands + 1))) }
+        → IsSoundTogether x g i s → WouldPassFor x s (Put id bytes)
+        ↔ ((chunks : List (List ℕ)) × AreNextPayloads x s id bytes chunks × ChunksFitBy false x chunks
+        × (AreChunksWornBy false x g.staging chunks ⊎ AreCommandsWorn s)) }
 {}
 
 /// A delete would take a number past its greatest where there is something to delete, and the commands would.
 pub fn delete_refusals_agree()
-    ensures { (x : ExtentsState) (s : State) (id : ℕ)
-        → Sound (shape x) (formats_of (shape x)) s → Bounded (shape x) (formats_of (shape x)) s
-        → WouldPass (shape x) (formats_of (shape x)) s (Delete id)
-        ↔ ((map_now s id ≢ None) × (2 ^ 63 ≤ s.count + length s.commands + 1)) }
+    ensures { (x : ExtentsState) (s : State) (id : ℕ) → SoundFor x s → BoundedFor x s → WouldPassFor x s (Delete id)
+        ↔ ((map_now s id ≢ None) × AreCommandsWorn s) }
 {}
 
 /// There is no room for a Stage where there is no place for the run that it writes. Where there is room, and chunks and runs may lie on
@@ -61,7 +51,7 @@ pub fn delete_refusals_agree()
 pub fn stage_refusals_agree()
     // Where a Stage doesn't merge by size, the machine has no room for the run that it writes exactly where no extent takes that of the
     // index.
-    ensures full { (x : ExtentsState) (g : GraphState) (i : IndexState) (s : State) → (shape x).apart ≡ false → IsWhole x → ArePartsOf x g i s
+    ensures full { (x : ExtentsState) (g : GraphState) (i : IndexState) (s : State) → LiesTogether x g i s
         → (shape x).by_size ≡ false
         → ((s.table ≢ []) × (((length s.runs < 4) × NoRoomForTable (shape x) (formats_of (shape x)) s)
         ⊎ ((4 ≤ length s.runs) × NoRoomForRun (shape x) (formats_of (shape x)) s ForRun)))
@@ -70,10 +60,9 @@ pub fn stage_refusals_agree()
     ensures no_room { (x : ExtentsState) (g : GraphState) (i : IndexState) (s : State) → IsWhole x → ArePartsOf x g i s
         → ((s.table ≢ []) × NoRoomToStage (shape x) (formats_of (shape x)) s) ↔ IsFull (WritesRun (shape x) i) x ForRun }
     // Where there is room, a number would pass its greatest exactly where the table isn't empty and one that is staged would.
-    ensures worn { (x : ExtentsState) (g : GraphState) (i : IndexState) (s : State)
-        → (shape x).apart ≡ false → IsWhole x → ArePartsOf x g i s → Sound (shape x) (formats_of (shape x)) s → Bounded (shape x) (formats_of (shape x)) s
+    ensures worn { (x : ExtentsState) (g : GraphState) (i : IndexState) (s : State) → IsSoundTogether x g i s
         → ¬ IsFull (WritesRun (shape x) i) x ForRun
-        → WouldPass (shape x) (formats_of (shape x)) s Stage ↔ ((i.table ≢ []) × IsStageWorn (WritesRun (shape x) i) x ForRun g.staging) }
+        → WouldPassFor x s Stage ↔ ((i.table ≢ []) × IsStageWorn (WritesRun (shape x) i) x ForRun g.staging) }
 {}
 
 /// There is no room for a Retire where there is no place for the run of all that is live. Where there is room, and chunks and runs may lie
@@ -83,10 +72,9 @@ pub fn retire_refusals_agree()
     ensures full { (x : ExtentsState) (g : GraphState) (i : IndexState) (s : State) → IsWhole x → ArePartsOf x g i s
         → NoRoomForRun (shape x) (formats_of (shape x)) s ForMove ↔ IsRetireFull i x }
     // The extent is being swept, nothing is live on it, and there is room.
-    ensures worn { (x : ExtentsState) (g : GraphState) (i : IndexState) (s : State) (e : ℕ)
-        → (shape x).apart ≡ false → IsWhole x → ArePartsOf x g i s → Sound (shape x) (formats_of (shape x)) s → Bounded (shape x) (formats_of (shape x)) s
+    ensures worn { (x : ExtentsState) (g : GraphState) (i : IndexState) (s : State) (e : ℕ) → IsSoundTogether x g i s
         → s.world.extents.swept e ≡ true → NothingLive (index_of i) e → ¬ IsRetireFull i x
-        → WouldPass (shape x) (formats_of (shape x)) s (Retire e) ↔ IsRetireWorn i x g.staging e }
+        → WouldPassFor x s (Retire e) ↔ IsRetireWorn i x g.staging e }
 {}
 
 /// There is no room for a MoveOne where there is no place for the frame of the chunk that is moved. Where there is room, and chunks and
@@ -95,17 +83,13 @@ pub fn retire_refusals_agree()
 pub fn move_refusals_agree()
     // There is no room exactly where no extent takes the frame of the first live chunk, which can be read.
     ensures full { (x : ExtentsState) (g : GraphState) (i : IndexState) (s : State) (e id chunk : ℕ) (l : Place) (payload : List ℕ)
-        → IsWhole x → ArePartsOf x g i s → FirstLive (index_of i) e id chunk l
-        → ReadsNow (shape x) (formats_of (shape x)) s l ChunkFrame payload
-        → NoRoomToMove (shape x) (formats_of (shape x)) s e
-        ↔ NoPlace (shape x) (extents_of x) ForMove (length (chunk_frame x payload)) }
+        → IsWhole x → ArePartsOf x g i s → FirstLive (index_of i) e id chunk l → HasChunkAt x s l payload
+        → NoRoomToMove (shape x) (formats_of (shape x)) s e ↔ GoesNowhereBy false x payload }
     // The extent is being swept, its first live chunk can be read and isn't damaged, and there is room.
     ensures worn { (x : ExtentsState) (g : GraphState) (i : IndexState) (s : State) (e id chunk : ℕ) (l : Place) (payload : List ℕ)
-        → (shape x).apart ≡ false → IsWhole x → ArePartsOf x g i s → Sound (shape x) (formats_of (shape x)) s → Bounded (shape x) (formats_of (shape x)) s
-        → FirstLive (index_of i) e id chunk l → ReadsNow (shape x) (formats_of (shape x)) s l ChunkFrame payload
-        → s.world.extents.swept e ≡ true → s.opening.damage l ≡ None
-        → ¬ NoPlace (shape x) (extents_of x) ForMove (length (chunk_frame x payload))
-        → WouldPass (shape x) (formats_of (shape x)) s (MoveOne e) ↔ IsFrameWorn x ForMove g.staging (length (chunk_frame x payload)) }
+        → IsSoundTogether x g i s → FirstLive (index_of i) e id chunk l → HasWholeChunkAt x s l payload
+        → s.world.extents.swept e ≡ true → ¬ GoesNowhereBy false x payload
+        → WouldPassFor x s (MoveOne e) ↔ IsFrameWorn x ForMove g.staging (frame_pages x payload) }
 {}
 
 /// Where the store isn't halted: BeginSweep is refused exactly where the extent can't be swept, where chunks and runs may lie on one extent; MoveOne, Retire and Abandon are refused 33

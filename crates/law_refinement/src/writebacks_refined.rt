@@ -1,13 +1,11 @@
 //! Rounds of writeback, and what the disk holds meanwhile.
 ghost use Rattle.std.specs.Prelude.{◌≡◌, ◌≢◌, ◌⊎◌, ◌↔◌, ◌<◌, ℕ, suc, true, false, Bool, List, [], Some, None, length, map, slice_get};
 ghost use Rattle.cs_deps.specs.declared.elements.Element.{Element as Name};
-ghost use Rattle.cs_deps.specs.State.{AddsNone, IsQueue, IsWhole as IsWholeGraph, KeepsBytes, State as GraphState, after, write_of};
+ghost use Rattle.cs_deps.specs.State.{IsWhole as IsWholeGraph, KeepsBytes, State as GraphState};
 ghost use Rattle.cs_disk.specs.Disk.{Image, MayLeave, State as DiskState, flushed, page, seen, written};
-ghost use Rattle.cs_extent.specs.State.{IsWhole, State as ExtentsState, shape};
-ghost use Rattle.cs_frame.specs.Formats.{formats_of};
+ghost use Rattle.cs_extent.specs.State.{IsWhole, State as ExtentsState};
 ghost use Rattle.cs_index.specs.State.{State as IndexState};
 ghost use Rattle.law_machine.specs.Device.{Page, Shape};
-ghost use Rattle.law_machine.specs.Disk.{page_write};
 ghost use Rattle.law_machine.specs.Element.{Element};
 ghost use Rattle.law_machine.specs.Formats.{Formats};
 ghost use Rattle.law_machine.specs.Refusal.{DeviceFault};
@@ -19,21 +17,20 @@ ghost use Rattle.law_refinement.specs.Bridge.{IsPendingOf, name};
 ghost use Rattle.law_refinement.specs.Devices.{IsDeviceOf, IsDiskOf};
 ghost use Rattle.law_refinement.specs.Frontiers.{AreRootsOf, IsFrontierOf, Noted};
 ghost use Rattle.law_refinement.specs.Parts.{ArePartsOf};
-ghost use Rattle.law_refinement.specs.Rounds.{IsRoundOf, members_of};
+ghost use Rattle.law_refinement.specs.Rounds.{IsRoundOf, members_of, IsAllIssued, IsNextWrite, IsRunning, IsRunningOn, SettlesRound, TakesRound};
+ghost use Rattle.law_refinement.specs.Machines.{IsDiskFor, StepFor, write_for};
 
 /// A round that is what waits at height 1 is the machine's Begin, with its members in the order of the round. Where nothing
 /// waits in the graph nothing does in the machine.
 pub fn begin_refines_begin()
     // The graph takes such a round, which isn't empty: the machine begins one of the same members, none of them issued.
     ensures begun { (x : ExtentsState) (g h : GraphState) (i : IndexState) (s : State) (round : List Name)
-        → IsWholeGraph g → ArePartsOf x g i s → Sound (shape x) (formats_of (shape x)) s → IsRoundOf g s → s.halted ≡ false → g.round ≡ None
-        → IsQueue g.staging.pending 1 round → round ≢ [] → h.staging ≡ g.staging → AddsNone g h → h.round ≡ Some round
+        → IsWholeGraph g → IsRunning x g i s → TakesRound g round h
         → (members : List Element) × (t : State) × (map name members ≡ round) × (t.left ≡ members) × (t.issued ≡ [])
-        × Step (shape x) (formats_of (shape x)) s Begin (Begun members) t × ArePartsOf x h i t × IsRoundOf h t }
+        × StepFor x s Begin (Begun members) t × ArePartsOf x h i t × IsRoundOf h t }
     // Where nothing waits in the graph, Begin answers that there is nothing, and leaves the state.
-    ensures idle { (x : ExtentsState) (g : GraphState) (i : IndexState) (s : State)
-        → ArePartsOf x g i s → Sound (shape x) (formats_of (shape x)) s → IsRoundOf g s → s.halted ≡ false → g.round ≡ None
-        → g.staging.pending.waiting ≡ [] → Step (shape x) (formats_of (shape x)) s Begin Nothing s }
+    ensures idle { (x : ExtentsState) (g : GraphState) (i : IndexState) (s : State) → IsRunning x g i s → g.round ≡ None
+        → g.staging.pending.waiting ≡ [] → StepFor x s Begin Nothing s }
     // Nothing waits in the graph exactly where nothing does in the machine.
     ensures nothing { (S : Shape) (F : Formats) (g : GraphState) (s : State) → Sound S F s → IsPendingOf S s.world g.staging.pending
         → (g.staging.pending.waiting ≡ []) ↔ NothingWaits s.world }
@@ -45,18 +42,15 @@ pub fn issue_refines_issue()
     ensures kept { (g : GraphState) (k : ℕ) (z : Name) → IsWholeGraph g → slice_get (members_of g.round) k ≡ Some z → KeepsBytes g z }
     // The next member is written to the disk: it is issued in the machine, and the disk is that of the state after it.
     ensures issued { (x : ExtentsState) (g : GraphState) (i : IndexState) (s : State) (disk : DiskState) (z : Name) (p : ℕ) (bytes : Page)
-        → ArePartsOf x g i s → Sound (shape x) (formats_of (shape x)) s → IsRoundOf g s → s.halted ≡ false
-        → slice_get (members_of g.round) (length s.issued) ≡ Some z → write_of g z ≡ Some (p, bytes) → IsDiskOf (shape x) (formats_of (shape x)) s disk
-        → (member : Element) × (t : State) × (name member ≡ z) × ((page_write (shape x) (formats_of (shape x)) member).0 ≡ p)
-        × Step (shape x) (formats_of (shape x)) s Issue (Issued member) t × ArePartsOf x g i t × IsRoundOf g t × (length t.issued ≡ suc (length s.issued))
-        × IsDiskOf (shape x) (formats_of (shape x)) t (written disk p bytes) }
+        → IsRunningOn x g i s disk → IsNextWrite g s z p bytes
+        → (member : Element) × (t : State) × (name member ≡ z) × ((write_for x member).0 ≡ p)
+        × StepFor x s Issue (Issued member) t × ArePartsOf x g i t × IsRoundOf g t × (length t.issued ≡ suc (length s.issued))
+        × IsDiskFor x t (written disk p bytes) }
     // Its write fails, and the disk has it or not: Issue is refused as a device fault, which halts the machine.
     ensures failed { (x : ExtentsState) (g : GraphState) (i : IndexState) (s : State) (disk later : DiskState) (z : Name) (p : ℕ) (bytes : Page)
-        → ArePartsOf x g i s → Sound (shape x) (formats_of (shape x)) s → IsRoundOf g s → s.halted ≡ false
-        → slice_get (members_of g.round) (length s.issued) ≡ Some z → write_of g z ≡ Some (p, bytes) → IsDiskOf (shape x) (formats_of (shape x)) s disk
-        → (later ≡ disk) ⊎ (later ≡ written disk p bytes)
-        → (t : State) × Step (shape x) (formats_of (shape x)) s Issue (Refused DeviceFault) t × (t.halted ≡ true) × ArePartsOf x g i t × IsRoundOf g t
-        × IsDiskOf (shape x) (formats_of (shape x)) t later }
+        → IsRunningOn x g i s disk → IsNextWrite g s z p bytes → (later ≡ disk) ⊎ (later ≡ written disk p bytes)
+        → (t : State) × StepFor x s Issue (Refused DeviceFault) t × (t.halted ≡ true) × ArePartsOf x g i t × IsRoundOf g t
+        × IsDiskFor x t later }
 {}
 
 /// A flush after the last of the round, and the round settled in the graph, are the machine's End, with the frontier that is
@@ -64,18 +58,15 @@ pub fn issue_refines_issue()
 pub fn end_refines_end()
     // After the last member the disk is flushed and the round settled: End answers the frontier that the roots count.
     ensures ended { (x : ExtentsState) (g h : GraphState) (i : IndexState) (s : State) (disk : DiskState) (round : List Name) (roots : List Noted) (n : ℕ)
-        → IsWhole x → ArePartsOf x g i s → Sound (shape x) (formats_of (shape x)) s → IsRoundOf g s → s.halted ≡ false
-        → g.round ≡ Some round → length s.issued ≡ length round
-        → h.staging ≡ record { pending = after g; staged = g.staging.staged; latest = g.staging.latest } → AddsNone g h → h.round ≡ None
-        → AreRootsOf roots s → IsFrontierOf h.staging roots n → IsDiskOf (shape x) (formats_of (shape x)) s disk
-        → (t : State) × Step (shape x) (formats_of (shape x)) s End (Ended n) t × ArePartsOf x h i t × IsRoundOf h t × (t.issued ≡ [])
-        × IsDiskOf (shape x) (formats_of (shape x)) t (flushed disk) }
+        → IsWhole x → IsRunningOn x g i s disk → IsAllIssued g s round → SettlesRound g h
+        → AreRootsOf roots s → IsFrontierOf h.staging roots n
+        → (t : State) × StepFor x s End (Ended n) t × ArePartsOf x h i t × IsRoundOf h t × (t.issued ≡ [])
+        × IsDiskFor x t (flushed disk) }
     // The flush fails, and the disk stays as it was: End is refused as a device fault, which halts the machine.
     ensures failed { (x : ExtentsState) (g : GraphState) (i : IndexState) (s : State) (disk : DiskState) (round : List Name)
-        → ArePartsOf x g i s → IsRoundOf g s → s.halted ≡ false → g.round ≡ Some round → length s.issued ≡ length round
-        → IsDiskOf (shape x) (formats_of (shape x)) s disk
-        → (t : State) × Step (shape x) (formats_of (shape x)) s End (Refused DeviceFault) t × (t.halted ≡ true) × ArePartsOf x g i t × IsRoundOf g t
-        × IsDiskOf (shape x) (formats_of (shape x)) t disk }
+        → ArePartsOf x g i s → IsRoundOf g s → s.halted ≡ false → IsAllIssued g s round → IsDiskFor x s disk
+        → (t : State) × StepFor x s End (Refused DeviceFault) t × (t.halted ≡ true) × ArePartsOf x g i t × IsRoundOf g t
+        × IsDiskFor x t disk }
 {}
 
 /// What the disk of a state reads as, what a crash may leave of it, and that no event but Issue and End changes it, whether it

@@ -5,7 +5,7 @@ use Rattle.law_machine.specs.Device.{Shape}
 use Rattle.law_room.specs.Events.{Does, Put}
 use Rattle.law_room.specs.Invariant.{Keeps}
 use Rattle.law_room.specs.Rooms.{Holding, Room, Sweep, all_pages, chunk_extents, how_many, is_of_chunks, live_pages, opened_by}
-use Rattle.law_room.specs.Sweeps.{FillsAtMost, IsLeastPair, IsPairSwept, IsSwept, NoTwoFit, PairsSwept, SweepsMade}
+use Rattle.law_room.specs.Sweeps.{AreFewPages, FillsAtMost, IsLeastPair, IsPairSwept, IsSwept, NoTwoFit, PairsSwept, SweepsMade}
 use Rattle.law_room.proofs.Chunks.{settle_all, sum_same}
 use Rattle.law_room.proofs.Counts.{chunks_is}
 use Rattle.law_room.proofs.Gaining.{IsKept, IsSweptWith, no_more, swept_with}
@@ -68,7 +68,7 @@ module _ (S : Shape) (J : ℕ) where
 
   -- little enough lives
   abbrev LivesFew : ℕ → Room → Type 0
-  LivesFew n s = 2 * all_pages s.chunks < (S.extents - (J + 1 + n)) * (S.pages + 1)
+  LivesFew n s = AreFewPages S J n (all_pages s.chunks)
 
   -- where a pair with the least doesn't fit on one extent, enough extents are left
   fits_or_left : (n : ℕ) (s : Room) (a b : ℕ) → J + n + 3 ≤ S.extents → LivesFew n s → IsLeastPair S J s a b

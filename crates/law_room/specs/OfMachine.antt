@@ -4,7 +4,7 @@ use Rattle.law_machine.specs.Apart.{any_swept, is_none, same_place}
 use Rattle.law_machine.specs.Append.{chunk_frames, page_counts}
 use Rattle.law_machine.specs.Device.{Page, Shape}
 use Rattle.law_machine.specs.Element.{Copy, Entry, Locator, Map, Opening, Run}
-use Rattle.law_machine.specs.Events.{ArePayloads, newest_page}
+use Rattle.law_machine.specs.Events.{ArePayloads, Chunked, newest_page}
 use Rattle.law_machine.specs.Extents.{Extents, MayFill}
 use Rattle.law_machine.specs.Formats.{ChunkFrame, Formats, RunFrame, opening_in, fault_for}
 use Rattle.law_machine.specs.Index.{IsRunList, Reads, entries_of, live_at}
@@ -97,6 +97,10 @@ NoneToldFull s = (id : ℕ) (l : Locator) → l ∈ live_at (index_now s) id →
 abbrev pub IsPut : Event → Type 0
 IsPut (Put id bytes) = Unit {0}
 IsPut event = ⊥
+
+-- the bytes are at most n chunks
+abbrev pub AreChunksAtMost : Shape → (n : ℕ) → (bytes : List ℕ) → Type 0
+AreChunksAtMost S n bytes = (chunks : List (List ℕ)) × Chunked S.chunk_bytes bytes chunks × (length chunks ≤ n)
 
 -- what is told of the chunk at a locator as damaged is told so whatever pages follow those that were found
 abbrev pub Lasts : Shape → Formats → Opening → Locator → Refusal → Type 0

@@ -7,7 +7,7 @@ use Rattle.law_machine.specs.Guard.{page_as_staged}
 use Rattle.law_machine.specs.Lists.{◌∈◌}
 use Rattle.law_machine.specs.Safe.{FitsExtent}
 use Rattle.law_machine.specs.State.{State}
-use Rattle.law_room.specs.Events.{forget}
+use Rattle.law_room.specs.Events.{Does, Open, forget, opened}
 use Rattle.law_room.specs.OfMachine.{HasRoomNow, Names}
 use Rattle.law_room.specs.Rooms.{Room, Root, is_named}
 
@@ -38,6 +38,11 @@ module _ (S : Shape) (F : Formats) where
   pub record IsRoomy (s : State) (r : Room) : Type 0 where
     pub room : HasRoomNow S F s r
     pub roots : HasRootsOf s r
+
+  -- A store that is opened with these pointers, and whose state is t then, has room: that of an opening of r at one of its roots.
+  abbrev pub OpensRoomy : Room → (pointers : ℕ → ℕ) → (t : State) → Type 0
+  OpensRoomy r pointers t = (p : Root) × Does S S.run_extents r (Open p pointers) (opened p pointers)
+      × IsRoomy t (opened p pointers)
 
   -- the page of a section tells the pointers of its extents, in whatever format and version, and whatever root it records
   abbrev pub TellsPointers : Type 0

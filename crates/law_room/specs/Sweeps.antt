@@ -1,5 +1,5 @@
 -- Whole sweeps, and sweeps of pairs of extents with the least that lives.
-use Rattle.std.specs.Prelude.{◌≡◌, ◌≢◌, ◌⊎◌, ◌+◌, ◌<◌, ◌≤◌, ℕ, zero, suc, List, Some, length, sum}
+use Rattle.std.specs.Prelude.{◌≡◌, ◌≢◌, ◌⊎◌, ◌+◌, ◌-◌, ◌*◌, ◌<◌, ◌≤◌, ℕ, zero, suc, List, Some, length, sum}
 use Rattle.law_machine.specs.Device.{Shape}
 use Rattle.law_machine.specs.Index.{joined}
 use Rattle.law_machine.specs.Lists.{◌∈◌}
@@ -84,6 +84,10 @@ module _ (S : Shape) (J : ℕ) where
   abbrev pub NoTwoFit : Room → Type 0
   NoTwoFit s = (a b : ℕ) → a ≢ b → IsChunkExtent s a → IsChunkExtent s b
       → S.pages < live_pages s.chunks a + live_pages s.chunks b
+
+  -- so many pages of chunks are less than half of the device, but for J + 1 + n extents
+  abbrev pub AreFewPages : (n pages : ℕ) → Type 0
+  AreFewPages n pages = 2 * pages < (S.extents - (J + 1 + n)) * (S.pages + 1)
 
 -- frames of these numbers of pages fill at most n extents in their order
 abbrev pub FillsAtMost : (pages n : ℕ) → List ℕ → Type 0

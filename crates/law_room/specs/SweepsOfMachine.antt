@@ -6,8 +6,8 @@ use Rattle.law_machine.specs.Lists.{◌∈◌}
 use Rattle.law_machine.specs.State.{Begin, BeginSweep, End, Event, Get, Issue, MoveOne, Reply, Retire, Retired, Settle, Stage, State, Sweeping}
 use Rattle.law_machine.specs.Step.{History, Step}
 use Rattle.law_room.specs.OfMachine.{IsRoomOf}
-use Rattle.law_room.specs.Rooms.{Room, chunk_extents}
-use Rattle.law_room.specs.Sweeps.{IsLeastPair}
+use Rattle.law_room.specs.Rooms.{Room, all_pages, chunk_extents}
+use Rattle.law_room.specs.Sweeps.{AreFewPages, IsLeastPair}
 
 -- a move of e: a chunk of it was copied, or none was left, or the move was refused
 abbrev pub IsCopying : ℕ → Event → Type 0
@@ -55,6 +55,10 @@ module _ (S : Shape) (F : Formats) where
   abbrev pub IsPairSweptIn : (s t : State) → Type 0
   IsPairSweptIn s t = (a : ℕ) × (b : ℕ) × (mid : State) × IsLeastPairIn s a b × IsSweptIn S F s a mid
       × ((HoldFewer s mid × (t ≡ mid)) ⊎ (HoldNoFewer s mid × IsSweptIn S F mid b t))
+
+  -- less than half of the device lives, but for the extents of runs, one, and n
+  abbrev pub LivesFewIn : (n : ℕ) → State → Type 0
+  LivesFewIn n s = (r : Room) → IsRoomOf S F s r → AreFewPages S S.run_extents n (all_pages r.chunks)
 
   -- so many pairs are swept one after another
   abbrev pub PairsSweptIn : ℕ → (s t : State) → Type 0

@@ -2,7 +2,6 @@
 ghost use Rattle.law_machine.specs.Apart.{any_swept};
 ghost use Rattle.law_machine.specs.Device.{IsShape, Page, Shape};
 ghost use Rattle.law_machine.specs.Element.{Map};
-ghost use Rattle.law_machine.specs.Events.{Chunked};
 ghost use Rattle.law_machine.specs.Formats.{Formats};
 ghost use Rattle.law_machine.specs.Frames.{IsFormat};
 ghost use Rattle.law_machine.specs.Grounds.{Refuses};
@@ -13,15 +12,15 @@ ghost use Rattle.law_machine.specs.Sound.{crashed};
 ghost use Rattle.law_machine.specs.State.{Event, Put, Reply, State};
 ghost use Rattle.law_machine.specs.Step.{History, Step};
 ghost use Rattle.law_machine.specs.Torn.{TornFrom};
-ghost use Rattle.law_room.specs.Events.{Does, Open, opened};
+ghost use Rattle.law_room.specs.Events.{opened};
 ghost use Rattle.law_room.specs.Example.{new_room};
 ghost use Rattle.law_room.specs.Lives.{Act, IsFormatWithRoom, IsMade, Lives};
-ghost use Rattle.law_room.specs.OfMachine.{ChunksFit, HasRoomNow, InRoom, IsPut, IsRoomOf, IsRootIn, NoneToldFull, NoneWorn, RunsFit};
+ghost use Rattle.law_room.specs.OfMachine.{ChunksFit, HasRoomNow, InRoom, IsPut, IsRootIn, NoneToldFull, NoneWorn, RunsFit, AreChunksAtMost};
 ghost use Rattle.law_room.specs.Rooms.{Room, Root, all_pages, chunk_extents};
-ghost use Rattle.law_room.specs.RootsOfMachine.{IsRoomy, TellsPointers};
-ghost use Rattle.law_room.specs.Sweeps.{IsSwept};
-ghost use Rattle.law_room.specs.SweepsOfMachine.{IsSweptIn, PairsSweptIn};
-ghost use Rattle.std.specs.Prelude.{◌≡◌, ◌+◌, ◌-◌, ◌*◌, ◌<◌, ◌≤◌, ℕ, Bool, List, length, true, false, None, []};
+ghost use Rattle.law_room.specs.RootsOfMachine.{IsRoomy, TellsPointers, OpensRoomy};
+ghost use Rattle.law_room.specs.Sweeps.{IsSwept, AreFewPages};
+ghost use Rattle.law_room.specs.SweepsOfMachine.{IsSweptIn, PairsSweptIn, LivesFewIn};
+ghost use Rattle.std.specs.Prelude.{◌≡◌, ◌+◌, ◌<◌, ◌≤◌, ℕ, Bool, List, true, false, None, []};
 
 /// A store that is opened where the root names no run is one in which nothing lies. A new one is so.
 pub fn a_new_store_has_room()
@@ -79,14 +78,12 @@ pub fn a_crash_has_room()
     ensures whole { (S : Shape) (F : Formats) (s : State) (r : Room) (kept : List Bool) (n : ℕ) (m : Map)
         (gives : Recovers S F (crashed S F s kept) n m) → IsShape S → IsFormat S F → TellsPointers S F → S.apart ≡ true
         → IsRoomy S F s r → NoneWorn S (opened_state S F (crashed S F s kept) n m gives)
-        → (p : Root) × Does S S.run_extents r (Open p gives.pointers) (opened p gives.pointers)
-        × IsRoomy S F (opened_state S F (crashed S F s kept) n m gives) (opened p gives.pointers) }
+        → OpensRoomy S F r gives.pointers (opened_state S F (crashed S F s kept) n m gives) }
     // So it is whatever the crash makes of the pages of frames that are being written.
     ensures torn { (S : Shape) (F : Formats) (s : State) (r : Room) (kept : List Bool) (img : ℕ → Page) (n : ℕ) (m : Map)
         (gives : Recovers S F img n m) → IsShape S → IsFormat S F → TellsPointers S F → S.apart ≡ true
         → IsRoomy S F s r → TornFrom S F s kept img → NoneWorn S (opened_state S F img n m gives)
-        → (p : Root) × Does S S.run_extents r (Open p gives.pointers) (opened p gives.pointers)
-        × IsRoomy S F (opened_state S F img n m gives) (opened p gives.pointers) }
+        → OpensRoomy S F r gives.pointers (opened_state S F img n m gives) }
 {}
 
 /// A whole sweep is one of room, with the syncs behind it.
@@ -98,17 +95,15 @@ pub fn a_sweep_is_one_of_room()
 
 /// A put of n chunks is never refused for want of a place where n extents are left for puts, as long as each chunk fits on one.
 pub fn a_put_of_the_machine_finds_room()
-    ensures left { (S : Shape) (F : Formats) (s : State) (r : Room) (id n : ℕ) (bytes : List ℕ) (chunks : List (List ℕ))
+    ensures left { (S : Shape) (F : Formats) (s : State) (r : Room) (id n : ℕ) (bytes : List ℕ)
         → IsShape S → IsFormat S F → S.apart ≡ true → ChunksFit S F → HasRoomNow S F s r
-        → chunk_extents r S.extents + n + S.run_extents + 2 ≤ S.extents → Chunked S.chunk_bytes bytes chunks
-        → length chunks ≤ n → Refuses S F s (Put id bytes) Full → ⊥ }
+        → chunk_extents r S.extents + n + S.run_extents + 2 ≤ S.extents → AreChunksAtMost S n bytes
+        → Refuses S F s (Put id bytes) Full → ⊥ }
     // So it is where less than half of the device lives, but for a few extents, and then n pairs are swept.
-    ensures pairs { (S : Shape) (F : Formats) (s t : State) (r : Room) (id n : ℕ) (bytes : List ℕ) (chunks : List (List ℕ))
+    ensures pairs { (S : Shape) (F : Formats) (s t : State) (r : Room) (id n : ℕ) (bytes : List ℕ)
         → IsShape S → IsFormat S F → S.apart ≡ true → ChunksFit S F → HasRoomNow S F s r → r.sweep ≡ None
-        → S.run_extents + n + 3 ≤ S.extents
-        → 2 * all_pages r.chunks < (S.extents - (S.run_extents + 1 + n)) * (S.pages + 1)
-        → PairsSweptIn S F n s t → NoneWorn S t → Chunked S.chunk_bytes bytes chunks → length chunks ≤ n
-        → Refuses S F t (Put id bytes) Full → ⊥ }
+        → S.run_extents + n + 3 ≤ S.extents → AreFewPages S S.run_extents n (all_pages r.chunks)
+        → PairsSweptIn S F n s t → NoneWorn S t → AreChunksAtMost S n bytes → Refuses S F t (Put id bytes) Full → ⊥ }
 {}
 
 /// From the time that a store is made, through any events, crashes and openings, nothing but a put is ever refused for want of a
@@ -126,11 +121,9 @@ pub fn no_store_is_ever_stuck()
         → (q : Room) × IsRoomy S F t q }
     // A put of n chunks finds room where less than half of the device lives, but for a few extents, and n pairs are swept.
     ensures puts { (S : Shape) (F : Formats) (s t u : State) (acts : List Act) (id n : ℕ) (bytes : List ℕ)
-        (chunks : List (List ℕ)) → IsShape S → IsFormat S F → IsFormatWithRoom S F → ChunksFit S F → S.apart ≡ true
+        → IsShape S → IsFormat S F → IsFormatWithRoom S F → ChunksFit S F → S.apart ≡ true
         → IsMade S F s → Lives S F s acts t → any_swept S t ≡ false → S.run_extents + n + 3 ≤ S.extents
-        → ((r : Room) → IsRoomOf S F t r
-        → 2 * all_pages r.chunks < (S.extents - (S.run_extents + 1 + n)) * (S.pages + 1))
-        → PairsSweptIn S F n t u → NoneWorn S u → Chunked S.chunk_bytes bytes chunks → length chunks ≤ n
+        → LivesFewIn S F n t → PairsSweptIn S F n t u → NoneWorn S u → AreChunksAtMost S n bytes
         → Refuses S F u (Put id bytes) Full → ⊥ }
     // And whatever a crash leaves of one that was made can be opened.
     ensures opens { (S : Shape) (F : Formats) (s t : State) (acts : List Act) (kept : List Bool) → IsShape S → IsFormat S F

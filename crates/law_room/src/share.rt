@@ -3,8 +3,8 @@ ghost use Rattle.law_machine.specs.Device.{Shape};
 ghost use Rattle.law_room.specs.Events.{Does, Put, Writes, dropped};
 ghost use Rattle.law_room.specs.Invariant.{Keeps};
 ghost use Rattle.law_room.specs.Rooms.{Room, all_pages, chunk_extents};
-ghost use Rattle.law_room.specs.Sweeps.{ChosenSwept, FillsAtMost, IsChunkExtent, IsSwept, NoTwoFit, PairsSwept, SweepsMade};
-ghost use Rattle.std.specs.Prelude.{◌≡◌, ◌+◌, ◌-◌, ◌*◌, ◌<◌, ◌≤◌, ℕ, List, None, length};
+ghost use Rattle.law_room.specs.Sweeps.{ChosenSwept, FillsAtMost, IsChunkExtent, IsSwept, NoTwoFit, PairsSwept, SweepsMade, AreFewPages};
+ghost use Rattle.std.specs.Prelude.{◌≡◌, ◌+◌, ◌*◌, ◌≤◌, ℕ, List, None};
 
 /// Where no sweep is unfinished, each extent of chunks can be swept, however many pages runs take, as long as one of all fits on an
 /// extent.
@@ -19,16 +19,14 @@ pub fn a_sweep_can_be_made()
 /// of at most n pairs leave n extents for puts.
 pub fn two_sweeps_an_extent_are_enough()
     ensures { (S : Shape) (J n : ℕ) (s : Room) → Keeps S J s → 1 ≤ J → s.sweep ≡ None → J + n + 3 ≤ S.extents
-        → 2 * all_pages s.chunks < (S.extents - (J + 1 + n)) * (S.pages + 1)
-        → (pairs : ℕ) × (t : Room) × (pairs ≤ n) × PairsSwept S J pairs s t × Keeps S J t
+        → AreFewPages S J n (all_pages s.chunks) → (pairs : ℕ) × (t : Room) × (pairs ≤ n) × PairsSwept S J pairs s t × Keeps S J t
         × (chunk_extents t S.extents + n + J + 2 ≤ S.extents) }
 {}
 
 /// So at most 2 n whole sweeps lead to a store in which a put has a place whose frames fill at most n extents.
 pub fn a_put_finds_room()
     ensures { (S : Shape) (J n : ℕ) (s : Room) (id : ℕ) (sizes : List ℕ) → Keeps S J s → 1 ≤ J → s.sweep ≡ None
-        → J + n + 3 ≤ S.extents → 2 * all_pages s.chunks < (S.extents - (J + 1 + n)) * (S.pages + 1)
-        → FillsAtMost S.pages n sizes
+        → J + n + 3 ≤ S.extents → AreFewPages S J n (all_pages s.chunks) → FillsAtMost S.pages n sizes
         → (sweeps : ℕ) × (t : Room) × (u : Room) × (sweeps ≤ 2 * n) × SweepsMade S J sweeps s t
         × Does S J t (Put id sizes) u }
 {}
@@ -36,8 +34,7 @@ pub fn a_put_finds_room()
 /// Sweeps of any n pairs with the least that lives leave n extents for puts, in whatever way they find their places.
 pub fn pairs_of_sweeps_gain()
     ensures { (S : Shape) (J n : ℕ) (s t : Room) → Keeps S J s → 1 ≤ J → s.sweep ≡ None → J + n + 3 ≤ S.extents
-        → 2 * all_pages s.chunks < (S.extents - (J + 1 + n)) * (S.pages + 1) → PairsSwept S J n s t
-        → chunk_extents t S.extents + n + J + 2 ≤ S.extents }
+        → AreFewPages S J n (all_pages s.chunks) → PairsSwept S J n s t → chunk_extents t S.extents + n + J + 2 ≤ S.extents }
 {}
 
 /// Sweeps of chosen extents, two for each of n, leave n extents for puts: each two of them give one, whatever the second one is of. Where less
@@ -46,7 +43,7 @@ pub fn chosen_sweeps_gain()
     ensures gain { (S : Shape) (J n : ℕ) (s t : Room) → Keeps S J s → 1 ≤ J → s.sweep ≡ None → ChosenSwept S J (2 * n) s t
         → chunk_extents t S.extents + n + J + 2 ≤ S.extents }
     ensures none { (S : Shape) (J n k : ℕ) (s t : Room) → Keeps S J s → 1 ≤ J → J + n + 3 ≤ S.extents
-        → 2 * all_pages s.chunks < (S.extents - (J + 1 + n)) * (S.pages + 1) → ChosenSwept S J k s t → NoTwoFit S J t
+        → AreFewPages S J n (all_pages s.chunks) → ChosenSwept S J k s t → NoTwoFit S J t
         → chunk_extents t S.extents + n + J + 2 ≤ S.extents }
 {}
 

@@ -5,10 +5,9 @@ use Rattle.cs_refusal.specs.declared.refusals.Refusal.TheVariants.{Full}
 use Rattle.cs_disk.proofs.Moments.{goes_on, started}
 use Rattle.cs_disk.specs.declared.disk.PageDisk.{Ghosts as PageDisk}
 use Rattle.cs_disk.specs.Disk.{Image, MayLeave}
-use Rattle.cs_extent.specs.State.{shape}
+use Rattle.cs_extent.specs.State.{extents_at, shape}
 use Rattle.cs_frame.specs.declared.identifiers.ShardId.{ShardId}
 use Rattle.cs_frame.specs.Geometries.{IsGeometry}
-use Rattle.law_refinement.specs.ImageReads.{extents_at}
 use Rattle.law_machine.specs.Device.{Shape}
 use Rattle.cs_core.specs.declared.events.Event.{Event}
 use Rattle.cs_core.specs.declared.events.Event.TheVariants.{Put}

@@ -14,7 +14,7 @@ use Rattle.cs_frame.specs.declared.faults.FormatFault.{FormatFault}
 use Rattle.cs_frame.specs.declared.frames.FrameKind.TheVariants.{Chunk as ChunkKind}
 use Rattle.cs_frame.specs.Formats.{as_locator, formats_of, kind_number}
 use Rattle.cs_frame.specs.Frames.{page_count}
-use Rattle.law_refinement.specs.ImageReads.{page_total}
+use Rattle.cs_core.specs.cs_reader.ImageReads.{page_total}
 use Rattle.cs_index.specs.State.{index_of}
 use Rattle.law_machine.proofs.Frozen.{reach_now, within_now}
 use Rattle.law_machine.specs.Device.{Page, PageKind, Shape}

@@ -7,7 +7,7 @@ use Rattle.cs_extent.specs.State.{State as ExtentsState, shape}
 use Rattle.cs_frame.proofs.GeometryLaws.{model_geometry}
 use Rattle.cs_frame.specs.Formats.{formats_of}
 use Rattle.cs_frame.specs.Geometries.{section_size}
-use Rattle.law_refinement.specs.ImageReads.{page_total}
+use Rattle.cs_core.specs.cs_reader.ImageReads.{page_total}
 use Rattle.law_machine.proofs.Rounds.{kept_image}
 use Rattle.law_machine.proofs.Shapes.{at_behind}
 use Rattle.law_machine.specs.Cut.{Cut}

@@ -5,7 +5,7 @@ use Rattle.cs_disk.specs.Disk.{Image}
 use Rattle.cs_disk.specs.Reads.{OnlyReads}
 use Rattle.cs_extent.specs.State.{shape}
 use Rattle.cs_frame.specs.Formats.{formats_of}
-use Rattle.law_refinement.specs.ImageReads.{page_total}
+use Rattle.cs_core.specs.cs_reader.ImageReads.{page_total}
 use Rattle.law_machine.specs.Device.{Shape}
 use Rattle.law_machine.specs.Extents.{Extents}
 use Rattle.law_machine.specs.State as model

@@ -7,7 +7,7 @@ use Rattle.cs_disk.specs.declared.disk.PageDisk.{Ghosts as PageDisk}
 use Rattle.cs_disk.specs.Disk.{seen}
 use Rattle.cs_extent.specs.State.{IsWhole, extents_of, shape}
 use Rattle.cs_frame.specs.Formats.{formats_of}
-use Rattle.law_refinement.specs.ImageReads.{page_total}
+use Rattle.cs_core.specs.cs_reader.ImageReads.{page_total}
 use Rattle.cs_index.specs.State.{index_of}
 use Rattle.law_machine.specs.Device.{Shape}
 use Rattle.law_machine.specs.Events.{newest_page}

@@ -12,7 +12,7 @@ use Rattle.cs_disk.specs.Disk.{Rises, seen}
 use Rattle.cs_writeback.specs.Sweeps.{moves}
 use Rattle.cs_extent.specs.State.{shape}
 use Rattle.cs_frame.specs.declared.identifiers.ShardId.{ShardId}
-use Rattle.law_refinement.specs.ImageReads.{page_total}
+use Rattle.cs_core.specs.cs_reader.ImageReads.{page_total}
 use Rattle.cs_index.specs.State.{index_of}
 use Rattle.law_machine.proofs.Sorted.{sorted_live}
 use Rattle.law_machine.specs.Element.{Entry}

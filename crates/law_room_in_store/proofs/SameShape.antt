@@ -3,13 +3,13 @@ use Rattle.std.proofs.Common.{◌≡◌, ℕ, ◌<◌, ◌≤◌, ◌==◌, true
 use Rattle.std.proofs.lemmas.Bool.{cases_Bool}
 use Rattle.cs_disk.specs.declared.disk.PageDisk.{Ghosts as PageDisk}
 use Rattle.cs_disk.specs.Disk.{Image, MayLeave, page}
-use Rattle.cs_extent.specs.State.{section_rows, shape}
+use Rattle.cs_extent.specs.State.{extents_at, section_rows, shape}
 use Rattle.cs_frame.proofs.FormatLaws.{root_fits_from}
 use Rattle.cs_frame.specs.Formats.{formats_of}
 use Rattle.cs_frame.specs.FirstFormat.{SpellsPageZero}
 use Rattle.cs_frame.specs.Geometries.{section_size}
-use Rattle.law_refinement.proofs.Readable.{zero_same}
-use Rattle.law_refinement.specs.ImageReads.{AreSectionsRead, extents_at, page_total}
+use Rattle.cs_core.proofs.cs_reader.Readable.{zero_same}
+use Rattle.cs_core.specs.cs_reader.ImageReads.{AreSectionsRead, page_total}
 use Rattle.law_machine.proofs.Crash.{leaves_prefix}
 use Rattle.law_machine.specs.Device.{IsShape, Page, RootPage, SectionPage, Shape}
 use Rattle.law_machine.specs.Element.{Map, Opening}

@@ -1,5 +1,5 @@
 -- Cores that have room.
-use Rattle.std.specs.Prelude.{◌<◌, ℕ}
+use Rattle.std.specs.Prelude.{◌≡◌, ◌<◌, ℕ, false}
 use Rattle.cs_disk.specs.Disk.{State as DiskState}
 use Rattle.cs_extent.specs.State.{extents_of, shape}
 use Rattle.cs_frame.specs.Formats.{formats_of}
@@ -17,6 +17,10 @@ HasRoom v = HasRoomOn (shape v.store.extents) v.opened
 abbrev pub NoneWornIn : {D : Type 0} → View D → Type 0
 NoneWornIn v = (e : ℕ) → e < (shape v.store.extents).extents
     → (extents_of v.store.extents).generation e < (shape v.store.extents).greatest_generation
+
+-- no extent is being swept
+abbrev pub NoneSweptIn : {D : Type 0} → View D → Type 0
+NoneSweptIn v = (e : ℕ) → (extents_of v.store.extents).swept e ≡ false
 
 -- r is the room of a state that the core is in
 pub record IsRoomIn {D : Type 0} (state : D → DiskState) (v : View D) (r : Room) : Type 0 where

@@ -11,7 +11,7 @@ use Rattle.law_machine.specs.Index.{NoneDamaged, names}
 use Rattle.cs_core.specs.Views.{View}
 use Rattle.cs_inspect.specs.Chunks.{AreLiveChunks, Chunk}
 use Rattle.cs_inspect.specs.declared.extent_uses.ExtentUse.{ExtentUse}
-use Rattle.cs_inspect.specs.Uses.{heads_of}
+use Rattle.cs_inspect.specs.Uses.{AreCounted, AreExtents, heads_of}
 use Rattle.cs_writeback.specs.Runs.{Ran}
 use Rattle.cs_writeback.specs.Syncs.{Syncs}
 use Rattle.cs_store.specs.declared.reclaims.Reclaimed.{Reclaimed}
@@ -52,6 +52,12 @@ module _ {D : Type 0} (disks : PageDisk D) where
   ReclaimsBy zero v w = w ≡ v
   ReclaimsBy (suc n) v w = (swept : Reclaimed) × (mid : View D) × (next : View D) × IsReclaim v (Some swept) mid × AreSynced mid next
       × ReclaimsBy n next w
+
+-- These are the chunks that live in the core, and these the uses of its extents, counted by the headers of those chunks.
+pub record AreUsesOf {D : Type 0} (v : View D) (view : ℕ → List ℕ) (chunks : List Chunk) (uses : List ExtentUse) : Type 0 where
+  pub live : AreLiveChunks (index_of v.store.index) chunks
+  pub listed : AreExtents (shape v.store.extents).extents (extents_of v.store.extents) uses
+  pub counted : AreCounted (heads_of v.store.extents view chunks) uses
 
 -- how many live pages are counted on all of these extents
 abbrev pub total_live : List ExtentUse → ℕ

@@ -4,16 +4,15 @@ ghost use Rattle.cs_chunk.specs.Newest.{AreNewest};
 ghost use Rattle.cs_deps.specs.State.{IsWhole as IsWholeGraph};
 ghost use Rattle.cs_disk.specs.Disk.{seen};
 ghost use Rattle.cs_extent.specs.State.{IsWhole, extents_of, shape};
-ghost use Rattle.cs_index.specs.State.{index_of};
 ghost use Rattle.cs_core.specs.Views.{View};
 ghost use Rattle.cs_writeback.specs.Syncs.{Syncs};
-ghost use Rattle.cs_inspect.specs.Chunks.{AreLiveChunks, Chunk};
+ghost use Rattle.cs_inspect.specs.Chunks.{Chunk};
 ghost use Rattle.cs_inspect.specs.declared.extent_uses.ExtentUse.{ExtentUse};
-ghost use Rattle.cs_inspect.specs.Uses.{AreCounted, AreExtents, heads_of};
 ghost use Rattle.law_room_in_store.specs.Cores.{NoneWornIn};
-ghost use Rattle.law_room_in_store.specs.Reclaims.{IsIdle, IsReclaim, NoneFailed, ReclaimsBy, total_live};
+ghost use Rattle.law_room_in_store.specs.Reclaims.{IsIdle, IsReclaim, NoneFailed, ReclaimsBy, total_live, AreUsesOf};
 ghost use Rattle.law_room_in_store.specs.Roomy.{IsRoomyCore};
 ghost use Rattle.law_room_in_store.specs.Sweeps.{AreLeftForPuts, LiveAtMost};
+ghost use Rattle.law_room.specs.Sweeps.{AreFewPages};
 
 use cs_disk::PageDisk;
 
@@ -26,7 +25,7 @@ pub fn reclaims_leave_room_for_puts<D: PageDisk>()
         → NoneFailed D.PageDisk v w → AreLeftForPuts n w }
     ensures fewer { (v w x : View D) (n k pages : ℕ) → IsRoomyCore D.PageDisk v → NoneWornIn w → IsIdle v
         → (let S = shape v.store.extents in (S.run_extents + n + 3 ≤ S.extents)
-        → LiveAtMost D.state v pages → 2 * pages < (S.extents - (S.run_extents + 1 + n)) * (S.pages + 1)
+        → LiveAtMost D.state v pages → AreFewPages S S.run_extents n pages
         → ReclaimsBy D.PageDisk k v w → IsReclaim D.PageDisk w None x → NoneFailed D.PageDisk v x → AreLeftForPuts n w) }
     // After a sync where no sweep goes on, nothing is left of one that was given up.
     ensures synced { (u v : View D) → IsRoomyCore D.PageDisk u → NoneWornIn v → Syncs D.PageDisk u v
@@ -38,6 +37,5 @@ pub fn reclaims_leave_room_for_puts<D: PageDisk>()
 pub fn no_more_lives_than_is_counted<D: PageDisk>()
     ensures { (v : View D) (view : ℕ → List ℕ) (chunks : List Chunk) (uses : List ExtentUse) → IsRoomyCore D.PageDisk v
         → IsWhole v.store.extents → IsWholeGraph v.store.graph → AreNewest v.store.graph (seen (D.state v.disk)) view
-        → AreLiveChunks (index_of v.store.index) chunks → AreExtents (shape v.store.extents).extents (extents_of v.store.extents) uses
-        → AreCounted (heads_of v.store.extents view chunks) uses → total_live uses < 2 ^ 64 - 1 → LiveAtMost D.state v (total_live uses) }
+        → AreUsesOf v view chunks uses → total_live uses < 2 ^ 64 - 1 → LiveAtMost D.state v (total_live uses) }
 {}

@@ -26,7 +26,7 @@ use self::sweeps::are_both_swept;
 use self::tasks::{End, Ended, Task, run};
 use cs_core::{Core, Limits};
 use cs_disk::{FailAt, MemoryDisk};
-use cs_frame::Geometry;
+use cs_frame::{Format, Geometry};
 use cs_node::{Step, Unclosed};
 use cs_refusal::Refusal;
 use std::alloc::Global;
@@ -45,7 +45,8 @@ fn formatted(
 ) -> Core<FailAt<MemoryDisk>>
     ensures { (result.history ≡ []) × (result.store.accepted ≡ 0) }
 {
-    let geometry = Geometry::of_format(lies.0, lies.1, lies.2, None).expect(rt, "a geometry");
+    let format = Format::numbered(lies.0).expect(rt, "a format");
+    let geometry = Geometry::of_format(format, lies.1, lies.2, None).expect(rt, "a geometry");
     let disk = MemoryDisk::new(alloc, geometry.device_pages()).expect(rt, "a disk");
     match Core::format(alloc, FailAt::new(disk, at), geometry, Limits { history }) {
         Ok(core) => core,
@@ -60,7 +61,7 @@ enum Store {
     Small(usize),
     /// The same with room for all events, of whose disk the call with this number fails.
     Failing(u64),
-    /// The same in format 3, where chunks and runs lie apart.
+    /// The same of format 3.
     Apart(u64),
     /// The same, opened again once it was formatted.
     Again(u64),

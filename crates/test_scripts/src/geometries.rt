@@ -1,5 +1,5 @@
 //! The geometry of a row's store.
-use cs_frame::Geometry;
+use cs_frame::{Format, Geometry};
 use cs_refusal::Refusal;
 
 /// The geometry that words ask for, of those that `cs_cli run` understands: `--format=N`, `--extents=N`, `--pages=N` and `--sections=N`, 2,
@@ -20,6 +20,9 @@ pub fn geometry_of(words: &str) -> Option<Result<Geometry, Refusal>> {
             sections = Some(word.strip_prefix("--sections=")?.parse().ok()?);
         }
     }
+    let Some(format) = Format::numbered(format) else {
+        return Some(Err(Refusal::BadGeometry));
+    };
     match Geometry::of_format(format, extents, pages, sections) {
         Ok(geometry) => Some(Ok(geometry)),
         Err(_) => Some(Err(Refusal::BadGeometry)),

@@ -1,11 +1,10 @@
 -- What a store keeps of its resets.
 use Rattle.std.proofs.Common.{◌≡◌, ℕ, ◌≤◌, Bool, true, false, ap, arith}
 use Rattle.std.specs.Prelude.{◌==◌, if◌then◌else◌, Result, Ok, Err, OnOk, OnErr}
-use Rattle.law_machine.specs.Extents.{Extents, marked}
-use Rattle.cs_extent.specs.Changes.{emptied_in}
+use Rattle.law_machine.specs.Extents.{Extents, emptied, forgotten, marked}
 use Rattle.cs_extent.specs.State.{State, extents_of, shape}
 
-pub resets_after : {A E : Type 0} (r : Result A E) (old new : State) (e root bound : ℕ) → OnOk r (extents_of new ≡ emptied_in (shape old) (extents_of old) e root) → OnErr r (new ≡ old) → root ≤ bound
+pub resets_after : {A E : Type 0} (r : Result A E) (old new : State) (e root bound : ℕ) → OnOk r (extents_of new ≡ forgotten (shape old).apart (emptied (extents_of old) e root) e) → OnErr r (new ≡ old) → root ≤ bound
     → ((d : ℕ) → (extents_of old).reset d ≤ bound) → (d : ℕ) → (extents_of new).reset d ≤ bound
 resets_after (Ok a) old new e root bound ok err le was d =
     let same : (extents_of new).reset d ≡ (if d == e then root else (extents_of old).reset d) = ap (λ (x : Extents). x.reset d) ok in

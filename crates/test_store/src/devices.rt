@@ -1,7 +1,7 @@
-//! Devices in memory, of 5 extents of 3 pages in format 3, on which frames lie.
+//! Devices in memory, of 5 extents of 3 pages, on which frames lie.
 
 use cs_disk::{MemoryDisk, PageDisk};
-use cs_frame::{ChunkHead, Geometry, ShardId, encode_chunk};
+use cs_frame::{ChunkHead, Format, Geometry, ShardId, encode_chunk};
 use cs_salvage::{
     Part, Put, WholeShard, ambiguous, find_parts, missing_puts, newest_whole, read_whole,
 };
@@ -15,7 +15,7 @@ pub struct Device {
 }
 
 /// A device of zeros.
-pub fn new_device(rt: &(impl Abort + AllocGlobal), format: u64) -> Device {
+pub fn new_device(rt: &(impl Abort + AllocGlobal), format: Format) -> Device {
     let geometry = Geometry::of_format(format, 5, 3, None).expect(rt, "a geometry");
     let disk = MemoryDisk::new(rt.alloc(), geometry.device_pages()).expect(rt, "memory");
     Device { disk, geometry }

@@ -257,7 +257,7 @@ names 1.3 1 > true
 names 1.3 9 > true
 names 1.3 10 > false";
 
-/// In format 3 the superblock doesn't need the pages that it shows, and each root needs all that were staged before it.
+/// Where places lie apart the superblock doesn't need the pages that it shows, and each root needs all that were staged before it.
 #[test]
 fn in_format_3_the_root_needs_the_pages(rt: HostRuntime) {
     plays_third(&rt, 1, THIRD);

@@ -184,10 +184,10 @@ fn frames_of_two_pages(rt: HostRuntime) {
 pub enum Format {
     // page 0
     First,
-    // another page of a superblock, in format 2 and in format 3
+    // another page of a superblock, in either format
     Section,
     ThirdSection,
-    // page 1, in format 2 and in format 3
+    // page 1, in either format
     Root,
     ThirdRoot,
     // the first of two pages

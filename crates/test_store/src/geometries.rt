@@ -11,7 +11,7 @@ fn geometry(rt: &impl Abort, extents: u64, pages: u64, sections: u64) -> Geometr
 
 /// A geometry of format 3.
 fn third(extents: u64, pages: u64, sections: Option<u64>) -> Result<Geometry, FormatFault> {
-    Geometry::of_format(3, extents, pages, sections)
+    Geometry::of_format(Format::three(), extents, pages, sections)
 }
 
 /// How many sections a geometry has, or the number of the fault.

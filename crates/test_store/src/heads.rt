@@ -1,4 +1,4 @@
-//! The heads of chunks on a device, in format 3.
+//! The heads of chunks on a device.
 use crate::damage::page;
 use crate::frames::decoded;
 use crate::lost_roots::new_third;

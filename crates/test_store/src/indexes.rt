@@ -14,7 +14,7 @@ use cs_refusal::Refusal;
 use std::alloc::Global;
 use std::process::Abort;
 
-/// The place of a chunk, of mark 0: up to format 2 places have no marks.
+/// The place of a chunk, of mark 0, as in the older formats.
 fn place(page: u16) -> Locator
     ensures { result.mark ≡ 0 }
 {
@@ -70,10 +70,12 @@ fn stage(rt: &impl Abort, store: &mut Store, commands: u64) -> Result<Option<u64
         .stage(&mut store.extents, &mut store.graph, commands)
 }
 
-/// Merges the index, with so many commands.
+/// Merges the index of a store of which chunks and runs may lie on one extent, with so many commands.
 fn merge(rt: &impl Abort, store: &mut Store, commands: u64) -> Result<u64, Refusal>
     requires { commands < 2 ^ 63 }
 {
+    let apart = store.extents.is_apart();
+    assert!(rt; !apart);
     assert_indexed(rt, &store.index, &store.extents);
     assert_families(rt, &store.extents, &store.graph);
     store.index.stage_merged(
@@ -181,7 +183,7 @@ index erase 1 > true
 index set 3 5 > Err(IndexFull)
 index set 1 7 > Ok(())";
 
-/// In format 3 an entry of a chunk weighs 33, and a deletion 17, which makes room of 16. An identifier that is named may be refused more chunks.
+/// An entry of a chunk weighs 33, and a deletion 17, which makes room of 16. An identifier that is named may be refused more chunks.
 #[test]
 fn the_limit_is_a_weight(rt: HostRuntime) {
     plays_third(&rt, 1, WEIGHT);

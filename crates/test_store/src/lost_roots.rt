@@ -1,16 +1,16 @@
-//! A root in the place of a newer one, as where a device lost the write of the newer one. In format 3 a section records the version of the root that
+//! A root in the place of a newer one, as where a device lost the write of the newer one. A section records the version of the root that
 //! was persistent as the section was staged, so a root that is older than such a one is refused.
 use crate::damage::{disk_of, image_of, is_refused, page, set_page};
 use crate::machines::{let_go, new_core_of, opened, play};
 use crate::stores::geometry;
 use cs_core::Core;
 use cs_disk::MemoryDisk;
-use cs_frame::{Geometry, decode_superblock};
+use cs_frame::{Format, Geometry, decode_superblock};
 use std::process::Abort;
 
 /// A new store of format 3, of 6 extents of 2 pages.
 pub fn new_third(rt: &(impl Abort + AllocGlobal)) -> Core<MemoryDisk> {
-    let third = Geometry::of_format(3, 6, 2, None).expect(rt, "a geometry");
+    let third = Geometry::of_format(Format::three(), 6, 2, None).expect(rt, "a geometry");
     new_core_of(rt, third, 1000)
 }
 
@@ -98,7 +98,7 @@ get 10 > Found(Bytes { block: [97] })
 get 11 > Found(Bytes { block: [98] })
 get 12 > Absent";
 
-/// Up to format 2 nothing is recorded, and any root of before is opened.
+/// In the older formats nothing is recorded, and any root of before is opened.
 #[test]
 fn up_to_format_2_an_older_root_is_opened(rt: HostRuntime) {
     let (first, _, third) = after_each(&rt, new_core_of(&rt, geometry(&rt, 6, 1), 1000));

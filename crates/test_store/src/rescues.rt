@@ -14,7 +14,7 @@ fn id(last: u8) -> ShardId {
 /// A new store of format 3, of 8 extents of 4 pages.
 fn new_core(rt: &(impl Abort + AllocGlobal)) -> Core<MemoryDisk> {
     let alloc = rt.alloc();
-    let geometry = Geometry::of_format(3, 8, 4, Some(2)).expect(rt, "a geometry");
+    let geometry = Geometry::of_format(Format::three(), 8, 4, Some(2)).expect(rt, "a geometry");
     let disk = MemoryDisk::new(alloc, geometry.device_pages()).expect(rt, "a disk");
     match Core::format(alloc, disk, geometry, Limits { history: 1000 }) {
         Ok(core) => core,

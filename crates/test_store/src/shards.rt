@@ -1,6 +1,6 @@
 //! What is salvaged of a device.
 use crate::devices::{Device, bytes, damage, id, missing, new_device, parts, put, salvaged};
-use cs_frame::ChunkHead;
+use cs_frame::{ChunkHead, Format};
 use cs_salvage::{newest_whole, what_stands_is_whole, whole_shards_are_what_was_put};
 use std::process::Abort;
 
@@ -23,7 +23,7 @@ fn gives(rt: &(impl Abort + AllocGlobal), device: &mut Device, wanted: &str) {
 /// A device with two shards: 1 has three chunks, of which the first has two pages, and lies scattered; 2 was put twice, the older put has two
 /// chunks.
 fn two_shards(rt: &(impl Abort + AllocGlobal)) -> Device {
-    let mut device = new_device(rt, 3);
+    let mut device = new_device(rt, Format::three());
     put(rt, &mut device, (3, 0), head(1, 0, 3, 7), &[5; 5000]);
     put(rt, &mut device, (0, 2), head(1, 1, 3, 7), &[6, 6]);
     put(rt, &mut device, (0, 0), head(1, 2, 3, 7), &[9]);
@@ -95,7 +95,7 @@ fn a_newest_put_that_is_not_whole_is_missing(rt: HostRuntime) {
 
 #[test]
 fn heads_that_no_put_writes_are_no_parts(rt: HostRuntime) {
-    let mut device = new_device(&rt, 3);
+    let mut device = new_device(&rt, Format::three());
     put(&rt, &mut device, (0, 0), head(1, 1, 1, 7), &[5]);
     put(&rt, &mut device, (0, 1), head(1, 0, 9, 7), &[5]);
     // It would end on the next extent.
@@ -105,7 +105,7 @@ fn heads_that_no_put_writes_are_no_parts(rt: HostRuntime) {
 
 #[test]
 fn an_older_format_has_no_parts(rt: HostRuntime) {
-    let mut device = new_device(&rt, 2);
+    let mut device = new_device(&rt, Format::two());
     put(&rt, &mut device, (0, 0), head(1, 0, 1, 7), &[5; 100]);
     assert!(rt; parts(&rt, &mut device).is_empty());
 }

@@ -12,7 +12,7 @@ use crate::{chunks, extents, indexes, sweeps};
 use cs_deps::Graph;
 use cs_disk::{FailAt, PageDisk};
 use cs_extent::Extents;
-use cs_frame::{Geometry, ShardId, Superblock};
+use cs_frame::{Format, Geometry, ShardId, Superblock};
 use cs_index::Index;
 use std::alloc::{AllocError, Global};
 use std::process::Abort;
@@ -204,7 +204,7 @@ pub fn plays_large(rt: &(impl Abort + AllocGlobal), script: &str) {
 
 /// Does what a script says on an empty store of format 3, of 6 extents of 2 pages and of so many sections, whose index may weigh 100 bytes.
 pub fn plays_third(rt: &(impl Abort + AllocGlobal), sections: u64, script: &str) {
-    let third = Geometry::of_format(3, 6, 2, Some(sections)).expect(rt, "a geometry");
+    let third = Geometry::of_format(Format::three(), 6, 2, Some(sections)).expect(rt, "a geometry");
     plays_on(rt, third, 100, 0, script);
 }
 

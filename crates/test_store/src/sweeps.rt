@@ -1,5 +1,5 @@
 //! A sweep from its beginning to its end.
-ghost use Rattle.std.specs.Prelude.{ℕ, ◌≡◌, ◌↔◌, ◌<◌, IsTrue, Some, map};
+ghost use Rattle.std.specs.Prelude.{ℕ, ◌≡◌, ◌↔◌, ◌<◌, IsTrue, Some, false, map};
 ghost use Rattle.cs_extent.specs.State.{extents_of, shape};
 ghost use Rattle.cs_frame.specs.Formats.{place_of};
 ghost use Rattle.cs_index.specs.State.{index_of};
@@ -39,7 +39,7 @@ fn put(
     )?;
     let count = places.as_slice().len();
     assert!(rt; count == 1);
-    // Up to format 2 it has no mark.
+    // In the older formats it has no mark.
     let place = places.as_slice()[0];
     assert!(rt; place.mark == 0);
     let places = Places::from_slice(alloc, &[place]).expect(rt, "memory");
@@ -79,10 +79,13 @@ fn all_inside(index: &Index, extents: usize, pages: usize) -> bool
     true
 }
 
-/// Asserts that an extent is being swept.
+/// Asserts that an extent is being swept, in a store of which chunks and runs may lie on one extent.
 fn assert_swept(rt: &impl Abort, extents: &Extents, sweep: &Sweep)
-    ensures { IsSwept (shape extents.now) (extents_of extents.now) sweep.now }
+    ensures swept { IsSwept (shape extents.now) (extents_of extents.now) sweep.now }
+    ensures together { (shape extents.now).apart ≡ false }
 {
+    let apart = extents.is_apart();
+    assert!(rt; !apart);
     let extent = sweep.extent();
     let count = extents.extent_count();
     assert!(rt; extent < count);

@@ -72,7 +72,10 @@ const OF_TWO: &str =
 /// It is read of page 0 and of another page, and not in format 2.
 #[test]
 fn a_section_of_format_3(rt: HostRuntime) {
-    let geometry = Geometry::of_format(3, 6, 300, Some(3)).expect(&rt, "a geometry");
+    let geometry = Geometry::of_format(StoreFormat::three(), 6, 300, Some(3)).expect(
+        &rt,
+        "a geometry",
+    );
     let page = encode_section(7, 5, geometry, 1, &[(299, 0), (0, 1)]);
     assert!(rt; is_page(&page, &SECOND_OF_THREE));
     let zero = decode_superblock(rt.alloc(), &page).expect(&rt, "a superblock");
@@ -133,7 +136,7 @@ fn head() -> ChunkHead {
     }
 }
 
-/// The digest, and with it the mark, is that of head and piece together. Up to format 2 there is no head.
+/// The digest, and with it the mark, is that of head and piece together. In the older formats there is no head.
 #[test]
 fn a_chunk_behind_its_head(rt: HostRuntime) {
     let alloc = rt.alloc();

@@ -105,7 +105,7 @@ fn a_reclaimer_runs_until_its_sweeps_are_done(rt: HostRuntime) {
     );
 }
 
-/// A sweep in format 3 whose second move fails is abandoned, once all commands are persistent. No other begins while its copy is noted. The
+/// A sweep of format 3 whose second move fails is abandoned, once all commands are persistent. No other begins while its copy is noted. The
 /// pilot writes the copy, and then stages a root alone, after which the next sweep goes to its end.
 const GIVES_UP_APART: &[Act] = &[
     Act::Put(10, Ok(1)),

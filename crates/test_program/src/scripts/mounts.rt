@@ -1,7 +1,7 @@
 //! Stores that are made, and that aren't.
 use cs_core::{Core, Limits};
 use cs_disk::{MemoryDisk, PageDisk};
-use cs_frame::Geometry;
+use cs_frame::{Format, Geometry};
 use cs_mount::{MountOptions, open_pairs};
 use cs_refusal::Refusal;
 use std::alloc::Global;
@@ -46,7 +46,7 @@ fn why_not_formatted<D: PageDisk + Drop>(
 #[test]
 fn no_store_is_made_over_another(rt: HostRuntime) -> Result<(), Fail> {
     let alloc = rt.alloc();
-    let geometry = Geometry::of_format(3, 6, 2, None)?;
+    let geometry = Geometry::of_format(Format::three(), 6, 2, None)?;
     match made(alloc, MemoryDisk::new(alloc, 16)?, geometry) {
         Ok(disk) => match made(alloc, disk, geometry) {
             Ok(_) => panic!(&rt; "made over another"),
@@ -63,10 +63,10 @@ fn no_store_is_made_over_another(rt: HostRuntime) -> Result<(), Fail> {
 #[test]
 fn a_store_of_format_3_needs_pairs(rt: HostRuntime) -> Result<(), Fail> {
     let alloc = rt.alloc();
-    let third = Geometry::of_format(3, 6, 2, None)?;
+    let third = Geometry::of_format(Format::three(), 6, 2, None)?;
     let why = why_not_formatted(alloc, MemoryDisk::new(alloc, 16)?, third);
     assert_eq!(&rt; why, Some(Refusal::DeviceFault));
-    let second = Geometry::of_format(2, 6, 2, None)?;
+    let second = Geometry::of_format(Format::two(), 6, 2, None)?;
     let why = why_not_formatted(alloc, MemoryDisk::new(alloc, 14)?, second);
     assert_eq!(&rt; why, None);
     Ok(())

@@ -4,7 +4,7 @@ ghost use Rattle.std.specs.Prelude.{◌≡◌, [], IfOk};
 use crate::timings::faults::Fault;
 use cs_core::{Core, Limits};
 use cs_disk::MemoryDisk;
-use cs_frame::{Geometry, ShardId};
+use cs_frame::{Format, Geometry, ShardId};
 use cs_refusal::Refusal;
 use std::alloc::Global;
 
@@ -22,7 +22,10 @@ pub fn new_core(
 ) -> Result<Core<MemoryDisk>, Fault>
     ensures { IfOk result (λ core. (core.history ≡ []) × (core.store.accepted ≡ 0)) }
 {
-    let geometry = Geometry::of_format(form, extents, pages, Some(sections))?;
+    let Some(known) = Format::numbered(form) else {
+        return Err(Fault::Refused(Refusal::BadGeometry));
+    };
+    let geometry = Geometry::of_format(known, extents, pages, Some(sections))?;
     let disk = MemoryDisk::new(alloc, geometry.device_pages())?;
     match format(alloc, disk, geometry) {
         Ok(core) => Ok(core),

@@ -1,4 +1,4 @@
-use Rattle.std.proofs.Common.{◌≡◌, ℕ, Bool, true, false, List, subst}
+use Rattle.std.proofs.Common.{◌≡◌, ℕ, Bool, true, false, List}
 use Rattle.std.specs.Prelude.{MatchBool}
 use Rattle.cs_refusal.specs.declared.refusals.Refusal.TheVariants.{Full, WornOut}
 use Rattle.cs_extent.specs.State.{State as ExtentsState, extents_of, shape}
@@ -10,24 +10,24 @@ use Rattle.cs_core.specs.Stored.{IsWhyWorn}
 use Rattle.cs_reader.proofs.Loading.{failed, passed}
 use Rattle.cs_core.proofs.commands.why_worn.Goals as goal
 
--- the frames of the chunks find places by this rule, or they don't
-abbrev Fit : ExtentsState → List ℕ → Bool → (id command : ℕ) → Type 0
-Fit x bytes b id command = (cs : List (List ℕ)) × ArePayloads (shape x) (formats_of (shape x)) id command bytes cs
-    × FitsBy (shape x) b (extents_of x) ForPut (page_counts (chunk_frames (shape x) (formats_of (shape x)) cs))
+-- the frames of the chunks find places, or they don't
+abbrev Fit : ExtentsState → List ℕ → (id command : ℕ) → Type 0
+Fit x bytes id command = (cs : List (List ℕ)) × ArePayloads (shape x) (formats_of (shape x)) id command bytes cs
+    × FitsBy (shape x) (shape x).apart (extents_of x) ForPut (page_counts (chunk_frames (shape x) (formats_of (shape x)) cs))
 
-abbrev FitNot : ExtentsState → List ℕ → Bool → (id command : ℕ) → Type 0
-FitNot x bytes b id command = (cs : List (List ℕ)) → ArePayloads (shape x) (formats_of (shape x)) id command bytes cs
-    → FitsBy (shape x) b (extents_of x) ForPut (page_counts (chunk_frames (shape x) (formats_of (shape x)) cs)) → ⊥
+abbrev FitNot : ExtentsState → List ℕ → (id command : ℕ) → Type 0
+FitNot x bytes id command = (cs : List (List ℕ)) → ArePayloads (shape x) (formats_of (shape x)) id command bytes cs
+    → FitsBy (shape x) (shape x).apart (extents_of x) ForPut (page_counts (chunk_frames (shape x) (formats_of (shape x)) cs)) → ⊥
 
-module _ (x : ExtentsState) (bytes : List ℕ) (b told : Bool) (same : b ≡ (shape x).apart) (says : (id command : ℕ) → MatchBool told (Fit x bytes b id command) (FitNot x bytes b id command)) where
+module _ (x : ExtentsState) (bytes : List ℕ) (told : Bool) (says : (id command : ℕ) → MatchBool told (Fit x bytes id command) (FitNot x bytes id command)) where
   fits_worn : told ≡ true → IsWhyWorn x bytes WornOut
-  fits_worn is = λ id command. subst (λ (k : Bool). Fit x bytes k id command) same (passed (Fit x bytes b id command) (FitNot x bytes b id command) told (says id command) is)
+  fits_worn is = λ id command. passed (Fit x bytes id command) (FitNot x bytes id command) told (says id command) is
 
   fits_not : told ≡ false → IsWhyWorn x bytes Full
-  fits_not is = λ id command. subst (λ (k : Bool). FitNot x bytes k id command) same (failed (Fit x bytes b id command) (FitNot x bytes b id command) told (says id command) is)
+  fits_not is = λ id command. failed (Fit x bytes id command) (FitNot x bytes id command) told (says id command) is
 
-pub returns-then-put_fits_by : goal.returns-then-put_fits_by
-returns-then-put_fits_by c = fits_worn c.args.extents.now c.args.bytes.now c.is_apart.result c.put_fits_by.result c.is_apart.ensures c.put_fits_by.ensures c.if-put_fits_by.true
+pub returns-then-put_fits : goal.returns-then-put_fits
+returns-then-put_fits c = fits_worn c.args.extents.now c.args.bytes.now c.put_fits.result c.put_fits.ensures c.if-put_fits.true
 
-pub returns-else-put_fits_by : goal.returns-else-put_fits_by
-returns-else-put_fits_by c = fits_not c.args.extents.now c.args.bytes.now c.is_apart.result c.put_fits_by.result c.is_apart.ensures c.put_fits_by.ensures c.if-put_fits_by.false
+pub returns-else-put_fits : goal.returns-else-put_fits
+returns-else-put_fits c = fits_not c.args.extents.now c.args.bytes.now c.put_fits.result c.put_fits.ensures c.if-put_fits.false

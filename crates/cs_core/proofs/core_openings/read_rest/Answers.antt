@@ -6,7 +6,7 @@ use Rattle.cs_frame.specs.Locators.{KeepFormat}
 use Rattle.cs_reader.proofs.Causes.{caused_loaded}
 use Rattle.cs_reader.proofs.HeadReads.{few_runs, none_waits, places_fit, room_for}
 use Rattle.cs_reader.proofs.Loading.{fits_keep}
-use Rattle.cs_reader.proofs.Readying.{extents_again}
+use Rattle.cs_reader.proofs.Located.{extents_again}
 use Rattle.cs_core.proofs.Opening.{caused_still, index_damaged, is_newest, root_lost, run_damaged, store_made}
 use Rattle.cs_core.proofs.core_openings.read_rest.Goals as goal
 

@@ -12,16 +12,16 @@ new_graph-requires-clause-sections c = new_sections c.args.geometry.format c.arg
 pub invariant_of-result : goal.invariant_of-result
 invariant_of-result c =
     let g = c.args.geometry in
-    let made = new_is g.format g.extents g.pages g.sections c.in_ok-graph.graph c.in_ok-extents.extents c.in_ok-index.index c.none-copies.result c.in_ok-roots.roots.items
+    let made = new_is g.format g.extents g.pages g.sections c.in_ok-graph.graph c.in_ok-extents.extents c.in_ok-index.index c.none-sweeps.result c.in_ok-roots.roots.items
     (new_graph_is g.format g.extents g.pages g.sections c.args.sections.now c.requires c.in_ok-graph.graph c.in_ok-graph.ensures)
     (new_extents_are g.format g.extents g.pages g.sections c.args.sections.now c.requires c.in_ok-extents.extents c.in_ok-extents.ensures)
-    c.in_ok-index.ensures c.none-copies.ensures c.in_ok-roots.ensures in
+    c.in_ok-index.ensures c.none-sweeps.ensures c.in_ok-roots.ensures in
     subst IsKept (sym made) (kept_new g.format g.extents g.pages g.sections c.requires.geometry.fewest_sections)
 
 pub returns : goal.returns
 returns c =
     let g = c.args.geometry in
-    new_is g.format g.extents g.pages g.sections c.in_ok-graph.graph c.in_ok-extents.extents c.in_ok-index.index c.none-copies.result c.in_ok-roots.roots.items
+    new_is g.format g.extents g.pages g.sections c.in_ok-graph.graph c.in_ok-extents.extents c.in_ok-index.index c.none-sweeps.result c.in_ok-roots.roots.items
     (new_graph_is g.format g.extents g.pages g.sections c.args.sections.now c.requires c.in_ok-graph.graph c.in_ok-graph.ensures)
     (new_extents_are g.format g.extents g.pages g.sections c.args.sections.now c.requires c.in_ok-extents.extents c.in_ok-extents.ensures)
-    c.in_ok-index.ensures c.none-copies.ensures c.in_ok-roots.ensures
+    c.in_ok-index.ensures c.none-sweeps.ensures c.in_ok-roots.ensures

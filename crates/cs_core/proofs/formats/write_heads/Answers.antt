@@ -20,3 +20,10 @@ returns-in-Ok-clause-failed g c = λ h.
     let s = c.args.geometry in
     heads_failed s.extents s.pages (g.D.PageDisk.state c.args.disk.now) c.write_root.result (g.D.PageDisk.state c.write_sections.new.disk) (g.D.PageDisk.state c.write_root.new.disk) c.encode_root.result (c.in-Ok.ensures.written h).head
     (c.write_root.ensures.failed (c.write_sections.ensures.honest.0 h))
+
+pub returns-in-Ok-clause-taken : goal.returns-in-Ok-clause-taken
+returns-in-Ok-clause-taken g c = λ h sound takes.
+    let mid = c.in-Ok.ensures.root h sound takes in
+    let spelled = subst (λ (f : ℕ). SpellsRoot c.encode_root.result f 1 0 []) c.format.ensures.format
+    (subst (λ (ls : List Locator). SpellsRoot c.encode_root.result c.format.result 1 0 ls) c.new.ensures.items c.encode_root.ensures) in
+    c.write_root.ensures.taken (c.write_sections.ensures.honest.0 h) mid.0 (mid.1.of_root c.encode_root.result spelled) ∙ c.write_sections.ensures.taken h sound takes

@@ -1,8 +1,9 @@
-use Rattle.std.proofs.Common.{◌≡◌, ◌⊎◌, ◌∙◌, ◌<◌, inl, inr, ⊎_elim, ℕ, List, Result, Ok, Err, OnErr, OnOk, ap, arith, replicate, subst}
+use Rattle.std.proofs.Common.{◌≡◌, ◌⊎◌, ◌∙◌, ◌<◌, inl, inr, ⊎_elim, ℕ, List, Result, Ok, Err, OnErr, OnOk, ap, arith, replicate, subst, sym}
 use Rattle.cs_disk.specs.Disk.{State as DiskState, written}
 use Rattle.cs_frame.specs.Geometries.{device_pages, section_length}
 use Rattle.cs_frame.specs.Superblocks.{SpellsSuperblock}
 use Rattle.cs_core.proofs.Heads.{head_below, head_page}
+use Rattle.cs_core.proofs.NewTaken.{others_taken}
 use Rattle.cs_core.proofs.Starting.{spelled_new}
 use Rattle.cs_core.proofs.formats.write_section.Goals as goal
 
@@ -42,3 +43,17 @@ returns-clause-failed g c = λ h.
     let s = c.args.geometry in
     faulted c.write.result (g.D.PageDisk.state c.args.disk.now) (g.D.PageDisk.state c.write.new.self) c.section_page-number.result (head_page s.extents s.pages c.args.superblock.now.section) c.encode_superblock.result
     c.section_page-number.ensures (c.write.ensures.fault h)
+
+pub returns-clause-taken : goal.returns-clause-taken
+returns-clause-taken g c = λ h sound takes.
+    let it = c.args.superblock.now in
+    let s = c.args.geometry in
+    let few = subst (λ (n : ℕ). it.section < n) c.requires.section.section_at.of_sections c.requires.section.section_at.is.one_of_them in
+    let spelled = spelled_new s.format s.extents s.pages s.sections it.section it c.requires.section c.encode_superblock.result c.encode_superblock.ensures in
+    c.write.ensures.taken h sound
+    (subst (λ (n : ℕ). g.D.PageDisk.takes c.args.disk.now n c.encode_superblock.result) (sym c.section_page-number.ensures) (takes.of_section it.section c.encode_superblock.result (omega arith) few spelled))
+
+pub returns-clause-others : goal.returns-clause-others
+returns-clause-others g c = λ h.
+    let s = c.args.geometry in
+    others_taken g.D.PageDisk s.format s.extents s.pages s.sections c.write.result c.args.disk.now c.write.new.self c.args.superblock.now.section c.section_page-number.result c.section_page-number.ensures (c.write.ensures.others h)

@@ -1,5 +1,6 @@
 use Rattle.std.proofs.Common.{◌≡◌, ◌∙◌, Bool, true, List, ap, sym, take_all, ℕ}
 use Rattle.std.specs.Prelude.{map}
+use Rattle.law_machine.specs.Geometry.{apart_in}
 use Rattle.cs_extent.specs.State.{found_at}
 use Rattle.cs_extent.proofs.notes.found_at.Goals as goal
 
@@ -11,4 +12,4 @@ pub returns : goal.returns
 returns c =
     c.loop-extent.invariant
     ∙ ap (map (λ (row : ℕ × ℕ). row.0)) (take_all c.loop-extent.extent-index c.args.written.now c.loop-extent-test.false)
-    ∙ all_found c.args.apart c.args.written.now c.if-not-apart.false
+    ∙ all_found (apart_in c.args.format) c.args.written.now (sym c.lies_apart.ensures ∙ c.if-not-lies_apart.false)

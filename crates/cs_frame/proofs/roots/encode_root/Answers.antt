@@ -15,7 +15,7 @@ pub seal-requires : goal.seal-requires
 seal-requires c =
     let root = c.args.root.now in
     let magic : text_of c.append.new.self ≡ codes "CSR" = wrote c.new-page.ensures c.append.ensures refl in
-    let digit : text_of c.append-2.new.self ≡ codes "CSR" ++ root_digit root.format ∷ [] = wrote magic c.append-2.ensures (ap (λ (n : ℕ). n ∷ []) c.root_digit.ensures) in
+    let digit : text_of c.append-2.new.self ≡ codes "CSR" ++ root_digit root.format ∷ [] = wrote magic c.append-2.ensures (ap (λ (n : ℕ). n ∷ []) c.root_digit.ensures.digit) in
     let version = wrote digit c.append-3.ensures c.to_be_bytes.ensures in
     let commands = wrote version c.append-4.ensures c.to_be_bytes-2.ensures in
     let count = wrote commands c.append-5.ensures (ap (λ (n : ℕ). n ∷ []) (c.len.ensures ∙ root.runs.ok.0)) in
@@ -26,7 +26,7 @@ pub returns : goal.returns
 returns c =
     let root = c.args.root.now in
     let magic : text_of c.append.new.self ≡ codes "CSR" = wrote c.new-page.ensures c.append.ensures refl in
-    let digit : text_of c.append-2.new.self ≡ codes "CSR" ++ root_digit root.format ∷ [] = wrote magic c.append-2.ensures (ap (λ (n : ℕ). n ∷ []) c.root_digit.ensures) in
+    let digit : text_of c.append-2.new.self ≡ codes "CSR" ++ root_digit root.format ∷ [] = wrote magic c.append-2.ensures (ap (λ (n : ℕ). n ∷ []) c.root_digit.ensures.digit) in
     let version = wrote digit c.append-3.ensures c.to_be_bytes.ensures in
     let commands = wrote version c.append-4.ensures c.to_be_bytes-2.ensures in
     let count = wrote commands c.append-5.ensures (ap (λ (n : ℕ). n ∷ []) (c.len.ensures ∙ root.runs.ok.0)) in

@@ -9,7 +9,7 @@ returns-in_err-check_page-clause-read c = λ version recorded extents pages sect
 pub returns-clause-spelled : goal.returns-clause-spelled
 returns-clause-spelled c =
     let it = c.in_ok-section_from.ensures in
-    spells c.args.page.now c.args.format _ _ _ _ _ _ _ _ c.requires c.in_ok-check_page.ensures.page (sym c.in_ok-check_page.ensures.fault) it.format it.version it.record it.extent_count it.pages it.counts it.section it.extents
+    spells c.args.page.now c.args.format _ _ _ _ _ _ _ _ c.in_ok-check_page.ensures.known c.in_ok-check_page.ensures.page (sym c.in_ok-check_page.ensures.fault) it.format it.version it.record it.extent_count it.pages it.counts it.section it.extents
 
 pub returns-clause-read : goal.returns-clause-read
 returns-clause-read c = λ version recorded extents pages sections section written s.

@@ -5,12 +5,12 @@ use Rattle.cs_frame.proofs.Pieces.{AllByRecursion-and}
 use Rattle.cs_frame.proofs.SuperblockLaws.{end_in_page, extents_in_page, length-superblock_fields}
 use Rattle.cs_frame.proofs.superblocks.spelled_page.Goals as goal
 
-pub unsealed-page-requires-clause-size : goal.unsealed-page-requires-clause-size
-unsealed-page-requires-clause-size c = omega (arith, c.requires.count, extents_in_page c.args.format c.args.extent_count c.args.pages c.args.sections c.args.section c.requires.geometry)
+pub unsealed-page-requires : goal.unsealed-page-requires
+unsealed-page-requires c = omega (arith, c.requires.count, extents_in_page c.args.head.format c.args.head.extent_count c.args.head.pages c.args.head.sections c.args.head.section c.requires.geometry)
 
 pub seal-requires : goal.seal-requires
 seal-requires c =
-    omega (arith, ap length c.unsealed-page.ensures.text, length-superblock_fields c.args.format c.args.version c.args.recorded c.args.extent_count c.args.pages c.args.sections c.args.section c.args.extents.now, c.requires.count, end_in_page c.args.format c.args.extent_count c.args.pages c.args.sections c.args.section c.requires.geometry)
+    omega (arith, ap length c.unsealed-page.ensures.text, length-superblock_fields c.args.head.format c.args.head.version c.args.head.recorded c.args.head.extent_count c.args.head.pages c.args.head.sections c.args.head.section c.args.extents.now, c.requires.count, end_in_page c.args.head.format c.args.head.extent_count c.args.head.pages c.args.head.sections c.args.head.section c.requires.geometry)
 
 pub returns : goal.returns
 returns c = record {
@@ -21,10 +21,7 @@ returns c = record {
     geometry = c.requires.geometry;
     one_of_them = c.requires.one_of_them;
     count = c.requires.count;
-    each = AllByRecursion-and (λ (extent : ℕ × ℕ). extent.0 ≤ c.args.pages) FitsGeneration (FitsExtent c.args.pages) (λ e low fits. record { pointer = low; generation = fits.generation }) c.args.extents.now c.requires.pointers c.unsealed-page.ensures.generations;
+    each = AllByRecursion-and (λ (extent : ℕ × ℕ). extent.0 ≤ c.args.head.pages) FitsGeneration (FitsExtent c.args.head.pages) (λ e low fits. record { pointer = low; generation = fits.generation }) c.args.extents.now c.requires.pointers c.unsealed-page.ensures.generations;
   };
   spelled = c.finish.ensures ∙ ap padded (c.seal.ensures ∙ ap sealed c.unsealed-page.ensures.text);
 }
-
-pub unsealed-page-requires-clause-known : goal.unsealed-page-requires-clause-known
-unsealed-page-requires-clause-known c = c.requires.geometry.known

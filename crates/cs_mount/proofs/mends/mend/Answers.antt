@@ -29,3 +29,6 @@ returns-in-Err-clause-crash g c = rw (← c.into_disk-disk.ensures) c.repair_all
 
 pub returns-in-Err-clause-honest : goal.returns-in-Err-clause-honest
 returns-in-Err-clause-honest g c = rw (← c.into_disk-disk.ensures) c.repair_all.ensures.honest
+
+pub returns-in-Err-clause-unrefused : goal.returns-in-Err-clause-unrefused
+returns-in-Err-clause-unrefused g c = rw (← c.into_disk-disk.ensures) c.repair_all.ensures.refusals

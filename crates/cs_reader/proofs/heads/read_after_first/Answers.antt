@@ -4,7 +4,7 @@ use Rattle.cs_disk.specs.Disk.{Image, page, seen}
 use Rattle.cs_extent.specs.Sections.{AreSections, format_of, pages_of, rows_of}
 use Rattle.cs_frame.specs.Geometries.{device_pages}
 use Rattle.cs_frame.specs.declared.superblocks.Superblock.{Superblock}
-use Rattle.law_refinement.specs.ImageReads.{AreSectionsRead}
+use Rattle.cs_reader.specs.ImageReads.{AreSectionsRead}
 use Rattle.cs_reader.proofs.HeadReads.{head_before, records_of, section_damaged, versions_of, why_before}
 use Rattle.cs_reader.proofs.heads.read_after_first.Goals as goal
 

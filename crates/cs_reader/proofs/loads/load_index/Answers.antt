@@ -1,10 +1,10 @@
 use Rattle.std.proofs.Common.{◌∙◌, ◌<◌, sym}
 use Rattle.cs_extent.specs.State.{shape}
-use Rattle.law_refinement.specs.ImageReads.{AreLocated, AreVisibleLocated}
+use Rattle.cs_reader.specs.ImageReads.{AreLocated, AreVisibleLocated}
 use Rattle.cs_index.specs.State.{newest_first}
 use Rattle.law_machine.specs.Index.{entries_of, named_weight}
 use Rattle.cs_reader.specs.Openings.{AreLocatedBy}
-use Rattle.cs_reader.proofs.Readying.{hidden_gone, hidden_stand, located_visible, located_whole, ok_by, why_by}
+use Rattle.cs_reader.proofs.Located.{hidden_gone, hidden_stand, located_visible, located_whole, ok_by, why_by}
 use Rattle.cs_reader.proofs.loads.load_index.Goals as goal
 
 pub returns-then-is_apart-clause-located : goal.returns-then-is_apart-clause-located

@@ -4,7 +4,7 @@ use Rattle.cs_refusal.specs.declared.refusals.Refusal.TheVariants.{NotAStore}
 use Rattle.cs_frame.proofs.GeometryLaws.{bounds}
 use Rattle.cs_frame.specs.Locators.{KeepFormat}
 use Rattle.cs_frame.specs.Runs.{IsRun}
-use Rattle.law_refinement.specs.Images.{index_at}
+use Rattle.cs_reader.specs.Loads.{index_at}
 use Rattle.cs_index.proofs.Weights.{most_few}
 use Rattle.cs_index.specs.State.{newest_first}
 use Rattle.law_machine.specs.Geometry.{most_weight_in, weigh_in}

@@ -2,7 +2,7 @@ use Rattle.std.proofs.Common.{◌<◌, inl, inr, ⊎_elim}
 use Rattle.cs_extent.specs.State.{shape}
 use Rattle.cs_index.specs.State.{newest_first}
 use Rattle.law_machine.specs.Index.{entries_of, named_weight}
-use Rattle.cs_reader.proofs.Readying.{live_hidden, live_visible}
+use Rattle.cs_reader.proofs.Located.{live_hidden, live_visible}
 use Rattle.cs_reader.proofs.loads.load_visible.Goals as goal
 
 pub returns-in-Ok-clause-located : goal.returns-in-Ok-clause-located

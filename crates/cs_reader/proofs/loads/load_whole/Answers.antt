@@ -1,5 +1,5 @@
 use Rattle.std.proofs.Common.{List, inl, inr, subst, ⊎_elim}
-use Rattle.law_refinement.specs.ImageReads.{AreLocated}
+use Rattle.cs_reader.specs.ImageReads.{AreLocated}
 use Rattle.cs_index.specs.declared.stored_runs.StoredRun.{StoredRun}
 use Rattle.cs_reader.proofs.loads.load_whole.Goals as goal
 

@@ -1,6 +1,6 @@
 use Rattle.std.proofs.Common.{take}
 use Rattle.std.specs.List.{AllByRecursion}
-use Rattle.law_refinement.specs.ImageReads.{IsLocated}
+use Rattle.cs_reader.specs.ImageReads.{IsLocated}
 use Rattle.cs_reader.proofs.run_readings.are_entries_located.Given as goal
 
 abbrev pub invariant-loop-k : goal.invariant-loop-k

@@ -3,7 +3,7 @@ use Rattle.std.specs.List.{AllByRecursion}
 use Rattle.std.proofs.lemmas.Option.{slice_get_read}
 use Rattle.cs_frame.specs.declared.identifiers.ShardId.{ShardId}
 use Rattle.cs_frame.specs.Places.{Listed}
-use Rattle.law_refinement.specs.ImageReads.{IsLocated}
+use Rattle.cs_reader.specs.ImageReads.{IsLocated}
 use Rattle.cs_reader.proofs.Loading.{all_more}
 use Rattle.cs_reader.proofs.run_readings.are_located.Goals as goal
 

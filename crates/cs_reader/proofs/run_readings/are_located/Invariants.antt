@@ -1,5 +1,5 @@
 use Rattle.std.proofs.Common.{take}
-use Rattle.law_refinement.specs.ImageReads.{AreLocated}
+use Rattle.cs_reader.specs.ImageReads.{AreLocated}
 use Rattle.cs_reader.proofs.run_readings.are_located.Given as goal
 
 abbrev pub invariant-loop-k : goal.invariant-loop-k

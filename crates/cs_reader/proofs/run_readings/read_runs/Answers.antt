@@ -9,8 +9,8 @@ use Rattle.cs_disk.specs.Disk.{State, page, seen}
 use Rattle.cs_extent.specs.State.{shape}
 use Rattle.cs_frame.specs.declared.locators.Locator.{Locator}
 use Rattle.cs_frame.specs.Runs.{IsRun}
-use Rattle.law_refinement.proofs.OneByOne.{next_read}
-use Rattle.law_refinement.specs.ImageReads.{AreRunsRead, IsLocated, IsRunRead}
+use Rattle.cs_reader.proofs.OneByOne.{next_read}
+use Rattle.cs_reader.specs.ImageReads.{AreRunsRead, IsLocated, IsRunRead}
 use Rattle.cs_index.proofs.Sorted.{all_append}
 use Rattle.cs_index.specs.declared.stored_runs.StoredRun.{StoredRun}
 use Rattle.cs_reader.proofs.Loading.{listed_more, no_runs}

@@ -4,7 +4,7 @@ use Rattle.cs_disk.specs.Disk.{page, seen}
 use Rattle.cs_disk.specs.Reads.{OnlyReads}
 use Rattle.cs_extent.specs.State.{shape}
 use Rattle.cs_frame.specs.Runs.{IsRun}
-use Rattle.law_refinement.specs.ImageReads.{AreRunsRead, IsLocated}
+use Rattle.cs_reader.specs.ImageReads.{AreRunsRead, IsLocated}
 use Rattle.cs_reader.proofs.run_readings.read_runs.Given as goal
 
 abbrev pub invariant-loop-k : goal.invariant-loop-k

@@ -2,7 +2,7 @@ use Rattle.std.proofs.Common.{◌∙◌, ◌<◌, ℕ, Err, ap, inl, inr, map, s
 use Rattle.std.specs.List.{AllByRecursion}
 use Rattle.cs_frame.specs.Locators.{KeepFormat}
 use Rattle.cs_frame.specs.Runs.{IsRun}
-use Rattle.law_refinement.specs.Images.{index_at}
+use Rattle.cs_reader.specs.Loads.{index_at}
 use Rattle.cs_index.specs.State.{newest_first}
 use Rattle.law_machine.specs.Geometry.{weigh_in}
 use Rattle.law_machine.specs.Index.{entries_of, named_weight}

@@ -7,7 +7,7 @@ use Rattle.cs_disk.specs.Disk.{State, page, seen}
 use Rattle.cs_extent.specs.State.{shape}
 use Rattle.cs_frame.specs.declared.locators.Locator.{Locator}
 use Rattle.cs_frame.specs.Runs.{IsRun}
-use Rattle.law_refinement.specs.ImageReads.{IsRunRead}
+use Rattle.cs_reader.specs.ImageReads.{IsRunRead}
 use Rattle.cs_index.specs.declared.stored_runs.StoredRun.{StoredRun}
 use Rattle.cs_salvage.specs.Runs.{IsWhyNoRun}
 use Rattle.cs_salvage.proofs.Newest.{listed_more, listed_none, newest_all, newest_stopped, told_caused, told_runs}

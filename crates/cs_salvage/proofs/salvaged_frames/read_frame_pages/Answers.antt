@@ -26,11 +26,11 @@ returns-in-Ok-read_pages-clause-pages g c = λ h.
 pub returns-in-Ok-read_pages-clause-disk : goal.returns-in-Ok-read_pages-clause-disk
 returns-in-Ok-read_pages-clause-disk g c =
     let e = c.read.ensures in
-    let once : OnlyReads g.D.PageDisk c.args.disk.now c.read.new.self = record { same = e.state; still = e.still; time = e.time; device = e.device; honesty = e.honest; pages = e.pages; failures = e.cause.later } in
+    let once : OnlyReads g.D.PageDisk c.args.disk.now c.read.new.self = record { same = e.state; still = e.still; time = e.time; device = e.device; honesty = e.honest; pages = e.pages; failures = e.cause.later; sound = e.sound } in
     reads_on g.D.PageDisk c.args.disk.now c.read.new.self c.read_pages.new.disk once c.read_pages.ensures.disk
 
 pub returns-in-Err-read_pages-clause-disk : goal.returns-in-Err-read_pages-clause-disk
 returns-in-Err-read_pages-clause-disk g c =
     let e = c.read.ensures in
-    let once : OnlyReads g.D.PageDisk c.args.disk.now c.read.new.self = record { same = e.state; still = e.still; time = e.time; device = e.device; honesty = e.honest; pages = e.pages; failures = e.cause.later } in
+    let once : OnlyReads g.D.PageDisk c.args.disk.now c.read.new.self = record { same = e.state; still = e.still; time = e.time; device = e.device; honesty = e.honest; pages = e.pages; failures = e.cause.later; sound = e.sound } in
     reads_on g.D.PageDisk c.args.disk.now c.read.new.self c.read_pages.new.disk once c.read_pages.ensures.disk

@@ -8,7 +8,7 @@ use Rattle.cs_salvage.proofs.salvaged_frames.read_pages.Goals as goal
 pub loop-i-preserved : goal.loop-i-preserved
 loop-i-preserved g c =
     let e = c.read.ensures in
-    let once : OnlyReads g.D.PageDisk c.loop-i.disk c.read.new.self = record { same = e.state; still = e.still; time = e.time; device = e.device; honesty = e.honest; pages = e.pages; failures = e.cause.later } in
+    let once : OnlyReads g.D.PageDisk c.loop-i.disk c.read.new.self = record { same = e.state; still = e.still; time = e.time; device = e.device; honesty = e.honest; pages = e.pages; failures = e.cause.later; sound = e.sound } in
     record {
       disk = reads_on g.D.PageDisk c.args.disk.now c.loop-i.disk c.read.new.self c.loop-i.invariant.disk once;
       size = omega (arith, c.push_reserved-in-loop-i.ensures.len, c.loop-i.invariant.size, c.push_reserved-in-loop-i.new.self.ok.0, c.loop-i.pages.ok.0);

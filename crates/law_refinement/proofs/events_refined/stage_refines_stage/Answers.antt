@@ -3,8 +3,8 @@ use Rattle.law_refinement.proofs.Calls.{merge_staged, newest_staged, sized_stage
 
 pub returns : goal.returns
 returns c = record {
-  newest = λ x y g h i j s v together whole are some done. newest_staged x g i s whole are y h j v together some done;
-  sized = λ x y g h i j s v together whole are sized some done. sized_staged x g i s whole are y h j v together sized some done;
-  table = λ x y g h i j s v together whole are before some few done. table_staged x g i s whole are y h j v together before some few done;
-  merged = λ x y g h i j s v together whole are before some many done. merge_staged x g i s whole are y h j v together before some many done;
+  newest = λ x y g h i j s v is some done. newest_staged x g i s is.whole is.parts y h j v is.together some done;
+  sized = λ x y g h i j s v is sized some done. sized_staged x g i s is.whole is.parts y h j v is.together sized some done;
+  table = λ x y g h i j s v is before some few done. table_staged x g i s is.whole is.parts y h j v is.together before some few done;
+  merged = λ x y g h i j s v is before some many done. merge_staged x g i s is.whole is.parts y h j v is.together before some many done;
 }

@@ -1,5 +1,5 @@
 use Rattle.law_refinement.proofs.image_steps.live_identifiers_are_those_of_the_map.Goals as goal
-use Rattle.law_refinement.proofs.OneByOne.{live_count, live_each}
+use Rattle.cs_reader.proofs.OneByOne.{live_count, live_each}
 
 pub returns : goal.returns
 returns c = record {

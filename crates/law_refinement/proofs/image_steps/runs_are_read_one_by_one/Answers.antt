@@ -1,6 +1,6 @@
 use Rattle.law_refinement.proofs.image_steps.runs_are_read_one_by_one.Goals as goal
-use Rattle.law_refinement.proofs.Runs.{are_runs, places_keep}
-use Rattle.law_refinement.proofs.OneByOne.{all_read, next_read, none_read, place_inside}
+use Rattle.cs_reader.proofs.Runs.{are_runs, places_keep}
+use Rattle.cs_reader.proofs.OneByOne.{all_read, next_read, none_read, place_inside}
 
 pub returns : goal.returns
 returns c = record {

@@ -3,7 +3,7 @@ use Rattle.law_refinement.proofs.FoundShards.{live_damaged, live_payload, live_w
 
 pub returns : goal.returns
 returns c = record {
-  damaged = λ x i s held id l f whole sound agree is has fault. live_damaged x s held whole sound agree i is id l f has fault;
-  whole = λ x i s held id l whole sound agree is has fault. live_whole x s held whole sound agree i is id l has fault;
-  payload = λ x i s held id l payload whole sound agree is has frame. live_payload x s held whole sound agree i is id l payload has frame;
+  damaged = λ x i s held id l f is has fault. live_damaged x s held is.whole is.sound is.found i is.index id l f has fault;
+  whole = λ x i s held id l is has fault. live_whole x s held is.whole is.sound is.found i is.index id l has fault;
+  payload = λ x i s held id l payload is has frame. live_payload x s held is.whole is.sound is.found i is.index id l payload has frame;
 }

@@ -8,6 +8,6 @@ returns c = record {
   first_left = λ x g i copies s e id chunk l are. first_left x g i copies s are e id chunk l;
   damaged = λ x g i copies s e id chunk l f whole are live. copy_damaged x g i copies s are whole e id chunk l live f;
   full = λ x g i copies s e id chunk l payload whole are live reads. copy_full x g i copies s are whole e id chunk l live payload reads;
-  worn = λ x g i copies s e id chunk l payload on whole are sound bounded live reads swept undamaged room.
-      copy_worn x g i copies s are whole e id chunk l live payload reads on sound bounded swept undamaged room;
+  worn = λ x g i copies s e id chunk l payload is live there swept room.
+      copy_worn x g i copies s is.lies.parts is.lies.whole e id chunk l live payload there.reads is.lies.apart is.sound is.bounded swept there.undamaged room;
 }

@@ -4,6 +4,6 @@ use Rattle.law_refinement.proofs.RefusedMoves.{move_full, move_worn}
 pub returns : goal.returns
 returns c = record {
   full = λ x g i s e id chunk l payload whole are live reads. move_full x g i s whole are e id chunk l payload live reads;
-  worn = λ x g i s e id chunk l payload together whole are sound bounded live reads swept undamaged room.
-      move_worn x g i s whole are e id chunk l payload live reads sound bounded together swept undamaged room;
+  worn = λ x g i s e id chunk l payload is live there swept room.
+      move_worn x g i s is.lies.whole is.lies.parts e id chunk l payload live there.reads is.sound is.bounded is.lies.together swept there.undamaged room;
 }

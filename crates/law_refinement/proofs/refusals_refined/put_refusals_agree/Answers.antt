@@ -3,6 +3,6 @@ use Rattle.law_refinement.proofs.RefusedPuts.{put_full, put_worn}
 
 pub returns : goal.returns
 returns c = record {
-  full = λ x g i s id bytes together whole are. put_full x g i s whole are together id bytes;
-  worn = λ x g i s id bytes together whole are sound bounded. put_worn x g i s whole are together sound bounded id bytes;
+  full = λ x g i s id bytes is. put_full x g i s is.whole is.parts is.together id bytes;
+  worn = λ x g i s id bytes is. put_worn x g i s is.lies.whole is.lies.parts is.lies.together is.sound is.bounded id bytes;
 }

@@ -3,7 +3,7 @@ use Rattle.law_refinement.proofs.RefusedStages.{stage_full, no_room_to_stage, st
 
 pub returns : goal.returns
 returns c = record {
-  full = λ x g i s together whole are before. stage_full x g i s whole are together before;
+  full = λ x g i s is before. stage_full x g i s is.whole is.parts is.together before;
   no_room = λ x g i s whole are. no_room_to_stage x g i s whole are;
-  worn = λ x g i s together whole are sound bounded room. stage_worn x g i s whole are sound bounded together room;
+  worn = λ x g i s is room. stage_worn x g i s is.lies.whole is.lies.parts is.sound is.bounded is.lies.together room;
 }

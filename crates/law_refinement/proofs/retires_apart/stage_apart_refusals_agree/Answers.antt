@@ -6,5 +6,5 @@ pub returns : goal.returns
 returns c = record {
   may = λ x g i copies s are. may_stage x g i copies s are;
   full = λ x g i s are. stage_full x g i s are;
-  worn = λ x g i copies s on whole are sound bounded room. stage_worn x g i copies s are on whole sound bounded room;
+  worn = λ x g i copies s is room. stage_worn x g i copies s is.lies.parts is.lies.apart is.lies.whole is.sound is.bounded room;
 }

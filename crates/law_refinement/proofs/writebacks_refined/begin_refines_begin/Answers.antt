@@ -3,7 +3,8 @@ use Rattle.law_refinement.proofs.RoundsOut.{begin, idle, nothing}
 
 pub returns : goal.returns
 returns c = record {
-  begun = λ x g h i s round whole are sound is runs none queue some same adds out. begin x g h i s are sound is runs none round whole queue some same adds out;
-  idle = λ x g i s are sound is runs none waits. idle x g g i s are sound is runs none waits;
+  begun = λ x g h i s round whole is takes.
+      begin x g h i s is.parts is.sound is.rounds is.going takes.none round whole takes.queue takes.some takes.staging takes.adds takes.out;
+  idle = λ x g i s is none waits. idle x g g i s is.parts is.sound is.rounds is.going none waits;
   nothing = λ S F g s sound is. nothing S F g s sound is;
 }

@@ -14,9 +14,9 @@ returns-clause-stays c = λ S F s t r acts shape format fit apart roomy lives.
     lives_roomy S F shape format fit apart s t r acts roomy lives
 
 pub returns-clause-puts : goal.returns-clause-puts
-returns-clause-puts c = λ S F s t u acts id n bytes chunks shape format fit each apart made lives idle large share swept young
-    chunked short full. life_puts S F shape format fit apart s t acts made lives u id n bytes chunks each idle large share
-    swept young chunked short full
+returns-clause-puts c = λ S F s t u acts id n bytes shape format fit each apart made lives idle large share swept young
+    cut full. life_puts S F shape format fit apart s t acts made lives u id n bytes cut.0 each idle large share
+    swept young cut.1 cut.2 full
 
 pub returns-clause-opens : goal.returns-clause-opens
 returns-clause-opens c = λ S F s t acts kept shape format fit apart made lives.

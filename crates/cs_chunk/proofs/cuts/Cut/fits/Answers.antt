@@ -5,8 +5,8 @@ use Rattle.law_machine.specs.Extents.{FitsBy, ForPut}
 use Rattle.cs_chunk.proofs.Pieces.{each_in_range, pages_in_array}
 use Rattle.cs_chunk.proofs.cuts.Cut.fits.Goals as goal
 
-pub fit-requires-clause-pages : goal.fit-requires-clause-pages
-fit-requires-clause-pages c =
+pub fits-requires-clause-pages : goal.fits-requires-clause-pages
+fits-requires-clause-pages c =
     let cut = c.args.self in
     let same = pages_in_array (cut.pages ∷ cut.pages ∷ cut.pages ∷ cut.pages ∷ cut.pages ∷ cut.pages ∷ cut.pages ∷ cut.pages ∷ []) 8 cut.count cut.pages cut.last refl cut.some cut.few in
     subst (λ (ks : List ℕ). All (λ k. (1 ≤ k) × (k ≤ (shape c.args.extents.now).pages)) ks) (sym same) (each_in_range _ cut.pages cut.last (shape c.args.extents.now).pages cut.least cut.most c.requires)
@@ -15,4 +15,4 @@ pub returns : goal.returns
 returns c =
     let cut = c.args.self in
     let same = pages_in_array (cut.pages ∷ cut.pages ∷ cut.pages ∷ cut.pages ∷ cut.pages ∷ cut.pages ∷ cut.pages ∷ cut.pages ∷ []) 8 cut.count cut.pages cut.last refl cut.some cut.few in
-    subst (λ (ks : List ℕ). IsTrue c.fit.result ↔ FitsBy (shape c.args.extents.now) c.args.apart (extents_of c.args.extents.now) ForPut ks) same c.fit.ensures
+    subst (λ (ks : List ℕ). IsTrue c.fits.result ↔ FitsBy (shape c.args.extents.now) (shape c.args.extents.now).apart (extents_of c.args.extents.now) ForPut ks) same c.fits.ensures

@@ -16,10 +16,10 @@ pub are_worn-requires-clause-fits : goal.are_worn-requires-clause-fits
 are_worn-requires-clause-fits c =
     let cut = c.args.self in
     let same = pages_in_array (cut.pages ∷ cut.pages ∷ cut.pages ∷ cut.pages ∷ cut.pages ∷ cut.pages ∷ cut.pages ∷ cut.pages ∷ []) 8 cut.count cut.pages cut.last refl cut.some cut.few in
-    subst (λ (ks : List ℕ). FitsBy (shape c.args.extents.now) c.args.apart (extents_of c.args.extents.now) ForPut ks) (sym same) c.requires.fits
+    subst (λ (ks : List ℕ). FitsBy (shape c.args.extents.now) (shape c.args.extents.now).apart (extents_of c.args.extents.now) ForPut ks) (sym same) c.requires.fits
 
 pub returns : goal.returns
 returns c =
     let cut = c.args.self in
     let same = pages_in_array (cut.pages ∷ cut.pages ∷ cut.pages ∷ cut.pages ∷ cut.pages ∷ cut.pages ∷ cut.pages ∷ cut.pages ∷ []) 8 cut.count cut.pages cut.last refl cut.some cut.few in
-    subst (λ (ks : List ℕ). IsTrue c.are_worn.result ↔ AreWornBy c.args.apart c.args.extents.now c.args.graph.now.staging ForPut ks) same c.are_worn.ensures
+    subst (λ (ks : List ℕ). IsTrue c.are_worn.result ↔ AreWornBy (shape c.args.extents.now).apart c.args.extents.now c.args.graph.now.staging ForPut ks) same c.are_worn.ensures

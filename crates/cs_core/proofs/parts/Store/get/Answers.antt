@@ -8,7 +8,7 @@ use Rattle.cs_reader.proofs.Lists.{none_left, some_left}
 use Rattle.cs_core.proofs.Gets.{found_live, get_absent, get_found_answers, get_refused_answers, meant_found}
 use Rattle.cs_core.proofs.Kept.{found_there}
 use Rattle.cs_core.proofs.parts.Store.get.Goals as goal
-use Rattle.law_refinement.specs.ImageReads.{page_total}
+use Rattle.cs_reader.specs.ImageReads.{page_total}
 
 pub returns-in_default-clause-step : goal.returns-in_default-clause-step
 returns-in_default-clause-step g c = rw (← c.self.view_is) (λ honest.

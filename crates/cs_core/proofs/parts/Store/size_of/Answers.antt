@@ -9,7 +9,7 @@ use Rattle.cs_core.proofs.Gets.{found_live}
 use Rattle.cs_core.proofs.Sizes.{none_said, refusal_said, size_absent, size_found, size_refused, some_said}
 use Rattle.cs_core.proofs.Kept.{found_there}
 use Rattle.cs_core.proofs.parts.Store.size_of.Goals as goal
-use Rattle.law_refinement.specs.ImageReads.{page_total}
+use Rattle.cs_reader.specs.ImageReads.{page_total}
 
 pub returns-in_default-clause-size : goal.returns-in_default-clause-size
 returns-in_default-clause-size g c = rw (← c.self.view_is) (λ honest.

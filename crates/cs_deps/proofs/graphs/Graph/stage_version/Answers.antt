@@ -1,12 +1,14 @@
-use Rattle.std.proofs.Common.{◌∙◌, ◌+◌, ◌≡◌, ◌<◌, ◌≤◌, List, set, get_or, length, refl, sym, ap, subst, arith}
+use Rattle.std.proofs.Common.{◌∙◌, ◌+◌, ◌≡◌, ◌<◌, ◌≤◌, ℕ, List, Result, Err, set, get_or, length, refl, sym, ap, subst, arith}
 use Rattle.std.proofs.Math.Nat.{le-max_right}
-use Rattle.std.specs.Prelude.{◌-◌, option_map}
-use Rattle.std.proofs.lemmas.Option.{slice_get_read, get_or_from_slice_get}
+use Rattle.std.specs.Prelude.{◌-◌, ◌↔◌, option_map}
+use Rattle.std.proofs.lemmas.Result.{err_from_is_err_and}
 use Rattle.cs_deps.specs.contracts.graphs.Graph.{the_invariant}
 use Rattle.cs_deps.specs.declared.elements.Element.{Element}
 use Rattle.cs_deps.specs.declared.elements.Element.TheVariants.{Version}
 use Rattle.cs_deps.specs.declared.graphs.Graph.TheInside.{Inside}
-use Rattle.cs_deps.specs.Named.{Named}
+use Rattle.cs_refusal.specs.declared.refusals.Refusal.{Refusal}
+use Rattle.cs_refusal.specs.declared.refusals.Refusal.TheVariants.{UnknownNeed, OwnFamily}
+use Rattle.cs_deps.specs.Named.{Named, IsWithin, NamesFamily}
 use Rattle.cs_deps.specs.Records.{writes_of}
 use Rattle.cs_deps.specs.Staging.{Staging}
 use Rattle.cs_deps.proofs.Added.{TakesOne, IsAdded}
@@ -14,15 +16,12 @@ use Rattle.cs_deps.proofs.Entries.{joined_next, next_needs}
 use Rattle.cs_deps.proofs.Held.{MayBeAdded, high_enough}
 use Rattle.cs_deps.proofs.Roomy.{IsRoomy, live_in, view_roomy, held_roomy, still_fits}
 use Rattle.cs_deps.proofs.VersionAdded.{next_in_range, version_added}
-use Rattle.cs_deps.proofs.graphs.Graph.stage_version.Goals.{After-index-before, After-make_room, After-top-best, After-next_of-kept, After-push_version}
+use Rattle.cs_deps.proofs.graphs.Graph.stage_version.Goals.{In_ok-before, After-make_room, After-top-best, After-next_of-kept, After-push_version}
 use Rattle.cs_deps.proofs.graphs.Graph.stage_version.Goals as goal
 
 -- the version before the new one
-last : (c : After-index-before) → c.index-before.result.now ≡ get_or c.self.inside.latest.items c.args.family 0
-last c =
-    let latest = c.self.inside.latest.items in
-    let inside = rw (← c.self.view_is) at c.requires in
-    sym (get_or_from_slice_get latest c.args.family c.index-before.result.now 0 (slice_get_read latest (length latest) c.args.family c.index-before.result.now refl inside c.index-before.ensures))
+last : (c : In_ok-before) → c.in_ok-before.before ≡ get_or c.self.inside.latest.items c.args.family 0
+last c = rw (← c.self.view_is) at c.in_ok-before.ensures.last
 
 -- the graph with the room that was made, where it is known what the version needs
 abbrev before_it : After-top-best → Inside
@@ -30,9 +29,9 @@ before_it c = let m = c.make_room.new in record c.self.inside { entries = m.entr
 
 allowed : (c : After-top-best) → MayBeAdded c.self.inside (before_it c) c.in-Ok.made c.args.needs c.top-best.result.level c.top-best.result.before
 allowed c =
-    let says = rw (← c.self.view_is) at c.is_staged.ensures in
+    let within = rw (← c.self.view_is) at c.in_ok-before.ensures.within in
     let e = c.in-Ok.ensures in
-    record { same = record { list = e.entries; floors = e.floors; records = e.records; newest = e.newest; levels = e.levels }; some = subst (λ n. 0 < n) (sym e.room) (le-max_right c.self.inside.room 1); fits = record { list = e.entries_fit; places = e.places_fit; records = e.records_fit; newest = e.newest_fit; levels = e.levels_fit }; within = says.0 c.if-not-is_staged.false; best = c.top-best.ensures }
+    record { same = record { list = e.entries; floors = e.floors; records = e.records; newest = e.newest; levels = e.levels }; some = subst (λ n. 0 < n) (sym e.room) (le-max_right c.self.inside.room 1); fits = record { list = e.entries_fit; places = e.places_fit; records = e.records_fit; newest = e.newest_fit; levels = e.levels_fit }; within = within; best = c.top-best.ensures }
 
 pub next_of-kept-requires : goal.next_of-kept-requires
 next_of-kept-requires c =
@@ -45,7 +44,7 @@ abbrev room_for : After-next_of-kept → Inside
 room_for c = let m = c.make_room.new in record c.self.inside { entries = m.entries; records = m.records; newest = m.newest; levels = m.levels }
 
 in_range : (c : After-next_of-kept) → MayBeAdded c.self.inside (room_for c) c.in-Ok.made c.args.needs c.top-best.result.level c.top-best.result.before → (c.make_room.new.levels.ended < c.next_of-kept.result.level) × (c.next_of-kept.result.level ≤ c.make_room.new.levels.ended + length c.make_room.new.levels.rows.items + 1)
-in_range c may = next_in_range c.self.inside c.self.invariant (room_for c) c.in-Ok.made c.args.needs c.top-best.result.level c.top-best.result.before may c.args.family c.index-before.result.now c.next_of-kept.result c.next_of-kept.ensures
+in_range c may = next_in_range c.self.inside c.self.invariant (room_for c) c.in-Ok.made c.args.needs c.top-best.result.level c.top-best.result.before may c.args.family c.in_ok-before.before c.next_of-kept.result c.next_of-kept.ensures
 
 pub replaced-requires-clause-low : goal.replaced-requires-clause-low
 replaced-requires-clause-low c = let at = goal.at.replaced-requires-clause-low c in (in_range at.After-next_of-kept (allowed at.After-top-best)).0
@@ -63,38 +62,38 @@ with_place c = let m = c.make_room.new in record c.self.inside { entries = m.ent
 abbrev behind_it : After-push_version → Inside
 behind_it c = record c.self.inside { entries = c.push_reserved.new.self; records = c.insert_reserved-key.new.self; newest = c.make_room.new.newest; levels = c.push_version.new.self }
 
-takes_one : (c : After-push_version) → TakesOne (with_place c) (behind_it c) (Version c.args.family (c.index-before.result.now + 1)) c.args.needs
+takes_one : (c : After-push_version) → TakesOne (with_place c) (behind_it c) (Version c.args.family (c.in_ok-before.before + 1)) c.args.needs
 takes_one c =
     let e = c.push_reserved.ensures in
     let k = c.insert_reserved-key.ensures in
     record { items = e.items; floors = e.floors; listed = e.len; same_list = e.capacity; places = e.places; records = omega (arith, k.len, c.clear.ensures.count); same_records = k.capacity ∙ c.clear.ensures.capacity; newest = omega arith; levels = c.push_version.ensures.room }
 
-added : (c : After-push_version) → MayBeAdded c.self.inside (with_place c) c.in-Ok.made c.args.needs c.top-best.result.level c.top-best.result.before → c.index-before.result.now ≡ get_or c.self.inside.latest.items c.args.family 0 → IsAdded c.self.inside (behind_it c) c.self.inside.staged (set c.self.inside.latest.items c.args.family (c.index-before.result.now + 1)) (c.in-Ok.made - 1) (Version c.args.family (c.index-before.result.now + 1)) (next_needs (live_in c.self.inside) c.args.family c.index-before.result.now c.args.needs) (c.args.page, c.args.bytes.now)
+added : (c : After-push_version) → MayBeAdded c.self.inside (with_place c) c.in-Ok.made c.args.needs c.top-best.result.level c.top-best.result.before → c.in_ok-before.before ≡ get_or c.self.inside.latest.items c.args.family 0 → IsAdded c.self.inside (behind_it c) c.self.inside.staged (set c.self.inside.latest.items c.args.family (c.in_ok-before.before + 1)) (c.in-Ok.made - 1) (Version c.args.family (c.in_ok-before.before + 1)) (next_needs (live_in c.self.inside) c.args.family c.in_ok-before.before c.args.needs) (c.args.page, c.args.bytes.now)
 added c may is =
     let k = c.insert_reserved-key.ensures in
-    version_added c.self.inside c.self.invariant (with_place c) c.in-Ok.made c.args.needs c.top-best.result.level c.top-best.result.before may c.args.family c.index-before.result.now c.next_of-kept.result c.next_of-kept.ensures
-    (rw (← c.self.view_is) at c.requires) is (λ v n. absurd (cc (c.names_family.ensures.no v n, c.if-names_family.false))) (behind_it c) (takes_one c) c.insert_reserved-key.result c.push_version.ensures.pushed
+    version_added c.self.inside c.self.invariant (with_place c) c.in-Ok.made c.args.needs c.top-best.result.level c.top-best.result.before may c.args.family c.in_ok-before.before c.next_of-kept.result c.next_of-kept.ensures
+    (rw (← c.self.view_is) at c.requires) is (λ v n. c.in_ok-before.ensures.others (v, n)) (behind_it c) (takes_one c) c.insert_reserved-key.result c.push_version.ensures.pushed
     c.replaced.result c.replaced.ensures.some c.replaced.ensures.none c.clear.new.records c.clear.ensures.none c.clear.ensures.gone c.clear.ensures.others k.was_vacant c.args.page c.args.bytes.now k.updates (λ q. refl)
 
 pub invariant_of-self : goal.invariant_of-self
-invariant_of-self c = let at = goal.at.invariant_of-self c in (added at.After-push_version (allowed at.After-top-best) (last at.After-index-before)).held
+invariant_of-self c = let at = goal.at.invariant_of-self c in (added at.After-push_version (allowed at.After-top-best) (last at.In_ok-before)).held
 
 pub returns-in-Ok-clause-staged : goal.returns-in-Ok-clause-staged
 returns-in-Ok-clause-staged c =
     let g = c.self.inside in
     let f = c.args.family in
-    let before = c.index-before.result.now in
+    let before = c.in_ok-before.before in
     let at = goal.at.returns-in-Ok-clause-staged c in
-    let is = last at.After-index-before in
+    let is = last at.In_ok-before in
     let now : List (Element × Named) → Staging = λ ws. record { pending = record { persistent = g.persistent.items; waiting = ws }; staged = g.staged; latest = set g.latest.items f (before + 1) } in
     let joined = joined_next g.persistent.items (live_in g) g.staged g.latest.items (option_map (λ r. r.items) g.round) (writes_of g.records.slots) g.room c.self.invariant.whole c.self.invariant.current f (rw (← c.self.view_is) at c.requires) before is c.args.needs in
     rw (← c.self.view_is) (before, next_needs (live_in g) f before c.args.needs, is, refl, joined, ap now (added at.After-push_version (allowed at.After-top-best) is).waits)
 
 pub returns-in-Ok-clause-write : goal.returns-in-Ok-clause-write
-returns-in-Ok-clause-write c = let at = goal.at.returns-in-Ok-clause-write c in (added at.After-push_version (allowed at.After-top-best) (last at.After-index-before)).write
+returns-in-Ok-clause-write c = let at = goal.at.returns-in-Ok-clause-write c in (added at.After-push_version (allowed at.After-top-best) (last at.In_ok-before)).write
 
 pub returns-in-Ok-clause-others : goal.returns-in-Ok-clause-others
-returns-in-Ok-clause-others c = let at = goal.at.returns-in-Ok-clause-others c in rw (← c.self.view_is) (added at.After-push_version (allowed at.After-top-best) (last at.After-index-before)).others
+returns-in-Ok-clause-others c = let at = goal.at.returns-in-Ok-clause-others c in rw (← c.self.view_is) (added at.After-push_version (allowed at.After-top-best) (last at.In_ok-before)).others
 
 -- the graph with the room that was made
 abbrev with_room : After-make_room → Inside
@@ -111,23 +110,25 @@ still_held c =
 pub invariant_of-self-in-Err : goal.invariant_of-self-in-Err
 invariant_of-self-in-Err c = still_held (goal.at.invariant_of-self-in-Err c).After-make_room
 
-pub returns-then-before-ge-LAST_NUMBER-clause-worn : goal.returns-then-before-ge-LAST_NUMBER-clause-worn
-returns-then-before-ge-LAST_NUMBER-clause-worn c =
-    let says = rw (← c.self.view_is) at c.is_staged.ensures in
-    let is = last (goal.at.returns-then-before-ge-LAST_NUMBER-clause-worn c).After-index-before in
-    rw (← c.self.view_is) (
-      (λ e. (says.0 c.if-not-is_staged.false, (λ n. absurd (cc (c.names_family.ensures.no n.0 n.1, c.if-names_family.false))), omega (arith, is, c.if-before-ge-LAST_NUMBER.true))),
-      (λ h. refl),
-    )
+pub returns-in_err-before-clause-unknown : goal.returns-in_err-before-clause-unknown
+returns-in_err-before-clause-unknown c =
+    let g = c.self.inside in
+    let p = err_from_is_err_and c.from_residual.result c.from_residual.ensures.1 in
+    let says = rw (← c.self.view_is) at c.in_err-before.ensures.unknown in
+    rw (← c.self.view_is) (subst (λ (r : Result ℕ Refusal). (r ≡ Err UnknownNeed) ↔ ¬ IsWithin c.args.needs g.staged g.latest.items) (sym (p.1 ∙ ap (λ (r : Refusal). Err r) p.2)) says)
 
-pub returns-then-before-ge-LAST_NUMBER-clause-own : goal.returns-then-before-ge-LAST_NUMBER-clause-own
-returns-then-before-ge-LAST_NUMBER-clause-own c = ((λ e. absurd (cc e)), (λ h. absurd (cc (c.names_family.ensures.no h.1.0 h.1.1, c.if-names_family.false))))
+pub returns-in_err-before-clause-own : goal.returns-in_err-before-clause-own
+returns-in_err-before-clause-own c =
+    let g = c.self.inside in
+    let p = err_from_is_err_and c.from_residual.result c.from_residual.ensures.1 in
+    let says = rw (← c.self.view_is) at c.in_err-before.ensures.own in
+    rw (← c.self.view_is) (subst (λ (r : Result ℕ Refusal). (r ≡ Err OwnFamily) ↔ (IsWithin c.args.needs g.staged g.latest.items × NamesFamily c.args.needs c.args.family)) (sym (p.1 ∙ ap (λ (r : Refusal). Err r) p.2)) says)
 
 pub returns-in-Ok-clause-own : goal.returns-in-Ok-clause-own
-returns-in-Ok-clause-own c = ((λ e. absurd (cc e)), (λ h. absurd (cc (c.names_family.ensures.no h.1.0 h.1.1, c.if-names_family.false))))
+returns-in-Ok-clause-own c = ((λ e. absurd (cc e)), (λ h. absurd (c.in_ok-before.ensures.others h.1)))
 
 pub returns-in-Err-clause-own : goal.returns-in-Err-clause-own
-returns-in-Err-clause-own c = ((λ e. absurd (cc e)), (λ h. absurd (cc (c.names_family.ensures.no h.1.0 h.1.1, c.if-names_family.false))))
+returns-in-Err-clause-own c = ((λ e. absurd (cc e)), (λ h. absurd (c.in_ok-before.ensures.others h.1)))
 
 pub returns-in-Err-clause-refused : goal.returns-in-Err-clause-refused
 returns-in-Err-clause-refused c =

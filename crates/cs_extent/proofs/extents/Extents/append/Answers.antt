@@ -1,24 +1,28 @@
-use Rattle.std.proofs.Common.{◌≡◌, ◌+◌, ap, subst, sym, get_or, refl, List, ℕ, Some}
-use Rattle.cs_deps.specs.Staging.{Staging}
-use Rattle.cs_deps.specs.State.{State, write_of}
+use Rattle.std.proofs.Common.{◌≡◌, length, subst, sym, refl, ℕ}
 use Rattle.cs_frame.specs.declared.locators.Locator.{Locator}
-use Rattle.cs_extent.specs.Appended.{IsAppended}
-use Rattle.cs_extent.specs.Frames.{family_of, next_section, root_recorded}
+use Rattle.law_machine.proofs.Places.{goes_inside, goes_one}
+use Rattle.cs_extent.specs.Appended.{IsAppendedBy}
+use Rattle.cs_extent.specs.Frames.{IsWorn}
 use Rattle.cs_extent.specs.Purposes.{reason_of}
-use Rattle.cs_extent.specs.State.{SpellsExtents, shape}
+use Rattle.cs_extent.specs.State.{extents_of, shape}
 use Rattle.cs_extent.proofs.Appending.{whatever_room}
 use Rattle.cs_extent.proofs.extents.Extents.append.Goals as goal
 
-pub returns-in-Ok-clause-section : goal.returns-in-Ok-clause-section
-returns-in-Ok-clause-section c =
-    subst (λ (l : Locator). (page : List ℕ) × (write_of c.give.new.graph (next_section c.args.graph.now.staging ((shape c.args.self.now).section l.extent)) ≡ Some ((shape c.args.self.now).section_page ((shape c.args.self.now).section l.extent), page)) × SpellsExtents c.give.new.self ((shape c.args.self.now).section l.extent) (get_or c.args.graph.now.staging.latest (family_of ((shape c.args.self.now).section l.extent)) 0 + 1) (root_recorded (shape c.args.self.now).format c.args.graph.now.staging) page)
-    (sym c.give.ensures.locator)
-    (subst (λ (s : Staging). (page : List ℕ) × (write_of c.give.new.graph (next_section s ((shape c.args.self.now).section c.in-Some.extent)) ≡ Some ((shape c.args.self.now).section_page ((shape c.args.self.now).section c.in-Some.extent), page)) × SpellsExtents c.give.new.self ((shape c.args.self.now).section c.in-Some.extent) (get_or s.latest (family_of ((shape c.args.self.now).section c.in-Some.extent)) 0 + 1) (root_recorded (shape c.args.self.now).format s) page)
-    (ap (λ (g : State). g.staging) c.in-Ok.ensures.rest) c.give.ensures.section)
+pub section-requires : goal.section-requires
+section-requires c =
+    (goes_inside (shape c.args.self.now) (shape c.args.self.now).apart (extents_of c.args.self.now) (reason_of c.args.purpose) (length c.args.frame.now) c.in-Some.extent c.in-Some.ensures).0
+
+pub give-requires-clause-exists : goal.give-requires-clause-exists
+give-requires-clause-exists c =
+    (goes_inside (shape c.args.self.now) (shape c.args.self.now).apart (extents_of c.args.self.now) (reason_of c.args.purpose) (length c.args.frame.now) c.in-Some.extent c.in-Some.ensures).0
+
+pub give-requires-clause-fits : goal.give-requires-clause-fits
+give-requires-clause-fits c =
+    (goes_inside (shape c.args.self.now) (shape c.args.self.now).apart (extents_of c.args.self.now) (reason_of c.args.purpose) (length c.args.frame.now) c.in-Some.extent c.in-Some.ensures).1
 
 pub returns-in-Ok-clause-appended : goal.returns-in-Ok-clause-appended
 returns-in-Ok-clause-appended c =
-    subst (λ (l : Locator). IsAppended c.args.self.now c.args.graph.now (reason_of c.args.purpose) c.args.frame.now l c.give.new.self c.give.new.graph)
+    subst (λ (l : Locator). IsAppendedBy (shape c.args.self.now).apart c.args.self.now c.args.graph.now (reason_of c.args.purpose) c.args.frame.now l c.give.new.self c.give.new.graph)
     (sym c.give.ensures.locator)
     (whatever_room c.args.self.now c.args.graph.now c.reserve.new.self (reason_of c.args.purpose) c.args.frame.now _ c.give.new.self c.give.new.graph
     c.in-Ok.ensures.rest
@@ -33,3 +37,13 @@ returns-in-Ok-clause-appended c =
       others = c.give.ensures.others;
       round = c.give.ensures.round;
     }))
+
+pub returns-in-Ok-clause-worn : goal.returns-in-Ok-clause-worn
+returns-in-Ok-clause-worn c = (
+  (λ e. absurd (cc e)),
+  (λ w.
+      let same : w.0 ≡ c.in-Some.extent = goes_one (shape c.args.self.now) (shape c.args.self.now).apart (extents_of c.args.self.now) (reason_of c.args.purpose) (length c.args.frame.now) w.0 c.in-Some.extent w.1 c.in-Some.ensures in
+      let here = subst (λ (e : ℕ). IsWorn c.args.graph.now.staging ((shape c.args.self.now).section e) (length c.args.frame.now)) same w.2 in
+      let worn = subst (λ (j : ℕ). IsWorn c.args.graph.now.staging j (length c.args.frame.now)) (sym c.section.ensures.section) here in
+      absurd (cc (c.if-is_worn.false, c.is_worn.ensures.1 worn))),
+)

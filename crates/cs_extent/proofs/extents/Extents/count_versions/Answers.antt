@@ -1,36 +1,33 @@
-use Rattle.std.proofs.Common.{add-one, arith, refl}
-use Rattle.cs_frame.proofs.GeometryLaws.{bounds}
+use Rattle.std.proofs.Common.{◌∙◌, Bool, true, subst, sym}
+use Rattle.law_machine.specs.Extents.{FitsBy, ForPut}
+use Rattle.cs_extent.specs.declared.purposes.Purpose.{Purpose}
 use Rattle.cs_extent.specs.Purposes.{reason_of}
 use Rattle.cs_extent.specs.State.{extents_of, shape}
-use Rattle.cs_extent.proofs.Worn.{counted_all, counted_more, counted_none, place_is, way_inside}
+use Rattle.cs_extent.specs.Worn.{AreCountedBy}
 use Rattle.cs_extent.proofs.extents.Extents.count_versions.Goals as goal
 
-pub loop-pages-init : goal.loop-pages-init
-loop-pages-init c =
-    counted_none c.args.self.now c.room.ensures.whole (reason_of c.args.purpose) c.args.frame_pages.now c.requires.fits (record { extent = c.last_extent.result; room = c.room.result; next = 0 }) c.room.ensures.room c.last_extent.ensures refl
+pub count_put_versions-requires-clause-few : goal.count_put_versions-requires-clause-few
+count_put_versions-requires-clause-few c = (c.requires.few (sym c.is_apart.ensures ∙ c.if-is_apart.true)).0
 
-pub goes_on-way-requires-clause-pages : goal.goes_on-way-requires-clause-pages
-goes_on-way-requires-clause-pages c = (c.requires.pages c.loop-pages.pages-index 0 c.loop-pages-test.true).1
+pub count_put_versions-requires-clause-fits : goal.count_put_versions-requires-clause-fits
+count_put_versions-requires-clause-fits c =
+    let so = sym c.is_apart.ensures ∙ c.if-is_apart.true in
+    subst (λ (p : Purpose). FitsBy (shape c.args.self.now) true (extents_of c.args.self.now) (reason_of p) c.args.frame_pages.now) (c.requires.few so).1
+    (subst (λ (b : Bool). FitsBy (shape c.args.self.now) b (extents_of c.args.self.now) (reason_of c.args.purpose) c.args.frame_pages.now) so c.requires.fits)
 
-pub goes_on-way-requires-clause-place : goal.goes_on-way-requires-clause-place
-goes_on-way-requires-clause-place c =
-    place_is (shape c.args.self.now) (extents_of c.args.self.now) (reason_of c.args.purpose) c.args.frame_pages.now c.loop-pages.pages-index c.loop-pages.way c.loop-pages.counts c.loop-pages.invariant c.loop-pages-test.true
-    (c.requires.pages c.loop-pages.pages-index 0 c.loop-pages-test.true).0
+pub count_versions_v2-requires-clause-fits : goal.count_versions_v2-requires-clause-fits
+count_versions_v2-requires-clause-fits c =
+    subst (λ (b : Bool). FitsBy (shape c.args.self.now) b (extents_of c.args.self.now) (reason_of c.args.purpose) c.args.frame_pages.now)
+    (sym c.is_apart.ensures ∙ c.if-is_apart.false) c.requires.fits
 
-pub section-requires : goal.section-requires
-section-requires c =
-    way_inside (shape c.args.self.now) (extents_of c.args.self.now) (reason_of c.args.purpose) c.args.frame_pages.now c.loop-pages.pages-index c.loop-pages.way c.loop-pages.counts c.loop-pages.invariant c.loop-pages-test.true
-    (c.requires.pages c.loop-pages.pages-index 0 c.loop-pages-test.true).0 c.goes_on-way.result c.goes_on-way.ensures.stays c.goes_on-way.ensures.opens
+pub returns-then-is_apart : goal.returns-then-is_apart
+returns-then-is_apart c =
+    let so = sym c.if-is_apart.true ∙ c.is_apart.ensures in
+    subst (λ (p : Purpose). AreCountedBy (shape c.args.self.now) (shape c.args.self.now).apart (extents_of c.args.self.now) (reason_of p) c.args.frame_pages.now c.count_put_versions.result)
+    (sym (c.requires.few (sym so)).1)
+    (subst (λ (b : Bool). AreCountedBy (shape c.args.self.now) b (extents_of c.args.self.now) ForPut c.args.frame_pages.now c.count_put_versions.result) so c.count_put_versions.ensures)
 
-pub count-requires : goal.count-requires
-count-requires c = omega (arith, c.section.ensures.inside, (bounds _ _ _ _ c.room.ensures.whole.geometry).most_sections)
-
-pub loop-pages-preserved : goal.loop-pages-preserved
-loop-pages-preserved c =
-    rw add-one (counted_more (shape c.args.self.now) (extents_of c.args.self.now) (reason_of c.args.purpose) c.args.frame_pages.now c.loop-pages.pages-index c.loop-pages.way c.loop-pages.counts c.loop-pages.invariant c.loop-pages-test.true
-    (c.requires.pages c.loop-pages.pages-index 0 c.loop-pages-test.true).0 c.goes_on-way.result c.goes_on-way.ensures.stays c.goes_on-way.ensures.opens
-    c.section.result c.section.ensures.section (omega (arith, c.section.ensures.inside, (bounds _ _ _ _ c.room.ensures.whole.geometry).most_sections)) c.count.new.counts c.count.ensures)
-
-pub returns : goal.returns
-returns c =
-    counted_all (shape c.args.self.now) (extents_of c.args.self.now) (reason_of c.args.purpose) c.args.frame_pages.now c.loop-pages.pages-index c.loop-pages.way c.loop-pages.counts c.loop-pages.invariant c.loop-pages-test.false
+pub returns-else-is_apart : goal.returns-else-is_apart
+returns-else-is_apart c =
+    subst (λ (b : Bool). AreCountedBy (shape c.args.self.now) b (extents_of c.args.self.now) (reason_of c.args.purpose) c.args.frame_pages.now c.count_versions_v2.result)
+    (sym c.if-is_apart.false ∙ c.is_apart.ensures) c.count_versions_v2.ensures

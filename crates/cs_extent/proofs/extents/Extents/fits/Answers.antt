@@ -1,20 +1,21 @@
-use Rattle.std.proofs.Common.{◌∙◌, sym, add-one, Some, None, true, false}
-use Rattle.law_machine.specs.Extents.{spare}
+use Rattle.std.proofs.Common.{◌≡◌, ◌∙◌, ◌↔◌, Bool, true, subst, sym}
+use Rattle.law_machine.specs.Extents.{FitsBy, ForPut}
+use Rattle.cs_extent.specs.declared.purposes.Purpose.{Purpose}
 use Rattle.cs_extent.specs.Purposes.{reason_of}
-use Rattle.cs_extent.specs.State.{shape}
-use Rattle.cs_extent.proofs.Fitting.{fits_at, fit_step, fit_end}
+use Rattle.cs_extent.specs.State.{extents_of, shape}
 use Rattle.cs_extent.proofs.extents.Extents.fits.Goals as goal
 
-pub loop-pages-preserved : goal.loop-pages-preserved
-loop-pages-preserved c =
-    rw add-one (c.loop-pages.invariant ∙ fit_step (shape c.args.self.now) (spare (reason_of c.args.purpose)) c.loop-pages.supply c.args.frame_pages.now c.loop-pages.pages-index c.extent_pages.result c.spare.result (Some c.in-Some.left) c.loop-pages-test.true c.extent_pages.ensures c.spare.ensures (sym c.in-Some.is ∙ c.after.ensures))
+pub fits_puts-requires-clause-few : goal.fits_puts-requires-clause-few
+fits_puts-requires-clause-few c = (c.requires.few (sym c.is_apart.ensures ∙ c.if-is_apart.true)).0
 
-pub returns-in-None : goal.returns-in-None
-returns-in-None c =
-    fits_at c.args.self.now c.room.ensures.whole (reason_of c.args.purpose) c.args.frame_pages.now c.requires c.room.result c.empty_count.result c.room.ensures.room c.empty_count.ensures false
-    (c.loop-pages.invariant ∙ fit_step (shape c.args.self.now) (spare (reason_of c.args.purpose)) c.loop-pages.supply c.args.frame_pages.now c.loop-pages.pages-index c.extent_pages.result c.spare.result None c.loop-pages-test.true c.extent_pages.ensures c.spare.ensures (sym c.in-None.is ∙ c.after.ensures))
+pub returns-then-is_apart : goal.returns-then-is_apart
+returns-then-is_apart c =
+    let so = sym c.if-is_apart.true ∙ c.is_apart.ensures in
+    subst (λ (p : Purpose). (c.fits_puts.result ≡ true) ↔ FitsBy (shape c.args.self.now) (shape c.args.self.now).apart (extents_of c.args.self.now) (reason_of p) c.args.frame_pages.now)
+    (sym (c.requires.few (sym so)).1)
+    (subst (λ (b : Bool). (c.fits_puts.result ≡ true) ↔ FitsBy (shape c.args.self.now) b (extents_of c.args.self.now) ForPut c.args.frame_pages.now) so c.fits_puts.ensures)
 
-pub returns : goal.returns
-returns c =
-    fits_at c.args.self.now c.room.ensures.whole (reason_of c.args.purpose) c.args.frame_pages.now c.requires c.room.result c.empty_count.result c.room.ensures.room c.empty_count.ensures true
-    (c.loop-pages.invariant ∙ fit_end (shape c.args.self.now) (spare (reason_of c.args.purpose)) c.loop-pages.supply c.args.frame_pages.now c.loop-pages.pages-index c.loop-pages-test.false)
+pub returns-else-is_apart : goal.returns-else-is_apart
+returns-else-is_apart c =
+    subst (λ (b : Bool). (c.fits_v2.result ≡ true) ↔ FitsBy (shape c.args.self.now) b (extents_of c.args.self.now) (reason_of c.args.purpose) c.args.frame_pages.now)
+    (sym c.if-is_apart.false ∙ c.is_apart.ensures) c.fits_v2.ensures

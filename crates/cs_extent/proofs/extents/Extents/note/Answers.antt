@@ -11,7 +11,6 @@ invariant_of-self c =
     record {
       extents = c.self.invariant.extents;
       whole = noted_whole s c.self.invariant.whole c.args.extent (rw (← c.self.view_is) at c.requires.exists) (rw (← c.self.view_is) at c.requires.given)
-          c.args.before (rw (← c.self.view_is) at c.requires.was)
           (reason_of c.args.purpose) c.open_noted-self-inside.result c.fresh_noted-self-inside.result c.last_noted-self-inside.result _ c.open_noted-self-inside.ensures
-          (length-set c.self.inside.kinds.items c.args.extent c.if-index.runs);
+          (length-set c.self.inside.of_runs.items c.args.extent c.if-index.runs);
     }

@@ -1,5 +1,6 @@
 use Rattle.std.proofs.Common.{◌∙◌, ◌≡◌, ◌≤◌, ap, ℕ, List, replicate, false, zero, length, arith, sym, subst, get_or}
 use Rattle.std.specs.List.{AllByRecursion}
+use Rattle.law_machine.specs.Geometry.{apart_in}
 use Rattle.cs_frame.specs.Geometries.{IsGeometry}
 use Rattle.cs_extent.specs.Sections.{format_of, pages_of, rows_of}
 use Rattle.cs_extent.specs.State.{found_at}
@@ -26,12 +27,12 @@ invariant_of-result c =
     let third : c.len-3.result ≡ length xs = omega (arith, c.len-3.ensures, c.in_ok-written.written.ok.0) in
     record {
       extents = e.extents ∙ ap length (sym same);
-      whole = whole_new g.format g.pages g.sections xs is all c.in_ok-resets.resets.items c.in_ok-swept.swept.items c.in_ok-kinds.kinds.items c.in_ok-found.found.items
+      whole = whole_new g.format g.pages g.sections xs is all c.in_ok-resets.resets.items c.in_ok-swept.swept.items c.in_ok-of_runs.of_runs.items c.in_ok-found.found.items
           (c.in_ok-resets.ensures.items_if_clones_equal (λ y h. h) ∙ ap (λ (n : ℕ). replicate n zero) first)
           (c.in_ok-swept.ensures.items_if_clones_equal (λ y h. h) ∙ ap (λ (n : ℕ). replicate n false) second)
-          (c.in_ok-kinds.ensures.items_if_clones_equal (λ y h. h) ∙ ap (λ (n : ℕ). replicate n false) third)
-          (ap length c.in_ok-found.ensures ∙ found_length c.lies_apart.result c.deref.result.now ∙ ap length c.deref.ensures.value)
+          (c.in_ok-of_runs.ensures.items_if_clones_equal (λ y h. h) ∙ ap (λ (n : ℕ). replicate n false) third)
+          (ap length c.in_ok-found.ensures ∙ found_length (apart_in c.format.result) c.deref.result.now ∙ ap length c.deref.ensures.value)
           (λ d. subst (λ (fs : List ℕ). get_or fs d 0 ≤ (get_or xs d (0, 0)).0) (sym c.in_ok-found.ensures)
-          (subst (λ (ys : List (ℕ × ℕ)). get_or (found_at c.lies_apart.result c.deref.result.now) d 0 ≤ (get_or ys d (0, 0)).0) c.deref.ensures.value
-          (found_within c.lies_apart.result c.deref.result.now d)));
+          (subst (λ (ys : List (ℕ × ℕ)). get_or (found_at (apart_in c.format.result) c.deref.result.now) d 0 ≤ (get_or ys d (0, 0)).0) c.deref.ensures.value
+          (found_within (apart_in c.format.result) c.deref.result.now d)));
     }

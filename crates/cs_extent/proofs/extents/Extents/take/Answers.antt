@@ -1,19 +1,30 @@
-use Rattle.std.proofs.Common.{◌≡◌, ◌∙◌, ◌+◌, ◌==◌, None, Some, ap, ℕ, if◌then◌else◌}
-use Rattle.std.proofs.lemmas.List.{get_or_read}
-use Rattle.law_machine.specs.Extents.{open_after}
-use Rattle.cs_extent.specs.State.{State, extents_of, shape}
-use Rattle.cs_extent.specs.contracts.extents.Extents.{the_view}
-use Rattle.cs_extent.proofs.Changes.{taken_extents}
+use Rattle.std.proofs.Common.{◌∙◌, ap, sym}
+use Rattle.law_machine.specs.Device.{Shape}
+use Rattle.cs_extent.specs.Purposes.{reason_of}
+use Rattle.cs_extent.specs.State.{shape}
+use Rattle.cs_extent.proofs.Noting.{given_there, taken_apart, taken_mixed}
 use Rattle.cs_extent.proofs.extents.Extents.take.Goals as goal
 
-pub returns-clause-extents : goal.returns-clause-extents
-returns-clause-extents c =
-    let s : State = the_view c.self.inside in
-    let inside = rw (← c.self.view_is) at c.requires.exists in
-    let entry = get_or_read s.written c.args.extent c.index_mut-entry.result.now inside c.index_mut-entry.ensures.value (0, 0) in
-    let opened : c.open_unless_full-self-inside.result ≡ open_after (shape s) c.args.extent ((extents_of s).pointer c.args.extent + c.args.pages) =
-    c.open_unless_full-self-inside.ensures
-    ∙ ap (λ (n : ℕ). if (c.index_mut-entry.result.now.0 + c.args.pages) == n then None else Some c.args.extent) c.pages-full.ensures.pages
-    ∙ ap (λ (x : ℕ × ℕ). if (x.0 + c.args.pages) == s.pages then None else Some c.args.extent) entry in
-    rw (← c.self.view_is) (taken_extents s c.args.extent c.args.pages (c.index_mut-entry.result.now.0 + c.args.pages, c.index_mut-entry.result.now.1) c.open_unless_full-self-inside.result inside
-    (ap (λ (x : ℕ × ℕ). x.0 + c.args.pages) entry) (ap (λ (x : ℕ × ℕ). x.1) entry) opened)
+pub note-requires-clause-given : goal.note-requires-clause-given
+note-requires-clause-given c =
+    given_there c.args.self.now c.advance.new.self c.advance.new.self (reason_of c.args.purpose) c.args.extent c.args.pages c.advance.ensures.extents c.requires.some
+
+pub open_unless_full-requires-clause-given : goal.open_unless_full-requires-clause-given
+open_unless_full-requires-clause-given c =
+    given_there c.args.self.now c.advance.new.self c.advance.new.self (reason_of c.args.purpose) c.args.extent c.args.pages c.advance.ensures.extents c.requires.some
+
+pub returns-then-is_apart-clause-extents : goal.returns-then-is_apart-clause-extents
+returns-then-is_apart-clause-extents c =
+    taken_apart c.args.self.now c.advance.new.self c.note.new.self (reason_of c.args.purpose) c.args.extent c.args.pages c.advance.ensures.extents c.pointer-given.result
+    (ap (λ (S : Shape). S.apart) (sym c.advance.ensures.shape) ∙ sym c.is_apart.ensures ∙ c.if-is_apart.true) c.note.ensures.there c.pointer-given.ensures c.note.ensures.notes
+
+pub returns-then-is_apart-clause-shape : goal.returns-then-is_apart-clause-shape
+returns-then-is_apart-clause-shape c = ap shape c.note.ensures.notes ∙ c.advance.ensures.shape
+
+pub returns-else-is_apart-clause-extents : goal.returns-else-is_apart-clause-extents
+returns-else-is_apart-clause-extents c =
+    taken_mixed c.args.self.now c.advance.new.self c.open_unless_full.new.self (reason_of c.args.purpose) c.args.extent c.args.pages c.advance.ensures.extents
+    (ap (λ (S : Shape). S.apart) (sym c.advance.ensures.shape) ∙ sym c.is_apart.ensures ∙ c.if-is_apart.false) c.advance.ensures.shape c.open_unless_full.ensures
+
+pub returns-else-is_apart-clause-shape : goal.returns-else-is_apart-clause-shape
+returns-else-is_apart-clause-shape c = ap shape c.open_unless_full.ensures ∙ c.advance.ensures.shape

@@ -18,10 +18,10 @@ use Rattle.cs_index.proofs.Tallies.{counts_as}
 use Rattle.cs_index.proofs.indexes.Index.stage_copied.Goals as goal
 use Rattle.cs_index.proofs.indexes.Index.stage_copied.Goals.{After-replace-runs}
 
-same : (c : After-replace-runs) → map named_entry c.args.table.entries.items ≡ map named_entry c.self.inside.table.entries.items
+same : (c : After-replace-runs) → map named_entry c.args.copied.table.entries.items ≡ map named_entry c.self.inside.table.entries.items
 same c =
     let copy = rw (← c.self.view_is) at c.requires.copy in
-    run_one false (part (the_view c.self.inside) 0) (map named_entry c.args.table.entries.items) (map named_entry c.self.inside.table.entries.items) copy (table_run (the_view c.self.inside) c.self.invariant.whole.ascending)
+    run_one false (part (the_view c.self.inside) 0) (map named_entry c.args.copied.table.entries.items) (map named_entry c.self.inside.table.entries.items) copy (table_run (the_view c.self.inside) c.self.invariant.whole.ascending)
 
 taken : (c : After-replace-runs) → c.replace-runs.result.items ≡ c.self.inside.runs.items
 taken c = ap (λ (v : Vec StoredRun Global). v.items) c.replace-runs.ensures.value
@@ -30,18 +30,18 @@ pub invariant_of-settled : goal.invariant_of-settled
 invariant_of-settled c =
     let i = c.self.inside in
     let at = (goal.at.invariant_of-settled c).After-replace-runs in
-    let is : index_of (state_of c.args.table.entries.items c.replace-runs.result.items i.format i.limit 0) ≡ index_of (state_of i.table.entries.items i.runs.items i.format i.limit i.room)
-    = table_is i.table.entries.items c.args.table.entries.items i.runs.items c.replace-runs.result.items i.format i.limit i.room (same at) (ap newest_first (taken at)) in
+    let is : index_of (state_of c.args.copied.table.entries.items c.replace-runs.result.items i.format i.limit 0) ≡ index_of (state_of i.table.entries.items i.runs.items i.format i.limit i.room)
+    = table_is i.table.entries.items c.args.copied.table.entries.items i.runs.items c.replace-runs.result.items i.format i.limit i.room (same at) (ap newest_first (taken at)) in
     record {
-      whole = whole_again i.table.entries.items c.args.table.entries.items i.runs.items c.replace-runs.result.items i.format i.limit i.room (same at) (ap newest_first (taken at)) c.self.invariant.whole;
+      whole = whole_again i.table.entries.items c.args.copied.table.entries.items i.runs.items c.replace-runs.result.items i.format i.limit i.room (same at) (ap newest_first (taken at)) c.self.invariant.whole;
       ids = c.requires.ids;
       count = c.self.invariant.count ∙ ap (λ (es : List Entry). names es) (sym is);
       lives = c.self.invariant.lives ∙ ap (λ (es : List Entry). shards es) (sym is);
       weighs = c.self.invariant.weighs ∙ ap (λ (es : List Entry). named_weight (weigh_in i.format) es) (sym is);
-      counts = (let counts = rw (← c.self.view_is) at c.requires.counts in counts_as c.args.on.items (index_of (the_view c.self.inside)) (index_of (state_of c.args.table.entries.items c.replace-runs.result.items i.format i.limit 0)) (λ id. ap (λ (es : List Entry). live_at es id) is) counts);
+      counts = (let counts = rw (← c.self.view_is) at c.requires.counts in counts_as c.args.copied.on.items (index_of (the_view c.self.inside)) (index_of (state_of c.args.copied.table.entries.items c.replace-runs.result.items i.format i.limit 0)) (λ id. ap (λ (es : List Entry). live_at es id) is) counts);
       small = c.self.invariant.small;
-      fits = omega (arith, c.args.table.entries.ok.1);
-      clear = none_at_first (index_of (state_of c.args.table.entries.items c.replace-runs.result.items i.format i.limit 0)) 0;
+      fits = omega (arith, c.args.copied.table.entries.ok.1);
+      clear = none_at_first (index_of (state_of c.args.copied.table.entries.items c.replace-runs.result.items i.format i.limit 0)) 0;
     }
 
 pub returns-in-Ok-clause-settled : goal.returns-in-Ok-clause-settled

@@ -1,4 +1,4 @@
-use Rattle.std.proofs.Common.{◌∙◌, ◌≡◌, ◌≢◌, ◌<◌, ◌≤◌, [], ◌∷◌, Ok, Err, false, arith, ap, length, map, subst, sym, List, ℕ, Vec, vec_len}
+use Rattle.std.proofs.Common.{Bool, ◌∙◌, ◌≡◌, ◌≢◌, ◌<◌, ◌≤◌, [], ◌∷◌, Ok, Err, false, arith, ap, length, map, subst, sym, List, ℕ, Vec, vec_len}
 use Rattle.std.specs.List.{AllByRecursion}
 use Rattle.std.specs.declared.alloc.Global.{Global}
 use Rattle.cs_frame.specs.declared.identifiers.ShardId.{ShardId}
@@ -18,10 +18,10 @@ use Rattle.cs_frame.specs.Locators.{KeepFormat}
 use Rattle.cs_frame.specs.Places.{Listed}
 use Rattle.cs_index.specs.Held.{AreCounts}
 use Rattle.cs_index.specs.Live.{IsClear}
-use Rattle.cs_index.specs.Staged.{IsRunStaged}
+use Rattle.cs_index.specs.Staged.{IsPartStagedBy, IsRunStagedBy}
 use Rattle.cs_index.specs.State.{KeepTo, RunsKeepTo, index_of, named_entry, newest_first, state_of}
 use Rattle.cs_index.proofs.Marks.{places_keep, run_placed}
-use Rattle.cs_index.proofs.Exact.{exact_table, part_one, table_run}
+use Rattle.cs_index.proofs.Exact.{exact_table, goes_some, part_one, table_run}
 use Rattle.cs_index.proofs.Staging.{is_run, pushed_index, pushed_runs, pushed_whole, table_keeps, table_light}
 use Rattle.cs_index.proofs.Weights.{shape_light}
 use Rattle.cs_index.proofs.Whole.{length-newest, no_ids}
@@ -55,6 +55,21 @@ stage_run-requires-clause-marks c =
     subst (λ (rs : List StoredRun). KeepFormat c.args.extents.now.format (map (λ run. run.place) rs)) (sym (c.deref.ensures.value ∙ c.in_ok-reserve.ensures.items))
     (places_keep c.args.extents.now.format c.self.inside.runs.items (subst (λ (f : ℕ). RunsKeepTo f (newest_first c.self.inside.runs.items)) format c.self.invariant.whole.placed))
 
+pub run_fits-requires-clause-weight : goal.run_fits-requires-clause-weight
+run_fits-requires-clause-weight c =
+    let limit = rw (← c.self.view_is) at c.requires.limit in
+    let format = rw (← c.self.view_is) at c.requires.format in
+    let i = c.self.inside in
+    shape_light (the_view i) c.args.extents.now (map named_entry i.table.entries.items) format limit (table_light i.table.entries.items i.runs.items i.format i.limit i.room c.self.invariant.whole)
+
+pub returns-then-not-run_fits-clause-why : goal.returns-then-not-run_fits-clause-why
+returns-then-not-run_fits-clause-why c =
+    rw (← c.self.view_is) (map named_entry c.self.inside.table.entries.items, (table_run (the_view c.self.inside) c.self.invariant.whole.ascending, c.if-not-run_fits.ensures.0), c.if-not-run_fits.ensures.1)
+
+pub stage_run-requires-clause-placed : goal.stage_run-requires-clause-placed
+stage_run-requires-clause-placed c =
+    goes_some c.args.extents.now ForRun (map named_entry c.self.inside.table.entries.items) (shape c.args.extents.now).apart c.requires.together (some_entries c) c.if-not-run_fits.ensures
+
 pub stage_run-requires-clause-weight : goal.stage_run-requires-clause-weight
 stage_run-requires-clause-weight c = light c
 
@@ -65,7 +80,7 @@ stage_run-requires-clause-few c =
 pub returns-in-Err-clause-why : goal.returns-in-Err-clause-why
 returns-in-Err-clause-why c =
     let some = some_entries (goal.at.returns-in-Err-clause-why c).After-deref in
-    rw (← c.self.view_is) (exact_table {T = ℕ} (the_view c.self.inside) c.args.extents.now c.args.graph.now.staging (Err c.in-Err.refusal) c.self.invariant.whole.ascending some c.in-Err.ensures.why)
+    rw (← c.self.view_is) (exact_table {T = ℕ} (shape c.args.extents.now).apart (the_view c.self.inside) c.args.extents.now c.args.graph.now.staging (Err c.in-Err.refusal) c.requires.together c.self.invariant.whole.ascending some c.if-not-run_fits.ensures c.in-Err.ensures.why)
 
 none_left : (c : After-push_reserved) → c.replace-entries.new.dest.items ≡ []
 none_left c = ap (λ (v : Vec (ShardId × Listed) Global). v.items) c.replace-entries.ensures.after ∙ c.new.ensures.items
@@ -97,7 +112,7 @@ invariant_of-self-in-Ok c =
     let some = rw (← c.self.view_is) at c.requires.some in
     let format = rw (← c.self.view_is) at c.requires.format in
     let placed = subst (λ (f : ℕ). KeepTo f (place_of c.in-Ok.place ∷ [])) (sym format)
-    (run_placed false c.args.extents.now c.args.graph.now ForRun (map named_entry c.self.inside.table.entries.items) (place_of c.in-Ok.place) c.stage_run.new.extents c.in-Ok.ensures.staged.0 c.in-Ok.ensures.staged.1) in
+    (run_placed (shape c.args.extents.now).apart c.args.extents.now c.args.graph.now ForRun (map named_entry c.self.inside.table.entries.items) (place_of c.in-Ok.place) c.stage_run.new.extents c.in-Ok.ensures.staged.0 c.in-Ok.ensures.staged.1) in
     let few : length (newest_first i.runs.items) < 24 = omega (arith, few_runs (goal.at.invariant_of-self-in-Ok c).After-deref, most_runs c.args.extents.now.format) in
     record {
       whole = pushed_whole i.table.entries.items c.replace-entries.new.dest.items i.runs.items c.reserve.new.self.items c.push_reserved.new.self.items (record { place = c.in-Ok.place; entries = c.replace-entries.result })
@@ -116,14 +131,15 @@ pub returns-in-Ok-clause-staged : goal.returns-in-Ok-clause-staged
 returns-in-Ok-clause-staged c =
     let at = (goal.at.returns-in-Ok-clause-staged c).After-push_reserved in
     let was = (goal.at.returns-in-Ok-clause-staged c).After-deref in
-    rw (← c.self.view_is) (part_one false 0 (the_view c.self.inside) c.args.extents.now c.args.graph.now ForRun c.in-Ok.version c.args.commands
+    rw (← c.self.view_is) (subst (λ (b : Bool). IsPartStagedBy b false 0 (the_view c.self.inside) c.args.extents.now c.args.graph.now ForRun c.in-Ok.version c.args.commands (state_of c.replace-entries.new.dest.items c.push_reserved.new.self.items c.self.inside.format c.self.inside.limit 0) c.stage_run.new.extents c.stage_run.new.graph) c.requires.together
+    (part_one (shape c.args.extents.now).apart false 0 (the_view c.self.inside) c.args.extents.now c.args.graph.now ForRun c.in-Ok.version c.args.commands
     (state_of c.replace-entries.new.dest.items c.push_reserved.new.self.items c.self.inside.format c.self.inside.limit 0) c.stage_run.new.extents c.stage_run.new.graph (map named_entry c.self.inside.table.entries.items) (table_run (the_view c.self.inside) c.self.invariant.whole.ascending)
     (place_of c.in-Ok.place) (some_entries was)
-    (subst (λ (rs : List Run). IsRunStaged c.args.extents.now c.args.graph.now ForRun (map named_entry c.self.inside.table.entries.items) rs (place_of c.in-Ok.place) c.in-Ok.version c.args.commands c.stage_run.new.extents c.stage_run.new.graph)
+    (subst (λ (rs : List Run). IsRunStagedBy (shape c.args.extents.now).apart c.args.extents.now c.args.graph.now ForRun (map named_entry c.self.inside.table.entries.items) rs (place_of c.in-Ok.place) c.in-Ok.version c.args.commands c.stage_run.new.extents c.stage_run.new.graph)
     (ap newest_first (c.deref.ensures.value ∙ c.in_ok-reserve.ensures.items)) c.in-Ok.ensures.staged)
-    (state_is at))
+    (state_is at)))
 
 pub returns-in-Ok-clause-why : goal.returns-in-Ok-clause-why
 returns-in-Ok-clause-why c =
     let some = some_entries (goal.at.returns-in-Ok-clause-why c).After-deref in
-    rw (← c.self.view_is) (exact_table {T = ℕ} (the_view c.self.inside) c.args.extents.now c.args.graph.now.staging (Ok c.in-Ok.version) c.self.invariant.whole.ascending some c.in-Ok.ensures.why)
+    rw (← c.self.view_is) (exact_table {T = ℕ} (shape c.args.extents.now).apart (the_view c.self.inside) c.args.extents.now c.args.graph.now.staging (Ok c.in-Ok.version) c.requires.together c.self.invariant.whole.ascending some c.if-not-run_fits.ensures c.in-Ok.ensures.why)

@@ -9,5 +9,5 @@ returns-then-last-clause-why c =
 
 pub returns-clause-why : goal.returns-clause-why
 returns-clause-why c =
-    exact_too (IsStageFullApart c.args.self.now c.args.extents.now) (IsStageWornApart c.args.self.now c.args.extents.now c.args.graph.now.staging) (c.args.last ≡ true) c.stage_apart.result
-    (λ on. absurd (cc (c.if-last.false, on))) c.stage_apart.ensures.why
+    exact_too (IsStageFullApart c.args.self.now c.args.extents.now) (IsStageWornApart c.args.self.now c.args.extents.now c.args.graph.now.staging) (c.args.last ≡ true) c.stage_root.result
+    (λ on. absurd (cc (c.if-last.false, on))) c.stage_root.ensures.why

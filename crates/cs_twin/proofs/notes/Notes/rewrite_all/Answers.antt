@@ -16,6 +16,7 @@ loop-k-init g c = record {
   notes = c.requires.notes;
   right = c.requires.right;
   failures = omega arith;
+  refused = refl;
 }
 
 pub rewrite-requires-clause-pairs : goal.rewrite-requires-clause-pairs
@@ -55,6 +56,7 @@ loop-k-preserved g c =
       notes = c.rewrite.ensures.notes;
       right = c.rewrite.ensures.right;
       failures = let later = c.rewrite.ensures.cause.later in let before = so_far.failures in omega (arith, later, before);
+      refused = c.rewrite.ensures.refused ∙ so_far.refused;
     }
 
 pub returns-clause-mended : goal.returns-clause-mended

@@ -1,6 +1,6 @@
 use Rattle.std.proofs.Common.{◌≡◌, ◌≤◌, ◌↔◌, []}
 use Rattle.cs_twin.specs.Fitting.{IsFit}
-use Rattle.cs_twin.specs.Noted.{AreNotes, AreRight, failed}
+use Rattle.cs_twin.specs.Noted.{AreNotes, AreRight, failed, refused_of}
 use Rattle.cs_twin.specs.Pairs.{shown}
 use Rattle.cs_twin.proofs.MendingAll.{AreMendedTo, LeavesShown}
 use Rattle.cs_twin.proofs.notes.Notes.rewrite_all.Given as goal
@@ -17,4 +17,5 @@ invariant-loop-k g l = record {
   notes : AreNotes l.pairs l.self;
   right : g.D.PageDisk.honest l.disk → AreRight (g.R.PageRules.version l.rules) l.pairs l.self (g.D.PageDisk.state l.disk);
   failures : failed (g.D.PageDisk.failure_count l.fn.disk) l.fn.self ≤ failed (g.D.PageDisk.failure_count l.disk) l.self;
+  refused : refused_of l.self ≡ refused_of l.fn.self;
 }

@@ -8,6 +8,7 @@ use Rattle.cs_twin.specs.Pairs.{ArePairs}
 use Rattle.cs_twin.proofs.Fits.{fit_below, fit_own, own_lies, own_may_lie, pair_lies, pair_may_lie}
 use Rattle.cs_twin.proofs.Over.{own_either, own_ok, pair_either, shows_here, time_here, whole_here}
 use Rattle.cs_twin.proofs.Right.{own_right, still_noted, still_right}
+use Rattle.cs_twin.proofs.Taking.{others_own, others_pair}
 use Rattle.cs_twin.proofs.paired.PairedPageDisk.write.Goals as goal
 
 pub write_newer-requires-clause-inside : goal.write_newer-requires-clause-inside
@@ -131,3 +132,23 @@ pub returns-in-OfPair-clause-device_fault : goal.returns-in-OfPair-clause-device
 returns-in-OfPair-clause-device_fault g c = λ h.
     let at = subst (λ (ps : List Pair). IsPlace ps c.args.number (OfPair c.in-OfPair.k)) (c.deref.ensures.value ∙ sym c.deref-in-OfPair.ensures.value) c.in-OfPair.ensures in
     pair_may_lie (g.D.PageDisk.state c.args.self.now.disk) (g.D.PageDisk.state c.write_newer.new.disk) at.0 c.args.bytes.now (c.write_newer.ensures.below h at.0 at.1)
+
+pub returns-then-allows-clause-others : goal.returns-then-allows-clause-others
+returns-then-allows-clause-others g c = λ h.
+    let self = c.args.self.now in
+    let own = subst (λ (ps : List Pair). IsPlace ps c.args.number Own) c.deref.ensures.value c.in-Own.ensures in
+    others_own (g.R.PageRules.version self.rules) (g.R.PageRules.allowed self.rules) self.pairs.items c.write.result (g.D.PageDisk.state self.disk) (g.D.PageDisk.state c.write.new.self) c.args.number c.args.bytes.now own (c.write.ensures.ok h)
+
+pub returns-in-OfPair-clause-taken : goal.returns-in-OfPair-clause-taken
+returns-in-OfPair-clause-taken g c = λ h sound takes.
+    let at = subst (λ (ps : List Pair). IsPlace ps c.args.number (OfPair c.in-OfPair.k)) c.deref.ensures.value c.in-OfPair.ensures in
+    let there = ap (λ (ps : List Pair). slice_get ps c.in-OfPair.k) c.deref-in-OfPair.ensures.value ∙ at.1 in
+    c.write_newer.ensures.taken h sound at.0 there (takes.newer c.in-OfPair.k at.0 at.1 at.2)
+
+pub returns-in-OfPair-clause-others : goal.returns-in-OfPair-clause-others
+returns-in-OfPair-clause-others g c = λ h.
+    let self = c.args.self.now in
+    let at = subst (λ (ps : List Pair). IsPlace ps c.args.number (OfPair c.in-OfPair.k)) c.deref.ensures.value c.in-OfPair.ensures in
+    let there = ap (λ (ps : List Pair). slice_get ps c.in-OfPair.k) c.deref-in-OfPair.ensures.value ∙ at.1 in
+    others_pair (g.R.PageRules.version self.rules) (g.R.PageRules.allowed self.rules) self.pairs.items c.write_newer.result (g.D.PageDisk.page_count self.disk) (g.D.PageDisk.state self.disk) (g.D.PageDisk.state c.write_newer.new.disk)
+    c.args.number c.in-OfPair.k at.0 c.args.bytes.now self.apart at.1 at.2 (c.write_newer.ensures.below_ok h at.0 there)

@@ -1,0 +1,14 @@
+use Rattle.std.proofs.Common.{◌≢◌, ◌∙◌, [], arith, inl, map, sym}
+use Rattle.std.proofs.lemmas.Bool.{eqb-true, eqb-false}
+use Rattle.cs_extent.specs.Purposes.{reason_of}
+use Rattle.cs_index.specs.State.{named_entry}
+use Rattle.cs_index.proofs.Exact.{none_of, some_of, fits_some}
+use Rattle.cs_index.proofs.stages_v2.run_fits.Goals as goal
+
+pub returns-then-is_empty : goal.returns-then-is_empty
+returns-then-is_empty c = inl (none_of named_entry c.args.run.now.entries.items (omega (arith, c.args.run.now.entries.ok.0, eqb-true _ 0 (sym c.is_empty.ensures ∙ c.if-is_empty.true))))
+
+pub returns : goal.returns
+returns c =
+    let some : map named_entry c.args.run.now.entries.items ≢ [] = some_of named_entry c.args.run.now.entries.items (λ none. eqb-false _ 0 (sym c.is_empty.ensures ∙ c.if-is_empty.false) (omega (arith, c.args.run.now.entries.ok.0, none))) in
+    fits_some c.args.extents.now (reason_of c.args.purpose) (map named_entry c.args.run.now.entries.items) c.run_pages.result c.has_place.result some c.run_pages.ensures.count c.has_place.ensures

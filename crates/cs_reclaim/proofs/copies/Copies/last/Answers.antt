@@ -1,9 +1,0 @@
-use Rattle.std.proofs.Common.{◌∙◌, ◌-◌, List, ap, length, slice_get, sym}
-use Rattle.cs_index.specs.declared.counted_copies.ChunkCopy.{ChunkCopy}
-use Rattle.cs_reclaim.proofs.Noted.{last_noted}
-use Rattle.cs_reclaim.proofs.copies.Copies.last.Goals as goal
-
-pub returns-in-Some : goal.returns-in-Some
-returns-in-Some c =
-    rw (← c.self.view_is) (sym (last_noted c.self.inside.made.items c.in-Some.copy.now
-    (ap (λ (xs : List ChunkCopy). slice_get xs (length xs - 1)) (sym c.deref.ensures.value) ∙ sym c.in-Some.ensures.value)))
