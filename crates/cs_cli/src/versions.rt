@@ -4,4 +4,4 @@
 pub const VERSION: &str = "0.62.0";
 
 /// The sum of the sources that it is made of, in hex; zeros where none was written here.
-pub const SOURCES: &str = "0be2c7b2df8a05349c6c67a74ee74dc4f3ff7b74daa0fb8abd788f1f7c70201d";
+pub const SOURCES: &str = "52e61e4f53913523e6d2101aa3ee3dea2ed6a2032d1628a14918eedefca7f4c4";

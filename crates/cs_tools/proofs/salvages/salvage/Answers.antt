@@ -10,3 +10,8 @@ pub returns-in-Err-find_parts-clause-disk : goal.returns-in-Err-find_parts-claus
 returns-in-Err-find_parts-clause-disk g c =
     let disks = g.D.PageDisk in
     reads_on disks c.args.disk.now c.find_geometry.new.disk c.find_parts.new.disk c.find_geometry.ensures.disk c.find_parts.ensures.disk
+
+pub returns-in_err-spelled_by-in-Ok-clause-disk : goal.returns-in_err-spelled_by-in-Ok-clause-disk
+returns-in_err-spelled_by-in-Ok-clause-disk g c =
+    let disks = g.D.PageDisk in
+    reads_on disks c.args.disk.now c.find_geometry.new.disk c.find_parts.new.disk c.find_geometry.ensures.disk c.find_parts.ensures.disk
