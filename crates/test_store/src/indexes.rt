@@ -74,8 +74,6 @@ fn stage(rt: &impl Abort, store: &mut Store, commands: u64) -> Result<Option<u64
 fn merge(rt: &impl Abort, store: &mut Store, commands: u64) -> Result<u64, Refusal>
     requires { commands < 2 ^ 63 }
 {
-    let apart = store.extents.is_apart();
-    assert!(rt; !apart);
     assert_indexed(rt, &store.index, &store.extents);
     assert_families(rt, &store.extents, &store.graph);
     store.index.stage_merged(

@@ -1,6 +1,6 @@
 //! The parts of a store, and what is done with them and asked of them by scripts: the first word of a line names a part, and others
 //! are asked of the graph.
-ghost use Rattle.std.specs.Prelude.{ℕ, ◌≡◌, ◌≤◌, ◌+◌, ◌*◌, IfOk, length, replicate, slice_index};
+ghost use Rattle.std.specs.Prelude.{ℕ, ◌≡◌, ◌≤◌, ◌+◌, ◌*◌, IfOk, false, length, replicate, slice_index};
 ghost use Rattle.cs_extent.specs.Sections.{AreSections};
 ghost use Rattle.cs_extent.specs.State.{extents_of, shape};
 ghost use Rattle.cs_frame.specs.Geometries.{section_length};
@@ -123,7 +123,10 @@ pub fn assert_families(rt: &impl Abort, extents: &Extents, graph: &Graph)
 pub fn assert_indexed(rt: &impl Abort, index: &Index, extents: &Extents)
     ensures format { index.now.format ≡ (shape extents.now).format }
     ensures limit { index.now.limit ≡ (shape extents.now).most_weight }
+    ensures together { (shape extents.now).apart ≡ false }
 {
+    let apart = extents.is_apart();
+    assert!(rt; !apart);
     let geometry = extents.geometry();
     let pages = extents.extent_pages();
     assert!(rt; pages == 2);
