@@ -15,7 +15,6 @@ use Rattle.law_machine.specs.Device.{Shape}
 use Rattle.law_machine.specs.Events.{AllFullButLast, ArePayloads, Chunked, with_heads}
 use Rattle.law_machine.specs.Geometry.{chunk_bytes_in, head_bytes_in}
 use Rattle.law_machine.specs.Index.{joined}
-use Rattle.law_machine.proofs.Chunks.{chunked_one}
 use Rattle.law_machine.proofs.Payloads.{payloads_one}
 
 pub length-spelled : (kind : ℕ) (payload : List ℕ) → length (spelled_frame kind payload) ≡ page_count (length payload)
@@ -148,10 +147,6 @@ module _ (S : Shape) (bytes : List ℕ) (cut : Cut) (is : IsCut S (length bytes)
   pub cut_only : (id command : ℕ) (cs : List (List ℕ)) → ArePayloads S (formats_of S) id command bytes cs → cs ≡ with_heads (formats_of S) id 0 cut.count command (pieces cut.size cut.count bytes)
   cut_only id command cs are =
       payloads_one S (formats_of S) id command bytes cs (with_heads (formats_of S) id 0 cut.count command (pieces cut.size cut.count bytes)) are (cut_payloads id command)
-
-  -- there are as many pieces as the cut counts
-  pub cut_count : (ps : List (List ℕ)) → Chunked S.chunk_bytes bytes ps → length ps ≡ cut.count
-  cut_count ps chunked = ap length (chunked_one S.chunk_bytes bytes ps (pieces cut.size cut.count bytes) chunked cut_chunked) ∙ length-pieces cut.size cut.count bytes
 
   pub cut_pages : (id command : ℕ) → page_counts (chunk_frames S (formats_of S) (with_heads (formats_of S) id 0 cut.count command (pieces cut.size cut.count bytes))) ≡ pages_of cut
   cut_pages id command =

@@ -1,4 +1,5 @@
 pub mod Pieces
+pub mod PieceCounts
 pub mod Chunkings
 pub mod Copied
 pub mod Newest

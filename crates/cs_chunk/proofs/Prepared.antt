@@ -4,27 +4,24 @@ use Rattle.std.specs.Prelude.{map, sum}
 use Rattle.std.specs.List.{AllByRecursion}
 use Rattle.std.proofs.lemmas.List.{length-map}
 use Rattle.cs_chunk.specs.declared.cuts.Cut.{Cut}
-use Rattle.cs_chunk.specs.Chunks.{AreChunksIn}
 use Rattle.cs_chunk.specs.Cuts.{IsCut, pages_of, pieces}
-use Rattle.cs_chunk.specs.Newest.{AreNewest}
-use Rattle.cs_chunk.specs.Puts.{AreNewestFrames, IsPutSoFar, MayPut}
+use Rattle.cs_chunk.specs.Puts.{ArePayloadsIn, ArePutIn, AreNewestFrames, IsPutSoFar, MayPut, frames_in}
 use Rattle.cs_chunk.proofs.Chunkings.{frames_are, length-pieces}
 use Rattle.cs_chunk.proofs.Planned.{chunked, one_cut, only, pages}
 use Rattle.cs_chunk.proofs.Putting.{appended_whatever, put_reads}
 use Rattle.cs_deps.specs.State.{State as Graph}
-use Rattle.cs_disk.specs.Disk.{Image}
-use Rattle.cs_extent.specs.Appended.{AreAppendedBy}
-use Rattle.cs_extent.specs.Frames.{AreResetsStaged}
+use Rattle.cs_extent.specs.Appended.{AreAppended, AreAppendedBy, IsReady}
+use Rattle.cs_extent.specs.Places.{FitIn}
 use Rattle.cs_extent.specs.State.{IsWhole, State, extents_of, shape}
-use Rattle.cs_extent.specs.Worn.{AreWornBy}
+use Rattle.cs_extent.specs.Worn.{AreWorn}
 use Rattle.cs_extent.proofs.Sections.{section_there}
 use Rattle.cs_frame.specs.declared.locators.Locator.{Locator}
 use Rattle.cs_frame.specs.Formats.{formats_of}
 use Rattle.cs_frame.specs.Frames.{spelled_frame}
 use Rattle.law_machine.specs.Append.{chunk_frames, page_counts}
 use Rattle.law_machine.specs.Device.{Shape}
-use Rattle.law_machine.specs.Events.{ArePayloads, with_heads}
-use Rattle.law_machine.specs.Extents.{FitsBy, ForPut, Purpose as Reason}
+use Rattle.law_machine.specs.Events.{with_heads}
+use Rattle.law_machine.specs.Extents.{ForPut, Purpose as Reason}
 use Rattle.law_machine.specs.Formats.{Formats}
 use Rattle.law_machine.proofs.Payloads.{length_heads}
 
@@ -52,7 +49,7 @@ pub frames_made : {V X : Type 0} (items : V → X) (f : List ℕ → X) (vs : Li
 frames_made items f vs F id total command size count bytes same =
     sym (length-map vs items) ∙ ap length same ∙ length-map (with_heads F id 0 total command (pieces size count bytes)) f ∙ length-payloads F id total command size count bytes
 
-module _ (apart : Bool) (x : State) (g k : Graph) (id command : ℕ) (bytes : List ℕ) (whole : IsWhole x) (cut : Cut) (is : IsCut (shape x) (length bytes) cut) (same : k ≡ record g { room = k.room }) (fs : List (List (List ℕ))) (made : fs ≡ map (spelled_frame 0) (with_heads (formats_of (shape x)) id 0 cut.count command (pieces cut.size cut.count bytes))) where
+module _ (x : State) (g k : Graph) (id command : ℕ) (bytes : List ℕ) (whole : IsWhole x) (cut : Cut) (is : IsCut (shape x) (length bytes) cut) (same : k ≡ record g { room = k.room }) (fs : List (List (List ℕ))) (made : fs ≡ map (spelled_frame 0) (with_heads (formats_of (shape x)) id 0 cut.count command (pieces cut.size cut.count bytes))) where
   abbrev cs : List (List ℕ)
   cs = with_heads (formats_of (shape x)) id 0 cut.count command (pieces cut.size cut.count bytes)
 
@@ -63,42 +60,42 @@ module _ (apart : Bool) (x : State) (g k : Graph) (id command : ℕ) (bytes : Li
   frames = made ∙ sym (frames_are (shape x) cs)
 
   pages_are : page_counts fs ≡ pages_of cut
-  pages_are = ap page_counts frames ∙ pages apart x g.staging id command bytes whole cut is
+  pages_are = ap page_counts frames ∙ pages x id command bytes whole cut is
 
-  pub may_put : length g.staging.latest ≡ 1 + (shape x).sections → AreResetsStaged (extents_of x) g.staging → FitsBy (shape x) apart (extents_of x) ForPut (pages_of cut) → (AreWornBy apart x g.staging ForPut (pages_of cut) → ⊥) → cut.count + sum (pages_of cut) ≤ k.room → MayPut apart x k fs
-  may_put families resets fits numbers room = subst (λ (h : Graph). MayPut apart x h fs) (sym same) (record {
-    families = families;
+  pub may_put : IsReady x g.staging → FitIn x ForPut (pages_of cut) → ¬ AreWorn x g.staging ForPut (pages_of cut) → cut.count + sum (pages_of cut) ≤ k.room → MayPut x k fs
+  may_put ready fits numbers room = subst (λ (h : Graph). MayPut x h fs) (sym same) (record {
+    ready = ready;
     sections = section_there x whole;
-    resets = resets;
     pointers = whole.pointers;
     found = whole.found_given;
     pages = subst (λ ks. AllByRecursion (λ n. (1 ≤ n) × (n ≤ x.pages)) ks) (sym pages_are) (each_page (cut.count - 1) cut.pages cut.last x.pages cut.least cut.most is.pages);
-    fits = subst (λ ks. FitsBy (shape x) apart (extents_of x) ForPut ks) (sym pages_are) fits;
-    numbers = λ worn. numbers (subst (λ ks. AreWornBy apart x g.staging ForPut ks) pages_are worn);
+    fits = subst (λ ks. FitIn x ForPut ks) (sym pages_are) fits;
+    numbers = λ worn. numbers (subst (λ ks. AreWorn x g.staging ForPut ks) pages_are worn);
     room = omega (arith, room, ap length frames, length-frames (shape x) cs, count_is, ap sum pages_are);
   })
 
-  module _ (ls : List Locator) (y : State) (h : Graph) (done : IsPutSoFar apart x k fs [] ls y h) where
-    pub put_chunked : (ds : List (List ℕ)) × ArePayloads (shape x) (formats_of (shape x)) id command bytes ds × AreAppendedBy apart x g ForPut (chunk_frames (shape x) (formats_of (shape x)) ds) ls y h
-        × ((image : Image) (view : ℕ → List ℕ) → AreNewest h image view → AreChunksIn y view ls ds)
+  module _ (ls : List Locator) (y : State) (h : Graph) (done : IsPutSoFar x k fs [] ls y h) where
+    pub put_chunked : (ds : List (List ℕ)) × ArePayloadsIn x id command bytes ds × ArePutIn x g ds ls y h
     put_chunked = (
       cs,
-      chunked apart x g.staging id command bytes whole cut is,
-      appended_whatever apart x g k ForPut _ ls y h same (subst (λ us. AreAppendedBy apart x k ForPut us ls y h) frames done.appended),
-      λ image view are. put_reads y h image view ls cs done.may.pointers are
-          (subst (λ (S : Shape). AreNewestFrames S (extents_of y) h ls (chunk_frames S (formats_of S) cs)) (sym done.same_shape)
-          (subst (λ us. AreNewestFrames (shape x) (extents_of y) h ls us) frames done.newest)),
+      chunked x id command bytes whole cut is,
+      (
+        appended_whatever (shape x).apart x g k ForPut _ ls y h same (subst (λ us. AreAppended x k ForPut us ls y h) frames done.appended),
+        λ image view are. put_reads y h image view ls cs done.may.pointers are
+            (subst (λ (S : Shape). AreNewestFrames S (extents_of y) h ls (chunk_frames S (formats_of S) cs)) (sym done.same_shape)
+            (subst (λ us. AreNewestFrames (shape x) (extents_of y) h ls us) frames done.newest)),
+      ),
     )
 
     pub put_few : (1 ≤ length ls) × (length ls ≤ 8)
     put_few =
-        let count : length ls ≡ cut.count = count_places apart x k ForPut fs ls y h done.appended ∙ ap length frames ∙ length-frames (shape x) cs ∙ count_is in
+        let count : length ls ≡ cut.count = count_places (shape x).apart x k ForPut fs ls y h done.appended ∙ ap length frames ∙ length-frames (shape x) cs ∙ count_is in
         let most : cut.count ≤ 8 = is.most in
         (omega (arith, count, is.some), omega (arith, count, most))
 
-    pub put_room : g.room ≤ k.room → (ds : List (List ℕ)) → ArePayloads (shape x) (formats_of (shape x)) id command bytes ds → g.room ≤ h.room + (length ds + sum (page_counts (chunk_frames (shape x) (formats_of (shape x)) ds)))
+    pub put_room : g.room ≤ k.room → (ds : List (List ℕ)) → ArePayloadsIn x id command bytes ds → g.room ≤ h.room + (length ds + sum (page_counts (frames_in x ds)))
     put_room kept ds is_chunked =
-        omega (arith, kept, done.room, ap length frames, length-frames (shape x) cs, ap sum pages_are, ap sum (only apart x g.staging id command bytes whole cut is ds is_chunked), count_of ds is_chunked)
+        omega (arith, kept, done.room, ap length frames, length-frames (shape x) cs, ap sum pages_are, ap sum (only x id command bytes whole cut is ds is_chunked), count_of ds is_chunked)
       where
-        count_of : (ds : List (List ℕ)) → ArePayloads (shape x) (formats_of (shape x)) id command bytes ds → length ds ≡ length cs
-        count_of ds is_chunked = ap length (one_cut apart x g.staging id command bytes whole cut is ds is_chunked)
+        count_of : (ds : List (List ℕ)) → ArePayloadsIn x id command bytes ds → length ds ≡ length cs
+        count_of ds is_chunked = ap length (one_cut x id command bytes whole cut is ds is_chunked)

@@ -10,8 +10,8 @@ use Rattle.cs_chunk.proofs.Appends.{found_more, frame_begins, frames_stay, has_w
 use Rattle.cs_chunk.proofs.Newest.{reads_newest, stand_of}
 use Rattle.cs_deps.specs.State.{IsWhole, State as Graph}
 use Rattle.cs_disk.specs.Disk.{Image}
-use Rattle.cs_extent.specs.Appended.{AreAppendedBy, IsAppendedBy}
-use Rattle.cs_extent.specs.Frames.{AreResetsStaged, IsWorn, family_of}
+use Rattle.cs_extent.specs.Appended.{AreAppendedBy, IsAppended, IsAppendedBy, IsReady}
+use Rattle.cs_extent.specs.Frames.{IsWorn, family_of}
 use Rattle.cs_extent.specs.State.{State, extents_of, shape}
 use Rattle.cs_extent.specs.Worn.{ArePlacedBy, AreWornBy, in_section}
 use Rattle.cs_extent.proofs.Appending.{whatever_room}
@@ -52,19 +52,22 @@ counts_more [] f = omega (arith, sum_of (length f) [])
 counts_more (e ∷ fs) f = omega (arith, counts_more fs f, sum_of (length e) (page_counts (fs ++ f ∷ [])), sum_of (length e) (page_counts fs))
 
 -- one frame is appended
-module _ (apart : Bool) (x : State) (g : Graph) (f : List (List ℕ)) (left : List (List (List ℕ))) (may : MayPut apart x g (f ∷ left)) where
+module _ (x : State) (g : Graph) (f : List (List ℕ)) (left : List (List (List ℕ))) (may : MayPut x g (f ∷ left)) where
+  abbrev rule : Bool
+  rule = (shape x).apart
+
   -- those that are left fit, wherever it goes
-  fits_behind : (e : ℕ) → Goes (shape x) apart (extents_of x) ForPut (length f) e → FitsBy (shape x) apart (taken_by (shape x) apart ForPut (extents_of x) e (length f)) ForPut (page_counts left)
+  fits_behind : (e : ℕ) → Goes (shape x) rule (extents_of x) ForPut (length f) e → FitsBy (shape x) rule (taken_by (shape x) rule ForPut (extents_of x) e (length f)) ForPut (page_counts left)
   fits_behind e placed =
-      subst (λ (d : ℕ). FitsBy (shape x) apart (taken_by (shape x) apart ForPut (extents_of x) d (length f)) ForPut (page_counts left))
-      (goes_one (shape x) apart (extents_of x) ForPut (length f) may.fits.0 e may.fits.1 placed) may.fits.2
+      subst (λ (d : ℕ). FitsBy (shape x) rule (taken_by (shape x) rule ForPut (extents_of x) d (length f)) ForPut (page_counts left))
+      (goes_one (shape x) rule (extents_of x) ForPut (length f) may.fits.0 e may.fits.1 placed) may.fits.2
 
-  section_inside : (e : ℕ) → Goes (shape x) apart (extents_of x) ForPut (length f) e → (shape x).section e < (shape x).sections
-  section_inside e placed = may.sections e (goes_inside (shape x) apart (extents_of x) ForPut (length f) e placed).0
+  section_inside : (e : ℕ) → Goes (shape x) rule (extents_of x) ForPut (length f) e → (shape x).section e < (shape x).sections
+  section_inside e placed = may.sections e (goes_inside (shape x) rule (extents_of x) ForPut (length f) e placed).0
 
-  pub not_worn : (e : ℕ) → Goes (shape x) apart (extents_of x) ForPut (length f) e → IsWorn g.staging ((shape x).section e) (length f) → ⊥
+  pub not_worn : (e : ℕ) → Goes (shape x) rule (extents_of x) ForPut (length f) e → IsWorn g.staging ((shape x).section e) (length f) → ⊥
   not_worn e placed worn =
-      let rest = places_there (shape x) apart (taken_by (shape x) apart ForPut (extents_of x) e (length f)) ForPut (page_counts left) (fits_behind e placed) in
+      let rest = places_there (shape x) rule (taken_by (shape x) rule ForPut (extents_of x) e (length f)) ForPut (page_counts left) (fits_behind e placed) in
       let count : in_section (shape x) ((shape x).section e) (e ∷ rest.0) ≡ suc (in_section (shape x) ((shape x).section e) rest.0) = in_section_here (shape x) ((shape x).section e) e rest.0 refl in
       ⊎_elim
       (λ (n : 2 ^ 63 ≤ g.staging.staged + length f). may.numbers (inl (omega (arith, n, sum_of (length f) (page_counts left)))))
@@ -75,64 +78,62 @@ module _ (apart : Bool) (x : State) (g : Graph) (f : List (List ℕ)) (left : Li
   pub next_room : length f + 1 ≤ g.room
   next_room = omega (arith, may.room, sum_of (length f) (page_counts left))
 
-  module _ (l : Locator) (y : State) (h : Graph) (a : IsAppendedBy apart x g ForPut f l y h) (whole : IsWhole h) (resets : AreResetsStaged (extents_of y) h.staging) (families : length h.staging.latest ≡ length g.staging.latest) (room : g.room ≤ h.room + (length f + 1)) where
+  module _ (l : Locator) (y : State) (h : Graph) (a : IsAppended x g ForPut f l y h) (whole : IsWhole h) (ready : IsReady y h.staging) (room : g.room ≤ h.room + (length f + 1)) where
     same_pages : y.pages ≡ x.pages
     same_pages = ap (λ (S : Shape). S.pages) a.same_shape
 
     -- the last versions with those of the frames that are left
     versions_more : (es : List ℕ) (j : ℕ) → get_or h.staging.latest (family_of j) 0 + in_section (shape x) j es ≡ get_or g.staging.latest (family_of j) 0 + in_section (shape x) j (l.extent ∷ es)
     versions_more es j =
-        frame_counts (shape x) g.staging.latest h.staging.latest l.extent es (section_inside l.extent a.placed) may.families
+        frame_counts (shape x) g.staging.latest h.staging.latest l.extent es (section_inside l.extent a.placed) may.ready.families
         (frame_latest g.staging h.staging _ _ _ _ _ _ a.staged) j
 
     -- what is placed then is placed behind the frame
-    placed_behind : (es : List ℕ) → ArePlacedBy (shape y) apart (extents_of y) ForPut (page_counts left) es → ArePlacedBy (shape x) apart (extents_of x) ForPut (length f ∷ page_counts left) (l.extent ∷ es)
+    placed_behind : (es : List ℕ) → ArePlacedBy (shape y) rule (extents_of y) ForPut (page_counts left) es → ArePlacedBy (shape x) rule (extents_of x) ForPut (length f ∷ page_counts left) (l.extent ∷ es)
     placed_behind es placed = (
       a.placed,
-      subst (λ (z : Extents). ArePlacedBy (shape x) apart z ForPut (page_counts left) es) a.extents
-          (subst (λ (S : Shape). ArePlacedBy S apart (extents_of y) ForPut (page_counts left) es) a.same_shape placed),
+      subst (λ (z : Extents). ArePlacedBy (shape x) rule z ForPut (page_counts left) es) a.extents
+          (subst (λ (S : Shape). ArePlacedBy S rule (extents_of y) ForPut (page_counts left) es) a.same_shape placed),
     )
 
-    worn_before : AreWornBy apart y h.staging ForPut (page_counts left) → AreWornBy apart x g.staging ForPut (page_counts (f ∷ left))
+    worn_before : AreWornBy rule y h.staging ForPut (page_counts left) → AreWornBy rule x g.staging ForPut (page_counts (f ∷ left))
     worn_before worn = ⊎_elim
         (λ (n : 2 ^ 63 ≤ h.staging.staged + sum (page_counts left)). inl (omega (arith, n, staged_more x g ForPut f l y h a (has_writes h whole), sum_of (length f) (page_counts left))))
-        (λ (w : (places : List ℕ) × ArePlacedBy (shape y) apart (extents_of y) ForPut (page_counts left) places × (j : ℕ) × (j < y.sections) × (2 ^ 63 ≤ get_or h.staging.latest (family_of j) 0 + in_section (shape y) j places)).
+        (λ (w : (places : List ℕ) × ArePlacedBy (shape y) rule (extents_of y) ForPut (page_counts left) places × (j : ℕ) × (j < y.sections) × (2 ^ 63 ≤ get_or h.staging.latest (family_of j) 0 + in_section (shape y) j places)).
         let few : w.2 < x.sections = omega (arith, w.3, ap (λ (S : Shape). S.sections) a.same_shape) in
         let here : 2 ^ 63 ≤ get_or h.staging.latest (family_of w.2) 0 + in_section (shape x) w.2 w.0 =
         subst (λ (S : Shape). 2 ^ 63 ≤ get_or h.staging.latest (family_of w.2) 0 + in_section S w.2 w.0) a.same_shape w.4 in
         inr (l.extent ∷ w.0, placed_behind w.0 w.1, w.2, few, omega (arith, here, versions_more w.0 w.2)))
         worn
 
-    pub may_more : MayPut apart y h left
+    pub may_more : MayPut y h left
     may_more = record {
-      families = families ∙ may.families ∙ ap (λ (S : Shape). 1 + S.sections) (sym a.same_shape);
+      ready = ready;
       sections = subst (λ (S : Shape). (e : ℕ) → e < S.extents → S.section e < S.sections) (sym a.same_shape) may.sections;
-      resets = resets;
       pointers = λ e. omega (arith, within_more x g ForPut f l y h a (has_writes h whole) may.pointers e, same_pages);
       found = λ on. found_more x g ForPut f l y h a (has_writes h whole) may.found (sym (ap (λ (S : Shape). S.fills) a.same_shape) ∙ on);
       pages = subst (λ n. AllByRecursion (λ k. (1 ≤ k) × (k ≤ n)) (page_counts left)) (sym same_pages) may.pages.1;
-      fits = rw (a.same_shape, a.extents) (fits_behind l.extent a.placed);
-      numbers = λ worn. may.numbers (worn_before worn);
+      fits = subst (λ (S : Shape). FitsBy S S.apart (extents_of y) ForPut (page_counts left)) (sym a.same_shape) (subst (λ (z : Extents). FitsBy (shape x) rule z ForPut (page_counts left)) (sym a.extents) (fits_behind l.extent a.placed));
+      numbers = λ worn. may.numbers (worn_before (subst (λ (b : Bool). AreWornBy b y h.staging ForPut (page_counts left)) (ap (λ (S : Shape). S.apart) a.same_shape) worn));
       room = omega (arith, may.room, room, sum_of (length f) (page_counts left));
     }
 
-pub so_far_more : (apart : Bool) (x : State) (g : Graph) (done : List (List (List ℕ))) (f : List (List ℕ)) (left : List (List (List ℕ))) (ls : List Locator) (y : State) (h : Graph) (l : Locator) (z : State) (i : Graph)
-    → IsPutSoFar apart x g done (f ∷ left) ls y h → IsAppendedBy apart y h ForPut f l z i → IsWhole i → AreResetsStaged (extents_of z) i.staging → length i.staging.latest ≡ length h.staging.latest → h.room ≤ i.room + (length f + 1)
-    → IsPutSoFar apart x g (done ++ f ∷ []) left (ls ++ l ∷ []) z i
-so_far_more apart x g done f left ls y h l z i was a whole resets families room = record {
-  appended = appended_more apart x g ForPut done ls y h f l z i was.appended a;
+pub so_far_more : (x : State) (g : Graph) (done : List (List (List ℕ))) (f : List (List ℕ)) (left : List (List (List ℕ))) (ls : List Locator) (y : State) (h : Graph) (l : Locator) (z : State) (i : Graph)
+    → IsPutSoFar x g done (f ∷ left) ls y h → IsAppended y h ForPut f l z i → IsWhole i → IsReady z i.staging → h.room ≤ i.room + (length f + 1)
+    → IsPutSoFar x g (done ++ f ∷ []) left (ls ++ l ∷ []) z i
+so_far_more x g done f left ls y h l z i was a whole ready room = record {
+  appended = appended_more (shape x).apart x g ForPut done ls y h f l z i was.appended (subst (λ (b : Bool). IsAppendedBy b y h ForPut f l z i) (ap (λ (S : Shape). S.apart) was.same_shape) a);
   newest = subst (λ S. AreNewestFrames S (extents_of z) i (ls ++ l ∷ []) (done ++ f ∷ [])) was.same_shape
       (frames_more (shape y) (extents_of z) i ls done l f
       (frames_stay y h ForPut f l z i a (has_writes i whole) was.may.pointers ls done (subst (λ S. AreNewestFrames S (extents_of y) h ls done) (sym was.same_shape) was.newest))
       (frame_begins y h ForPut f l z i a (has_writes i whole) was.may.found));
-  may = may_more apart y h f left was.may l z i a whole resets families room;
+  may = may_more y h f left was.may l z i a whole ready room;
   same_shape = a.same_shape ∙ was.same_shape;
-  families = families ∙ was.families;
   room = omega (arith, was.room, room, counts_more done f);
 }
 
-pub so_far_none : (apart : Bool) (x : State) (g : Graph) (frames : List (List (List ℕ))) (ls : List Locator) → ls ≡ [] → MayPut apart x g frames → IsPutSoFar apart x g [] frames ls x g
-so_far_none apart x g frames ls none may = rw none (record { appended = (refl, refl); newest = tt; may = may; same_shape = refl; families = refl; room = omega arith })
+pub so_far_none : (x : State) (g : Graph) (frames : List (List (List ℕ))) (ls : List Locator) → ls ≡ [] → MayPut x g frames → IsPutSoFar x g [] frames ls x g
+so_far_none x g frames ls none may = rw none (record { appended = (refl, refl); newest = tt; may = may; same_shape = refl; room = omega arith })
 
 -- frame k of a list of vectors
 module _ {V X : Type 0} (items : V → X) (vs : List V) (k : ℕ) (v : V) (f : X) (lt : k < length vs) (read : v ≡ get_or vs k v) (is : f ≡ items v) where
@@ -173,25 +174,11 @@ put_reads x g image view (l ∷ ls) (c ∷ cs) within are newest =
 put_reads x g image view [] (c ∷ cs) within are newest = newest
 put_reads x g image view (l ∷ ls) [] within are newest = newest
 
-pub so_far_at : (apart : Bool) (x : State) (g : Graph) (done fs : List (List (List ℕ))) (f : List (List ℕ)) (left : List (List (List ℕ))) (ls : List Locator) (y : State) (h : Graph) → fs ≡ f ∷ left → IsPutSoFar apart x g done fs ls y h → IsPutSoFar apart x g done (f ∷ left) ls y h
-so_far_at apart x g done fs f left ls y h is was = subst (λ us. IsPutSoFar apart x g done us ls y h) is was
+pub so_far_at : (x : State) (g : Graph) (done fs : List (List (List ℕ))) (f : List (List ℕ)) (left : List (List (List ℕ))) (ls : List Locator) (y : State) (h : Graph) → fs ≡ f ∷ left → IsPutSoFar x g done fs ls y h → IsPutSoFar x g done (f ∷ left) ls y h
+so_far_at x g done fs f left ls y h is was = subst (λ us. IsPutSoFar x g done us ls y h) is was
 
-pub so_far_done : (apart : Bool) (x : State) (g : Graph) (done fs new : List (List (List ℕ))) (f : List (List ℕ)) (left : List (List (List ℕ))) (ls : List Locator) (y : State) (h : Graph) (l : Locator) (z : State) (i : Graph)
-    → fs ≡ f ∷ left → new ≡ done ++ f ∷ [] → IsPutSoFar apart x g done fs ls y h → IsAppendedBy apart y h ForPut f l z i → IsWhole i → AreResetsStaged (extents_of z) i.staging → length i.staging.latest ≡ length h.staging.latest → h.room ≤ i.room + (length f + 1)
-    → IsPutSoFar apart x g new left (ls ++ l ∷ []) z i
-so_far_done apart x g done fs new f left ls y h l z i is more was a whole resets families room =
-    subst (λ us. IsPutSoFar apart x g us left (ls ++ l ∷ []) z i) (sym more) (so_far_more apart x g done f left ls y h l z i (so_far_at apart x g done fs f left ls y h is was) a whole resets families room)
-
--- the same by the extents' own rules, which stay
-pub may_next : (x : State) (g : Graph) (done fs : List (List (List ℕ))) (f : List (List ℕ)) (left : List (List (List ℕ))) (ls : List Locator) (y : State) (h : Graph) → fs ≡ f ∷ left
-    → IsPutSoFar (shape x).apart x g done fs ls y h → MayPut (shape y).apart y h (f ∷ left)
-may_next x g done fs f left ls y h is was =
-    let now = so_far_at (shape x).apart x g done fs f left ls y h is was in
-    subst (λ (b : Bool). MayPut b y h (f ∷ left)) (sym (ap (λ (S : Shape). S.apart) now.same_shape)) now.may
-
-pub so_far_next : (x : State) (g : Graph) (done fs new : List (List (List ℕ))) (f : List (List ℕ)) (left : List (List (List ℕ))) (ls : List Locator) (y : State) (h : Graph) (l : Locator) (z : State) (i : Graph)
-    → fs ≡ f ∷ left → new ≡ done ++ f ∷ [] → IsPutSoFar (shape x).apart x g done fs ls y h → IsAppendedBy (shape y).apart y h ForPut f l z i → IsWhole i → AreResetsStaged (extents_of z) i.staging
-    → length i.staging.latest ≡ length h.staging.latest → h.room ≤ i.room + (length f + 1) → IsPutSoFar (shape x).apart x g new left (ls ++ l ∷ []) z i
-so_far_next x g done fs new f left ls y h l z i is more was a whole resets families room =
-    so_far_done (shape x).apart x g done fs new f left ls y h l z i is more was
-    (subst (λ (b : Bool). IsAppendedBy b y h ForPut f l z i) (ap (λ (S : Shape). S.apart) was.same_shape) a) whole resets families room
+pub so_far_done : (x : State) (g : Graph) (done fs new : List (List (List ℕ))) (f : List (List ℕ)) (left : List (List (List ℕ))) (ls : List Locator) (y : State) (h : Graph) (l : Locator) (z : State) (i : Graph)
+    → fs ≡ f ∷ left → new ≡ done ++ f ∷ [] → IsPutSoFar x g done fs ls y h → IsAppended y h ForPut f l z i → IsWhole i → IsReady z i.staging → h.room ≤ i.room + (length f + 1)
+    → IsPutSoFar x g new left (ls ++ l ∷ []) z i
+so_far_done x g done fs new f left ls y h l z i is more was a whole ready room =
+    subst (λ us. IsPutSoFar x g us left (ls ++ l ∷ []) z i) (sym more) (so_far_more x g done f left ls y h l z i (so_far_at x g done fs f left ls y h is was) a whole ready room)

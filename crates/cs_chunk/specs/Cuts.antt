@@ -1,8 +1,10 @@
 -- How the bytes of a put are cut.
-use Rattle.std.specs.Prelude.{◌≡◌, ◌⊎◌, ◌+◌, ◌-◌, ◌*◌, ◌<◌, ◌≤◌, ◌++◌, ℕ, zero, suc, List, [], ◌∷◌, drop, replicate, take}
+use Rattle.std.specs.Prelude.{◌≡◌, ◌⊎◌, ◌+◌, ◌-◌, ◌*◌, ◌<◌, ◌≤◌, ◌++◌, ℕ, zero, suc, List, [], ◌∷◌, drop, map, replicate, take}
 use Rattle.cs_chunk.specs.declared.cuts.Cut.{Cut}
-use Rattle.cs_frame.specs.Frames.{page_count}
+use Rattle.cs_frame.specs.Formats.{formats_of}
+use Rattle.cs_frame.specs.Frames.{page_count, spelled_frame}
 use Rattle.law_machine.specs.Device.{Shape}
+use Rattle.law_machine.specs.Events.{with_heads}
 use Rattle.law_machine.specs.Geometry.{head_bytes_in}
 
 -- so many pieces of this size, in order, of which the last may be shorter
@@ -13,6 +15,15 @@ pieces size (suc count) bytes = take size bytes ∷ pieces size count (drop size
 -- the pages of the frames of a cut, each with its head: all but the last have as many as an extent
 abbrev pub pages_of : Cut → List ℕ
 pages_of cut = replicate (cut.count - 1) cut.pages ++ cut.last ∷ []
+
+-- the frames of the chunks of bytes that are cut so, which a command puts under an identifier
+abbrev pub frames_cut : Shape → Cut → (id command : ℕ) → (bytes : List ℕ) → List (List (List ℕ))
+frames_cut S cut id command bytes =
+    map (spelled_frame 0) (with_heads (formats_of S) id 0 cut.count command (pieces cut.size cut.count bytes))
+
+-- so many bytes are more than a shard may have
+abbrev pub IsOversized : Shape → (length : ℕ) → Type 0
+IsOversized S length = S.most_chunks * S.chunk_bytes < length
 
 -- so many bytes are cut so: in as few pieces as may be, and at least one
 pub record IsCut (S : Shape) (length : ℕ) (cut : Cut) : Type 0 where

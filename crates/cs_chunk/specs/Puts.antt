@@ -1,18 +1,21 @@
 -- What a put does, one frame after another.
-use Rattle.std.specs.Prelude.{◌≡◌, ◌+◌, ◌<◌, ◌≤◌, ℕ, Bool, true, List, [], ◌∷◌, length, slice_index_or, sum}
+use Rattle.std.specs.Prelude.{◌≡◌, ◌+◌, ◌<◌, ◌≤◌, ℕ, true, List, [], ◌∷◌, length, slice_index_or, sum}
 use Rattle.std.specs.List.{AllByRecursion}
+use Rattle.cs_chunk.specs.Chunks.{AreChunksIn}
+use Rattle.cs_chunk.specs.Newest.{AreNewest}
 use Rattle.cs_deps.specs.Staging.{Staging}
 use Rattle.cs_deps.specs.State.{IsNewestOn, State as Graph}
-use Rattle.cs_extent.specs.Appended.{AreAppendedBy}
-use Rattle.cs_extent.specs.Frames.{AreResetsStaged}
+use Rattle.cs_disk.specs.Disk.{Image}
+use Rattle.cs_extent.specs.Appended.{AreAppended, IsReady}
+use Rattle.cs_extent.specs.Places.{FitIn}
 use Rattle.cs_extent.specs.State.{State, extents_of, shape}
-use Rattle.cs_extent.specs.Worn.{AreWornBy}
+use Rattle.cs_extent.specs.Worn.{AreWorn}
 use Rattle.cs_frame.specs.declared.locators.Locator.{Locator}
 use Rattle.cs_frame.specs.Formats.{formats_of}
 use Rattle.law_machine.specs.Append.{chunk_frames, page_counts}
 use Rattle.law_machine.specs.Device.{Shape, is_meant}
 use Rattle.law_machine.specs.Events.{ArePayloads}
-use Rattle.law_machine.specs.Extents.{Extents, FitsBy, ForPut}
+use Rattle.law_machine.specs.Extents.{Extents, ForPut}
 
 -- these are the payloads of the chunks of a put to this store, which is this command
 abbrev pub ArePayloadsIn : State → (id command : ℕ) → (bytes : List ℕ) → (cs : List (List ℕ)) → Type 0
@@ -24,22 +27,38 @@ frames_in x cs = chunk_frames (shape x) (formats_of (shape x)) cs
 
 -- they find their places, one after another
 abbrev pub ChunksFit : State → (cs : List (List ℕ)) → Type 0
-ChunksFit x cs = FitsBy (shape x) (shape x).apart (extents_of x) ForPut (page_counts (frames_in x cs))
+ChunksFit x cs = FitIn x ForPut (page_counts (frames_in x cs))
 
 -- they would take a number past the greatest
 abbrev pub AreChunksWorn : State → Staging → (cs : List (List ℕ)) → Type 0
-AreChunksWorn x s cs = AreWornBy (shape x).apart x s ForPut (page_counts (frames_in x cs))
+AreChunksWorn x s cs = AreWorn x s ForPut (page_counts (frames_in x cs))
 
--- these frames may be appended, one after another, where chunks and runs lie apart or not, and nothing refuses one of them
-pub record MayPut (apart : Bool) (x : State) (g : Graph) (frames : List (List (List ℕ))) : Type 0 where
-  pub families : length g.staging.latest ≡ 1 + (shape x).sections
+-- the chunks of a put have places
+abbrev pub PutFits : State → (id command : ℕ) → (bytes : List ℕ) → Type 0
+PutFits x id command bytes = (cs : List (List ℕ)) × ArePayloadsIn x id command bytes cs × ChunksFit x cs
+
+-- they have none, so it is refused as full
+abbrev pub IsPutFull : State → (id command : ℕ) → (bytes : List ℕ) → Type 0
+IsPutFull x id command bytes = (cs : List (List ℕ)) → ArePayloadsIn x id command bytes cs → ¬ ChunksFit x cs
+
+-- they have places, and would take a number past the greatest
+abbrev pub IsPutWorn : State → Staging → (id command : ℕ) → (bytes : List ℕ) → Type 0
+IsPutWorn x s id command bytes = (cs : List (List ℕ)) × ArePayloadsIn x id command bytes cs × ChunksFit x cs × AreChunksWorn x s cs
+
+-- chunks of these payloads were appended at these places, and are read back there
+abbrev pub ArePutIn : State → Graph → (cs : List (List ℕ)) → List Locator → State → Graph → Type 0
+ArePutIn x g cs ls y h = AreAppended x g ForPut (frames_in x cs) ls y h
+    × ((image : Image) (view : ℕ → List ℕ) → AreNewest h image view → AreChunksIn y view ls cs)
+
+-- these frames may be appended, one after another, and nothing refuses one of them
+pub record MayPut (x : State) (g : Graph) (frames : List (List (List ℕ))) : Type 0 where
+  pub ready : IsReady x g.staging
   pub sections : (e : ℕ) → e < (shape x).extents → (shape x).section e < (shape x).sections
-  pub resets : AreResetsStaged (extents_of x) g.staging
   pub pointers : (e : ℕ) → (extents_of x).pointer e ≤ x.pages
   pub found : (shape x).fills ≡ true → (e : ℕ) → (extents_of x).found e ≤ (extents_of x).pointer e
   pub pages : AllByRecursion (λ k. (1 ≤ k) × (k ≤ x.pages)) (page_counts frames)
-  pub fits : FitsBy (shape x) apart (extents_of x) ForPut (page_counts frames)
-  pub numbers : AreWornBy apart x g.staging ForPut (page_counts frames) → ⊥
+  pub fits : FitIn x ForPut (page_counts frames)
+  pub numbers : ¬ AreWorn x g.staging ForPut (page_counts frames)
   pub room : length frames + sum (page_counts frames) ≤ g.room
 
 -- the frame at l lies below the pointer of its extent, where extents are filled up behind what counts as found there, it is the one that
@@ -59,10 +78,9 @@ AreNewestFrames S x g [] (frame ∷ frames) = ⊥
 AreNewestFrames S x g (l ∷ ls) [] = ⊥
 
 -- of the frames of a put, those that are done were appended at these places, and those that are left may be
-pub record IsPutSoFar (apart : Bool) (x : State) (g : Graph) (done left : List (List (List ℕ))) (places : List Locator) (y : State) (h : Graph) : Type 0 where
-  pub appended : AreAppendedBy apart x g ForPut done places y h
+pub record IsPutSoFar (x : State) (g : Graph) (done left : List (List (List ℕ))) (places : List Locator) (y : State) (h : Graph) : Type 0 where
+  pub appended : AreAppended x g ForPut done places y h
   pub newest : AreNewestFrames (shape x) (extents_of y) h places done
-  pub may : MayPut apart y h left
+  pub may : MayPut y h left
   pub same_shape : shape y ≡ shape x
-  pub families : length h.staging.latest ≡ length g.staging.latest
   pub room : g.room ≤ h.room + (length done + sum (page_counts done))

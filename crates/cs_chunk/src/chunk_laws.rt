@@ -1,11 +1,11 @@
 //! Laws of what is read.
-ghost use Rattle.std.specs.Prelude.{◌≡◌, ◌≢◌, ◌⊎◌, ℕ, true, List};
+ghost use Rattle.std.specs.Prelude.{◌≡◌, ◌≢◌, ◌⊎◌, ℕ, false, true, List};
 ghost use Rattle.cs_chunk.specs.Chunks.{AgreeInDigests, AreMeant, TwoAgree};
 ghost use Rattle.cs_chunk.specs.Newest.{AreNewest};
 ghost use Rattle.cs_chunk.specs.Stays.{IsBelow, StandAt};
 ghost use Rattle.cs_deps.specs.State.{IsWhole as IsWholeGraph, State as GraphState};
 ghost use Rattle.cs_disk.specs.Disk.{Image};
-ghost use Rattle.cs_extent.specs.Appended.{IsAppended, IsAppendedBy};
+ghost use Rattle.cs_extent.specs.Appended.{IsAppendedBy};
 ghost use Rattle.cs_extent.specs.State.{IsWhole, State, extents_of, shape};
 ghost use Rattle.cs_frame.specs.declared.locators.Locator.{Locator as Place};
 ghost use Rattle.law_machine.specs.Extents.{Extents as Given, Purpose, emptied};
@@ -21,7 +21,7 @@ pub fn pages_have_one_newest()
 /// that is for `law_refinement::pages_are_read`, which knows in which order a page's writes may go.
 pub fn what_was_put_stays()
     ensures append { (x y : State) (g h : GraphState) (reason : Purpose) (frame old : List (List ℕ)) (l k : Place) (image : Image) (view now : ℕ → List ℕ)
-        → IsWhole x → IsAppended x g reason frame l y h → IsWholeGraph h → AreNewest g image view → AreNewest h image now
+        → IsWhole x → IsAppendedBy false x g reason frame l y h → IsWholeGraph h → AreNewest g image view → AreNewest h image now
         → IsBelow (extents_of x) k old → StandAt x view k old
         → StandAt x now k old × IsBelow (extents_of y) k old }
     // So it is where chunks and runs lie apart.

@@ -1,25 +1,20 @@
-//! Puts.
-ghost use Rattle.std.specs.Prelude.{◌≡◌, ◌↔◌, ◌⊎◌, ◌+◌, ◌*◌, ◌^◌, ◌<◌, ◌≤◌, ℕ, List, [], IfErr, IfOk, MatchBool, OnErr, OnOk, Err, length, map, sum, ◌-◌, All, IsTrue, MatchOption};
-ghost use Rattle.cs_chunk.specs.Chunks.{AreChunksIn};
-ghost use Rattle.cs_chunk.specs.Cuts.{IsCut, pages_of, pieces};
-ghost use Rattle.cs_chunk.specs.Newest.{AreNewest};
-ghost use Rattle.cs_chunk.specs.Puts.{AreChunksWorn, ArePayloadsIn, ChunksFit, IsPutSoFar, MayPut, frames_in};
-ghost use Rattle.cs_chunk.specs.declared.cuts.Cut.{Cut as Pieces};
+//! How the bytes of a put are cut in chunks, and puts.
+ghost use Rattle.std.specs.Prelude.{◌≡◌, ◌↔◌, ◌⊎◌, ◌+◌, ◌*◌, ◌^◌, ◌<◌, ◌≤◌, ℕ, List, [], IfErr, IfOk, IfSome, MatchBool, MatchOption, OnErr, OnOk, Err, length, map, sum, take};
+ghost use Rattle.cs_chunk.specs.Cuts.{IsCut, IsOversized, frames_cut, pages_of};
+ghost use Rattle.cs_chunk.specs.Puts.{ArePayloadsIn, ArePutIn, IsPutFull, IsPutSoFar, IsPutWorn, MayPut, PutFits, frames_in};
 ghost use Rattle.cs_deps.specs.State.{IsWhole as IsWholeGraph};
-ghost use Rattle.cs_disk.specs.Disk.{Image};
-ghost use Rattle.cs_extent.specs.Appended.{AreAppendedBy, IsAppendedBy};
-ghost use Rattle.cs_extent.specs.Frames.{AreResetsStaged, IsWorn};
-ghost use Rattle.cs_extent.specs.State.{IsWhole, extents_of, shape};
-ghost use Rattle.cs_extent.specs.Worn.{AreWornBy};
-ghost use Rattle.cs_frame.specs.Formats.{formats_of};
-ghost use Rattle.cs_frame.specs.Frames.{spelled_frame};
+ghost use Rattle.cs_extent.specs.Appended.{IsAppended, IsReady};
+ghost use Rattle.cs_extent.specs.Frames.{IsWorn};
+ghost use Rattle.cs_extent.specs.Places.{FitIn, GoesIn};
+ghost use Rattle.cs_extent.specs.State.{IsWhole, shape};
+ghost use Rattle.cs_extent.specs.Worn.{AreWorn};
 ghost use Rattle.cs_frame.specs.Identifiers.{id_number};
 ghost use Rattle.cs_frame.specs.Places.{HasPlaceFor};
 ghost use Rattle.law_machine.specs.Append.{page_counts};
-ghost use Rattle.law_machine.specs.Events.{with_heads};
-ghost use Rattle.law_machine.specs.Extents.{FitsBy, ForPut, Goes};
+ghost use Rattle.law_machine.specs.Events.{Chunked};
+ghost use Rattle.law_machine.specs.Extents.{ForPut};
 
-use crate::cuts::Cut;
+use crate::cuts::{Cut, Origin};
 use crate::reads::format_of;
 use cs_deps::Graph;
 use cs_extent::{Extents, Purpose};
@@ -47,21 +42,36 @@ pub fn shard_bytes(extents: &Extents) -> usize
 }
 
 impl Cut {
-    /// How so many bytes are cut, if they are not too many.
-    fn of(extents: &Extents, length: usize) -> Option<Cut>
-        ensures { MatchOption result ((shape extents.now).most_chunks * (shape extents.now).chunk_bytes < length) (IsCut (shape extents.now) length) }
+    /// How so many bytes are cut: in one piece at least, all but the last as long as may be. None if they are too many.
+    ///
+    /// A chunk has 4,096 bytes for each page of an extent, less 41 and less 26 for its head, and there are at most
+    /// eight.
+    pub fn of(extents: &Extents, bytes: usize) -> Option<Cut>
+        ensures cut { MatchOption result (IsOversized (shape extents.now) bytes) (IsCut (shape extents.now) bytes) }
+        ensures small { IfSome result (λ _. ¬ IsOversized (shape extents.now) bytes) }
+        ensures pieces { IfSome result (λ cut. (xs : List ℕ) (pieces : List (List ℕ)) → length xs ≡ bytes → Chunked (shape extents.now).chunk_bytes xs pieces
+            → length pieces ≡ cut.count) }
+        ensures whole { IsWhole extents.now }
     {
-        if shard_bytes(extents) < length {
+        if shard_bytes(extents) < bytes {
             return None;
         }
         let size = chunk_bytes(extents);
-        let count = length.div_ceil(size).max(1);
+        let count = bytes.div_ceil(size).max(1);
         Some(Cut {
             size,
             count,
             pages: extents.extent_pages(),
-            last: frame_pages(head_bytes(format_of(extents)) + (length - (count - 1) * size)),
+            last: frame_pages(head_bytes(format_of(extents)) + (bytes - (count - 1) * size)),
         })
+    }
+
+    /// How many chunks there are.
+    pub fn count(self) -> usize
+        ensures count { result ≡ self.count }
+        ensures few { (1 ≤ result) × (result ≤ 8) }
+    {
+        self.count
     }
 
     /// The pages of all frames.
@@ -72,34 +82,89 @@ impl Cut {
         (self.count - 1) * self.pages + self.last
     }
 
-    /// Whether the frames of these chunks find their places.
-    fn fits(self, extents: &Extents) -> bool
-        requires { self.pages ≡ (shape extents.now).pages }
-        ensures { IsTrue result ↔ FitsBy (shape extents.now) (shape extents.now).apart (extents_of extents.now) ForPut (pages_of self) }
+    /// The pages of each frame, for as many as there are chunks.
+    fn frames(self) -> [usize; 8]
+        ensures { take self.count result ≡ pages_of self }
     {
         let mut frames = [self.pages; MOST_CHUNKS];
         frames[self.count - 1] = self.last;
-        extents.fits(&frames[..self.count], Purpose::Put)
+        frames
     }
 
-    /// Whether a number would pass the greatest.
-    fn is_worn(self, extents: &Extents, graph: &Graph) -> bool
+    /// Refuses a put before memory is asked for.
+    fn may_put(self, extents: &Extents, graph: &Graph) -> Result<(), Refusal>
         requires pages { self.pages ≡ (shape extents.now).pages }
-        requires fits { FitsBy (shape extents.now) (shape extents.now).apart (extents_of extents.now) ForPut (pages_of self) }
-        requires families { length graph.now.staging.latest ≡ 1 + (shape extents.now).sections }
-        ensures { IsTrue result ↔ AreWornBy (shape extents.now).apart extents.now graph.now.staging ForPut (pages_of self) }
+        requires ready { IsReady extents.now graph.now.staging }
+        ensures full { (result ≡ Err Refusal.Full) ↔ ¬ FitIn extents.now ForPut (pages_of self) }
+        ensures fits { OnOk result (FitIn extents.now ForPut (pages_of self)) }
+        ensures worn { (result ≡ Err Refusal.WornOut) ↔ (FitIn extents.now ForPut (pages_of self) × AreWorn extents.now graph.now.staging ForPut (pages_of self)) }
+        ensures refusals { IfErr result (λ r. (r ≡ Refusal.Full) ⊎ (r ≡ Refusal.WornOut)) }
     {
-        let mut frames = [self.pages; MOST_CHUNKS];
-        frames[self.count - 1] = self.last;
-        extents.are_worn(graph, &frames[..self.count], Purpose::Put)
+        extents.may_append(graph, &self.frames()[..self.count], Purpose::Put)
     }
-}
 
-/// What the heads of a put's chunks have in common: which shard it is, and the number of the command.
-#[derive(Clone, Copy)]
-struct Origin {
-    id: ShardId,
-    command: u64,
+    /// Whether the chunks find places for a put: if not, `put` refuses it with 30 `Full`. It is the same for any bytes
+    /// that are cut so, any identifier and command. Takes no memory.
+    pub fn fits(self, extents: &Extents) -> bool
+        requires { self.pages ≡ (shape extents.now).pages }
+        ensures { (bytes : List ℕ) (id command : ℕ) → IsCut (shape extents.now) (length bytes) self
+            → MatchBool result (PutFits extents.now id command bytes) (IsPutFull extents.now id command bytes) }
+    {
+        // Called for its contract alone: what all extents keep.
+        extents.extent_count();
+        extents.fits(&self.frames()[..self.count], Purpose::Put)
+    }
+
+    /// Appends a chunk's frame of each piece of the bytes. If the format has heads, each head says the identifier, the
+    /// chunk's number, how many there are, and the number of the command. Returns where the frames begin, in order.
+    ///
+    /// 30 `Full` if the frames find no places, 35 `WornOut` if a number would pass 2^63 - 1. Memory is asked for last,
+    /// for the pages of all frames: 9 `OutOfMemory`. After a refusal nothing is staged.
+    pub fn put(
+        self,
+        alloc: Global,
+        extents: &mut Extents,
+        graph: &mut Graph,
+        origin: Origin,
+        bytes: &[u8],
+    ) -> Result<Places, Refusal>
+        requires cut { IsCut (shape extents.old) (length bytes.now) self }
+        requires ready { IsReady extents.old graph.old.staging }
+
+        // The frames of the chunks are appended, and read back.
+        ensures chunks { IfOk result (λ ls. (cs : List (List ℕ)) × ArePayloadsIn extents.old (id_number origin.id) origin.command bytes.now cs
+            × ArePutIn extents.old graph.old cs ls.items extents.new graph.new) }
+        ensures few { IfOk result (λ ls. (1 ≤ length ls.items) × (length ls.items ≤ 8)) }
+        ensures shape { shape extents.new ≡ shape extents.old }
+
+        ensures full { (result ≡ Err Refusal.Full) ↔ IsPutFull extents.old (id_number origin.id) origin.command bytes.now }
+        ensures worn { (result ≡ Err Refusal.WornOut) ↔ IsPutWorn extents.old graph.old.staging (id_number origin.id) origin.command bytes.now }
+        ensures refusals { IfErr result (λ r. (r ≡ Refusal.Full) ⊎ (r ≡ Refusal.WornOut) ⊎ (r ≡ Refusal.OutOfMemory)) }
+        ensures refused { OnErr result (extents.new ≡ extents.old) }
+        ensures unstaged { OnErr result (graph.new ≡ record graph.old { room = graph.new.room }) }
+
+        // Whatever the answer, the next append may be made.
+        ensures ready { IsReady extents.new graph.new.staging }
+
+        // What is used up of the room: one staging a page, and one a frame.
+        ensures kept { OnErr result (graph.old.room ≤ graph.new.room) }
+        ensures room { (cs : List (List ℕ)) → ArePayloadsIn extents.old (id_number origin.id) origin.command bytes.now cs
+            → graph.old.room ≤ graph.new.room + (length cs + sum (page_counts (frames_in extents.old cs))) }
+    {
+        // Called for its contract alone: what all extents keep.
+        extents.extent_count();
+        match self.may_put(extents, graph) {
+            Ok(()) => {}
+            Err(refusal) => return Err(refusal),
+        }
+        match prepare(alloc, extents, graph, origin, bytes, self) {
+            Ok((frames, mut places)) => {
+                append_all(extents, graph, &frames, &mut places);
+                Ok(places)
+            }
+            Err(_) => Err(Refusal::OutOfMemory),
+        }
+    }
 }
 
 /// The frames of the chunks of a put that is this command: the pieces are cut off the bytes one after another, and each
@@ -112,8 +177,7 @@ fn encode_chunks(
     cut: Cut,
 ) -> Result<Vec<Vec<[u8; 4096]>>, AllocError>
     requires { cut.size < 2 ^ 31 }
-    ensures { IfOk result (λ frames. map (λ f. f.items) frames.items
-        ≡ map (spelled_frame 0) (with_heads (formats_of (shape extents.now)) (id_number origin.id) 0 cut.count origin.command (pieces cut.size cut.count bytes.now))) }
+    ensures { IfOk result (λ frames. map (λ f. f.items) frames.items ≡ frames_cut (shape extents.now) cut (id_number origin.id) origin.command bytes.now) }
 {
     let format = format_of(extents);
     let mut frames = Vec::with_capacity(alloc, cut.count)?;
@@ -132,46 +196,16 @@ fn encode_chunks(
     Ok(frames)
 }
 
-/// How the bytes of a put are cut. Refused 31 `TooLarge`, then 30 `Full`, then 35 `WornOut`. If it isn't refused, only
-/// memory can still refuse the put.
-fn fitting_cut(extents: &Extents, graph: &Graph, size: usize) -> Result<Cut, Refusal>
-    requires { length graph.now.staging.latest ≡ 1 + (shape extents.now).sections }
-    ensures whole { IsWhole extents.now }
-    ensures cut { IfOk result (IsCut (shape extents.now) size) }
-    ensures fits { IfOk result (λ cut. FitsBy (shape extents.now) (shape extents.now).apart (extents_of extents.now) ForPut (pages_of cut)) }
-    ensures numbers { IfOk result (λ cut. ¬ AreWornBy (shape extents.now).apart extents.now graph.now.staging ForPut (pages_of cut)) }
-    ensures too_large { (result ≡ Err Refusal.TooLarge) ↔ ((shape extents.now).most_chunks * (shape extents.now).chunk_bytes < size) }
-    ensures full { result ≡ Err Refusal.Full → (cut : Pieces) × IsCut (shape extents.now) size cut × ¬ FitsBy (shape extents.now) (shape extents.now).apart (extents_of extents.now) ForPut (pages_of cut) }
-    ensures worn { result ≡ Err Refusal.WornOut → (cut : Pieces) × IsCut (shape extents.now) size cut
-        × FitsBy (shape extents.now) (shape extents.now).apart (extents_of extents.now) ForPut (pages_of cut) × AreWornBy (shape extents.now).apart extents.now graph.now.staging ForPut (pages_of cut) }
-    ensures refusals { IfErr result (λ r. (r ≡ Refusal.TooLarge) ⊎ (r ≡ Refusal.Full) ⊎ (r ≡ Refusal.WornOut)) }
-{
-    // Called for its contract alone: what all extents keep.
-    extents.extent_count();
-    let Some(cut) = Cut::of(extents, size) else {
-        return Err(Refusal::TooLarge);
-    };
-    if !cut.fits(extents) {
-        return Err(Refusal::Full);
-    }
-    if cut.is_worn(extents, graph) {
-        return Err(Refusal::WornOut);
-    }
-    Ok(cut)
-}
-
 /// Appends a frame, which nothing refuses.
 fn append_one(extents: &mut Extents, graph: &mut Graph, frame: &[[u8; 4096]]) -> Locator
-    requires families { length graph.old.staging.latest ≡ 1 + (shape extents.old).sections }
-    requires resets { AreResetsStaged (extents_of extents.old) graph.old.staging }
+    requires ready { IsReady extents.old graph.old.staging }
     requires pages { (1 ≤ length frame.now) × (length frame.now ≤ (shape extents.old).pages) }
-    requires place { (e : ℕ) × Goes (shape extents.old) (shape extents.old).apart (extents_of extents.old) ForPut (length frame.now) e }
-    requires numbers { (e : ℕ) → Goes (shape extents.old) (shape extents.old).apart (extents_of extents.old) ForPut (length frame.now) e → ¬ IsWorn graph.old.staging ((shape extents.old).section e) (length frame.now) }
+    requires place { (e : ℕ) × GoesIn extents.old ForPut (length frame.now) e }
+    requires numbers { (e : ℕ) → GoesIn extents.old ForPut (length frame.now) e → ¬ IsWorn graph.old.staging ((shape extents.old).section e) (length frame.now) }
     requires room { length frame.now + 1 ≤ graph.old.room }
-    ensures appended { IsAppendedBy (shape extents.old).apart extents.old graph.old ForPut frame.now result extents.new graph.new }
+    ensures appended { IsAppended extents.old graph.old ForPut frame.now result extents.new graph.new }
     ensures whole { IsWholeGraph graph.new }
-    ensures resets { AreResetsStaged (extents_of extents.new) graph.new.staging }
-    ensures families { length graph.new.staging.latest ≡ length graph.old.staging.latest }
+    ensures ready { IsReady extents.new graph.new.staging }
     ensures room { graph.old.room ≤ graph.new.room + (length frame.now + 1) }
 {
     match extents.append(graph, frame, Purpose::Put) {
@@ -191,10 +225,10 @@ fn append_all(
     frames: &[Vec<[u8; 4096]>],
     places: &mut Places,
 )
-    requires may { MayPut (shape extents.old).apart extents.old graph.old (map (λ f. f.items) frames.now) }
+    requires may { MayPut extents.old graph.old (map (λ f. f.items) frames.now) }
     requires none { places.old.items ≡ [] }
     requires room { HasPlaceFor places.old (length frames.now) }
-    ensures { IsPutSoFar (shape extents.old).apart extents.old graph.old (map (λ f. f.items) frames.now) [] places.new.items extents.new graph.new }
+    ensures { IsPutSoFar extents.old graph.old (map (λ f. f.items) frames.now) [] places.new.items extents.new graph.new }
 {
     for k in 0..frames.len() {
         let place = append_one(extents, graph, &frames[k]);
@@ -212,8 +246,7 @@ fn prepare(
     cut: Cut,
 ) -> Result<(Vec<Vec<[u8; 4096]>>, Places), AllocError>
     requires { cut.size < 2 ^ 31 }
-    ensures frames { IfOk result (λ made. map (λ f. f.items) made.0.items
-        ≡ map (spelled_frame 0) (with_heads (formats_of (shape extents.now)) (id_number origin.id) 0 cut.count origin.command (pieces cut.size cut.count bytes.now))) }
+    ensures frames { IfOk result (λ made. map (λ f. f.items) made.0.items ≡ frames_cut (shape extents.now) cut (id_number origin.id) origin.command bytes.now) }
     ensures places { IfOk result (λ made. made.1.items ≡ []) }
     ensures capacity { IfOk result (λ made. HasPlaceFor made.1 cut.count) }
     ensures room { OnOk result (cut.count + sum (pages_of cut) ≤ graph.new.room) }
@@ -226,13 +259,8 @@ fn prepare(
     Ok((frames, places))
 }
 
-/// Cuts the bytes that a command puts in pieces, one at least, all but the last as long as may be, and appends a
-/// chunk's frame of each. If the format has heads, each head says the identifier, the chunk's number, how many there
-/// are, and the number of the command. Returns where the frames begin, in order.
-///
-/// A chunk has 4,096 bytes for each page of an extent, less 41 and less 26 for its head, and there are at most eight:
-/// 31 `TooLarge` for more bytes. 30 `Full` if the frames find no places, 35 `WornOut` if a number would pass 2^63 - 1.
-/// Memory is asked for last, for the pages of all frames: 9 `OutOfMemory`. After a refusal nothing is staged.
+/// Cuts the bytes that a command puts in pieces by `Cut::of`, and puts them by `Cut::put`, which has the refusals but
+/// for 31 `TooLarge`, of bytes that are too many.
 pub fn put_chunks(
     alloc: Global,
     extents: &mut Extents,
@@ -241,61 +269,32 @@ pub fn put_chunks(
     command: u64,
     bytes: &[u8],
 ) -> Result<Places, Refusal>
-    requires families { length graph.old.staging.latest ≡ 1 + (shape extents.old).sections }
-    requires resets { AreResetsStaged (extents_of extents.old) graph.old.staging }
+    requires ready { IsReady extents.old graph.old.staging }
 
     // The frames of the chunks are appended, and read back.
     ensures chunks { IfOk result (λ ls. (cs : List (List ℕ)) × ArePayloadsIn extents.old (id_number id) command bytes.now cs
-        × AreAppendedBy (shape extents.old).apart extents.old graph.old ForPut (frames_in extents.old cs) ls.items extents.new graph.new
-        × ((image : Image) (view : ℕ → List ℕ) → AreNewest graph.new image view → AreChunksIn extents.new view ls.items cs)) }
+        × ArePutIn extents.old graph.old cs ls.items extents.new graph.new) }
     ensures few { IfOk result (λ ls. (1 ≤ length ls.items) × (length ls.items ≤ 8)) }
     ensures shape { shape extents.new ≡ shape extents.old }
 
-    ensures too_large { (result ≡ Err Refusal.TooLarge) ↔ ((shape extents.old).most_chunks * (shape extents.old).chunk_bytes < length bytes.now) }
-    ensures full { (result ≡ Err Refusal.Full) ↔ (¬ ((shape extents.old).most_chunks * (shape extents.old).chunk_bytes < length bytes.now)
-        × ((cs : List (List ℕ)) → ArePayloadsIn extents.old (id_number id) command bytes.now cs → ¬ ChunksFit extents.old cs)) }
-    ensures worn { (result ≡ Err Refusal.WornOut) ↔ (¬ ((shape extents.old).most_chunks * (shape extents.old).chunk_bytes < length bytes.now)
-        × ((cs : List (List ℕ)) × ArePayloadsIn extents.old (id_number id) command bytes.now cs
-        × ChunksFit extents.old cs × AreChunksWorn extents.old graph.old.staging cs)) }
+    ensures too_large { (result ≡ Err Refusal.TooLarge) ↔ IsOversized (shape extents.old) (length bytes.now) }
+    ensures full { (result ≡ Err Refusal.Full) ↔ (¬ IsOversized (shape extents.old) (length bytes.now) × IsPutFull extents.old (id_number id) command bytes.now) }
+    ensures worn { (result ≡ Err Refusal.WornOut) ↔ (¬ IsOversized (shape extents.old) (length bytes.now)
+        × IsPutWorn extents.old graph.old.staging (id_number id) command bytes.now) }
     ensures refusals { IfErr result (λ r. (r ≡ Refusal.TooLarge) ⊎ (r ≡ Refusal.Full) ⊎ (r ≡ Refusal.WornOut) ⊎ (r ≡ Refusal.OutOfMemory)) }
     ensures refused { OnErr result (extents.new ≡ extents.old) }
     ensures unstaged { OnErr result (graph.new ≡ record graph.old { room = graph.new.room }) }
 
     // Whatever the answer, the next append may be made.
-    ensures resets { AreResetsStaged (extents_of extents.new) graph.new.staging }
-    ensures families { length graph.new.staging.latest ≡ length graph.old.staging.latest }
+    ensures ready { IsReady extents.new graph.new.staging }
 
     // What is used up of the room: one staging a page, and one a frame.
     ensures kept { OnErr result (graph.old.room ≤ graph.new.room) }
     ensures room { (cs : List (List ℕ)) → ArePayloadsIn extents.old (id_number id) command bytes.now cs
         → graph.old.room ≤ graph.new.room + (length cs + sum (page_counts (frames_in extents.old cs))) }
 {
-    let cut = match fitting_cut(extents, graph, bytes.len()) {
-        Ok(cut) => cut,
-        Err(refusal) => return Err(refusal),
-    };
-    let origin = Origin { id, command };
-    match prepare(alloc, extents, graph, origin, bytes, cut) {
-        Ok((frames, mut places)) => {
-            append_all(extents, graph, &frames, &mut places);
-            Ok(places)
-        }
-        Err(_) => Err(Refusal::OutOfMemory),
+    match Cut::of(extents, bytes.len()) {
+        Some(cut) => cut.put(alloc, extents, graph, Origin { id, command }, bytes),
+        None => Err(Refusal::TooLarge),
     }
-}
-
-/// Whether the frames of the chunks of these bytes, which are not too many, find places for a put: false if
-/// `put_chunks` would refuse them with 30 `Full`. It is the same for any identifier and command. Takes no memory.
-pub fn put_fits(extents: &Extents, bytes: &[u8]) -> bool
-    requires { ¬ ((shape extents.now).most_chunks * (shape extents.now).chunk_bytes < length bytes.now) }
-    ensures { (id command : ℕ) → MatchBool result
-        ((cs : List (List ℕ)) × ArePayloadsIn extents.now id command bytes.now cs × ChunksFit extents.now cs)
-        ((cs : List (List ℕ)) → ArePayloadsIn extents.now id command bytes.now cs → ¬ ChunksFit extents.now cs) }
-{
-    // Called for its contract alone: what all extents keep.
-    extents.extent_count();
-    let Some(cut) = Cut::of(extents, bytes.len()) else {
-        unreachable!()
-    };
-    cut.fits(extents)
 }

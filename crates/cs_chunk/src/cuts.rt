@@ -1,7 +1,18 @@
-//! What the bytes of a put are cut in.
+//! What the bytes of a put are cut in. `chunk_puts` has the calls.
 ghost use Rattle.std.specs.Prelude.{◌≤◌};
 
-/// Bytes cut in chunks: all but the last have a frame as long as an extent. `chunk_puts` makes it.
+use cs_frame::ShardId;
+
+/// What the heads of a put's chunks have in common: which shard it is, and the number of the command.
+#[derive(Clone, Copy)]
+pub struct Origin {
+    /// The identifier of the shard.
+    pub id: ShardId,
+    /// The number of the command that puts it.
+    pub command: u64,
+}
+
+/// So many bytes cut in chunks: all but the last have a frame as long as an extent.
 #[derive(Clone, Copy)]
 pub struct Cut {
     /// The bytes of a full chunk.

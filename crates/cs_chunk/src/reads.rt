@@ -23,7 +23,7 @@ use cs_frame::{
 use cs_refusal::Refusal;
 use std::alloc::Global;
 
-/// Reads a page: the newest waiting plain write to it, and where none waits what the device has.
+/// Reads a page: the newest plain write to it that waits, or what the device has if none waits.
 fn read_page<D: PageDisk>(
     graph: &Graph,
     disk: &mut D,
@@ -31,7 +31,7 @@ fn read_page<D: PageDisk>(
     buffer: &mut [u8; 4096],
 ) -> Result<(), Refusal>
     requires { number < D.page_count disk.old }
-    // Where a write to the page waits the device isn't asked.
+    // If a write to the page waits, the device isn't asked.
     ensures waiting { ¬ NoneOn graph.now number → IsOk result × (disk.new ≡ disk.old) }
     ensures page { D.honest disk.old → OnOk result (IsReadAs graph.now (seen (D.state disk.old)) number buffer.new) }
     ensures refusals { IfErr result IsNoAnswer }
@@ -48,7 +48,7 @@ fn read_page<D: PageDisk>(
     }
 }
 
-/// Reads so many pages from a number on; the first of them was read already.
+/// Reads so many pages from a number on. The first of them was read already.
 fn read_pages<D: PageDisk>(
     alloc: Global,
     graph: &Graph,
@@ -128,7 +128,7 @@ fn framed(
     }
 }
 
-/// The payload of a frame, elsewhere in memory.
+/// A copy of the payload of a frame.
 fn copied(alloc: Global, frame: &ReadFrame) -> Result<Vec<u8>, Refusal>
     ensures same { IfOk result (λ payload. payload.items ≡ frame.now) }
     ensures memory { IfErr result (λ r. r ≡ Refusal.OutOfMemory) }
@@ -140,7 +140,7 @@ fn copied(alloc: Global, frame: &ReadFrame) -> Result<Vec<u8>, Refusal>
 }
 
 /// As many pages as the header at a place counts. The header's tests are made before the second page is read (20, 22
-/// and 24); digest and padding aren't tested. Refused 1 DeviceFault and 9 OutOfMemory, too.
+/// and 24). Digest and padding aren't tested. 1 `DeviceFault` and 9 `OutOfMemory` may come, too.
 fn read_frame_pages<D: PageDisk>(
     alloc: Global,
     extents: &Extents,
@@ -198,14 +198,14 @@ pub fn frame_at<D: PageDisk>(
     // What is read is the payload of a frame there.
     ensures payload { D.honest disk.old → (view : ℕ → List ℕ) → AreNewest graph.now (seen (D.state disk.old)) view
         → IfOk result (λ payload. IsFrameIn extents.now view (kind_of kind) locator payload) }
-    // Where there is a frame its payload is read, unless the device or memory refuses.
+    // If there is a frame, its payload is read, unless the device or memory refuses.
     ensures read { D.honest disk.old → (view : ℕ → List ℕ) (payload : List ℕ) → AreNewest graph.now (seen (D.state disk.old)) view
         → IsFrameIn extents.now view (kind_of kind) locator payload → MatchResult result (λ found. found ≡ payload) IsNoAnswer }
     // Each other refusal is that of the first test that fails.
     ensures fault { D.honest disk.old → (view : ℕ → List ℕ) → AreNewest graph.now (seen (D.state disk.old)) view
         → AnswersFault (fault_in extents.now view kind locator) result }
     ensures refusals { IfErr result IsReadRefusal }
-    // Whatever the disk answers, the frame of what is read reaches no further than it may, and lies in the extent.
+    // Whatever the device returns, the frame of what is read reaches no further than it may, and lies in the extent.
     ensures reach { IfOk result (λ payload. locator.page + length ((formats_of (shape extents.now)).frame (kind_of kind) payload) ≤ end_in extents.now locator) }
     ensures size { IfOk result (λ payload. locator.page + length ((formats_of (shape extents.now)).frame (kind_of kind) payload) ≤ (shape extents.now).pages) }
     // And it is the one that the place means.
@@ -221,9 +221,7 @@ pub fn frame_at<D: PageDisk>(
     }
 }
 
-/// The payload of the frame that begins at a place: that of `frame_at`, which is copied out of its pages.
-///
-/// Refused as `frame_at`.
+/// The payload of the frame that `frame_at` reads, copied out of its pages; refused as that is.
 pub fn read_frame<D: PageDisk>(
     alloc: Global,
     extents: &Extents,
@@ -235,23 +233,16 @@ pub fn read_frame<D: PageDisk>(
     requires extent { locator.extent < (shape extents.now).extents }
     requires page { locator.page < (shape extents.now).pages }
     requires device { 2 + (shape extents.now).extents * (shape extents.now).pages ≤ D.page_count disk.old }
-
-    // What is read is the payload of a frame there.
     ensures payload { D.honest disk.old → (view : ℕ → List ℕ) → AreNewest graph.now (seen (D.state disk.old)) view
         → IfOk result (λ payload. IsFrameIn extents.now view (kind_of kind) locator payload.items) }
-    // Where there is a frame its payload is read, unless the device or memory refuses.
     ensures read { D.honest disk.old → (view : ℕ → List ℕ) (payload : List ℕ) → AreNewest graph.now (seen (D.state disk.old)) view
         → IsFrameIn extents.now view (kind_of kind) locator payload → MatchResult result (λ found. found.items ≡ payload) IsNoAnswer }
-    // Each other refusal is that of the first test that fails.
     ensures fault { D.honest disk.old → (view : ℕ → List ℕ) → AreNewest graph.now (seen (D.state disk.old)) view
         → AnswersFault (fault_in extents.now view kind locator) result }
     ensures refusals { IfErr result IsReadRefusal }
-    // Whatever the disk answers, the frame of what is read reaches no further than it may, and lies in the extent.
     ensures reach { IfOk result (λ payload. locator.page + length ((formats_of (shape extents.now)).frame (kind_of kind) payload.items) ≤ end_in extents.now locator) }
     ensures size { IfOk result (λ payload. locator.page + length ((formats_of (shape extents.now)).frame (kind_of kind) payload.items) ≤ (shape extents.now).pages) }
-    // And it is the one that the place means.
     ensures meant { IfOk result (λ payload. IsMeant (shape extents.now) (kind_of kind) locator payload.items) }
-
     ensures disk { OnlyReads D.PageDisk disk.old disk.new }
     ensures cause { IsCaused (D.failure_count disk.old) (D.failure_count disk.new) result }
     ensures whole { IsWhole extents.now }
@@ -280,10 +271,10 @@ pub fn read_length<D: PageDisk>(
     requires page { locator.page < (shape extents.now).pages }
     requires device { 2 + (shape extents.now).extents * (shape extents.now).pages ≤ D.page_count disk.old }
 
-    // What is told is what the header says.
+    // The length is the one that the header says.
     ensures told { D.honest disk.old → (view : ℕ → List ℕ) → AreNewest graph.now (seen (D.state disk.old)) view
         → IfOk result (λ count. count ≡ length_at (shape extents.now) view locator) }
-    // Where there is a frame its payload's length is told, unless the device or memory refuses.
+    // If there is a frame, its payload's length is returned, unless the device or memory refuses.
     ensures read { D.honest disk.old → (view : ℕ → List ℕ) (payload : List ℕ) → AreNewest graph.now (seen (D.state disk.old)) view
         → IsFrameIn extents.now view (kind_of kind) locator payload → MatchResult result (λ count. count ≡ length payload) IsNoAnswer }
     // Each other refusal is that of the first of the header's tests that fails.
@@ -293,7 +284,7 @@ pub fn read_length<D: PageDisk>(
     ensures fault { D.honest disk.old → (view : ℕ → List ℕ) → AreNewest graph.now (seen (D.state disk.old)) view
         → IfErr result (λ r. IsNoAnswer r ⊎ IsOfFaultOrMark (fault_in extents.now view kind locator) r) }
     ensures refusals { IfErr result IsHeaderRefusal }
-    // Whatever the disk answers, a frame of so many bytes reaches no further than it may, and lies in the extent.
+    // Whatever the device returns, a frame of so many bytes reaches no further than it may, and lies in the extent.
     ensures reach { IfOk result (λ count. locator.page + page_count count ≤ end_in extents.now locator) }
     ensures size { IfOk result (λ count. locator.page + page_count count ≤ (shape extents.now).pages) }
 
@@ -331,14 +322,14 @@ pub fn read_chunks<D: PageDisk>(
     // What is read is the bytes of chunks there.
     ensures bytes { D.honest disk.old → (view : ℕ → List ℕ) → AreNewest graph.now (seen (D.state disk.old)) view
         → IfOk result (λ bytes. (cs : List (List ℕ)) × AreChunksIn extents.now view locators.now cs × (bytes.items ≡ joined_bodies (formats_of (shape extents.now)) cs)) }
-    // Where there are chunks their bytes are read, unless the device or memory refuses.
+    // If there are chunks, their bytes are read, unless the device or memory refuses.
     ensures read { D.honest disk.old → (view : ℕ → List ℕ) (cs : List (List ℕ)) → AreNewest graph.now (seen (D.state disk.old)) view
         → AreChunksIn extents.now view locators.now cs → MatchResult result (λ bytes. bytes.items ≡ joined_bodies (formats_of (shape extents.now)) cs) IsNoAnswer }
     // Each other refusal is that of the first place that has no chunk.
     ensures fault { D.honest disk.old → (view : ℕ → List ℕ) → AreNewest graph.now (seen (D.state disk.old)) view
         → IfErr result (IsOfChunkIn extents.now view locators.now) }
     ensures refusals { IfErr result IsReadRefusal }
-    // Whatever the disk answers, what is read is the bytes of chunks that the places mean.
+    // Whatever the device returns, what is read is the bytes of chunks that the places mean.
     ensures meant { IfOk result (λ bytes. (cs : List (List ℕ)) × AreMeant (shape extents.now) locators.now cs × (bytes.items ≡ joined_bodies (formats_of (shape extents.now)) cs)) }
 
     ensures disk { OnlyReads D.PageDisk disk.old disk.new }
@@ -350,8 +341,8 @@ pub fn read_chunks<D: PageDisk>(
     let format = format_of(extents);
     for k in 0..locators.len() {
         let locator = locators[k];
-        match read_frame(alloc, extents, graph, disk, FrameKind::Chunk, locator) {
-            Ok(chunk) => bytes.extend_from_slice(chunk_body(format, &chunk))?,
+        match frame_at(alloc, extents, graph, disk, FrameKind::Chunk, locator) {
+            Ok(chunk) => bytes.extend_from_slice(chunk_body(format, chunk.payload()))?,
             Err(refusal) => return Err(refusal),
         }
     }
@@ -372,10 +363,10 @@ pub fn read_lengths<D: PageDisk>(
     requires places { All (λ l. (l.extent < (shape extents.now).extents) × (l.page < (shape extents.now).pages)) locators.now }
     requires device { 2 + (shape extents.now).extents * (shape extents.now).pages ≤ D.page_count disk.old }
 
-    // What is told is what the headers say together, but for the heads.
+    // The length is what the headers say together, but for the heads.
     ensures told { D.honest disk.old → (view : ℕ → List ℕ) → AreNewest graph.now (seen (D.state disk.old)) view
         → IfOk result (λ count. AreHeadersIn extents.now view locators.now × (count ≡ lengths_at (shape extents.now) view locators.now)) }
-    // Where there are chunks the length of their bytes is told, unless the device or memory refuses.
+    // If there are chunks, the length of their bytes is returned, unless the device or memory refuses.
     ensures read { D.honest disk.old → (view : ℕ → List ℕ) (cs : List (List ℕ)) → AreNewest graph.now (seen (D.state disk.old)) view
         → AreChunksIn extents.now view locators.now cs → MatchResult result (λ count. count ≡ length (joined_bodies (formats_of (shape extents.now)) cs)) IsNoAnswer }
     // Each other refusal is that of the first place that has no chunk's header.

@@ -10,7 +10,6 @@ use cs_disk::FileFault;
 use cs_frame::Geometry;
 use cs_mount::MountOptions;
 use cs_options::{Measure, geometry_of, measure_of};
-use cs_refusal::Refusal;
 use cs_tools::{Known, Load, Outcome, bench, explain};
 use std::fs::File;
 use std::rt::Files;

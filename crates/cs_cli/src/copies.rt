@@ -99,13 +99,12 @@ fn is_taken<R: Files<File = File>>(rt: &R, path: &str) -> bool {
 /// Copies the store that was opened, and gives the exit status.
 fn copy_opened<R: AllocGlobal + Clock + Files<File = File> + Print + Eprint>(
     rt: &R,
-    job: Job,
+    mut job: Job,
     asked: Option<Geometry>,
     manner: Manner,
 ) -> u8
     ensures { result ≤ 7 }
 {
-    let mut job = job;
     let copied = match asked {
         Some(geometry) => copy_into(rt, &mut job, geometry, manner),
         None => copy_into_enough(rt, &mut job, manner),
@@ -176,10 +175,7 @@ fn copy_into<R: AllocGlobal + Clock + Files<File = File> + Eprint>(
     };
     let copied = match OpenOptions::new(rt.alloc()).geometry(geometry).create(disk) {
         Ok(store) => fill(rt, job, &path, store, manner),
-        Err((refusal, disk)) => {
-            let mut disk = disk;
-            Err(Unopened::of_disk(rt.alloc(), refusal, &mut disk))
-        }
+        Err((refusal, mut disk)) => Err(Unopened::of_disk(rt.alloc(), refusal, &mut disk)),
     };
     if copied.is_err() {
         let _ = fs::remove_file(rt, &path);
@@ -219,10 +215,9 @@ fn fill<R: AllocGlobal + Clock + Files<File = File> + Eprint>(
     rt: &R,
     job: &mut Job,
     path: &str,
-    store: Target,
+    mut store: Target,
     manner: Manner,
 ) -> Result<(), Unopened> {
-    let mut store = store;
     let told = Told::new(rt, manner);
     let outcome = copy(&mut job.source, &mut store, &told);
     if outcome != Outcome::Done {

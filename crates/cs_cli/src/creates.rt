@@ -164,8 +164,7 @@ fn make_quietly<R: AllocGlobal + Files<File = File>>(
     };
     match MountOptions::new(rt.alloc()).create(disk, geometry) {
         Ok(_) => Ok(()),
-        Err((refusal, disk)) => {
-            let mut disk = disk;
+        Err((refusal, mut disk)) => {
             let unopened = Unopened::of_disk(rt.alloc(), refusal, &mut disk);
             let _ = fs::remove_file(rt, path);
             Err(unopened)

@@ -3,7 +3,6 @@
 use cs_disk::{Access, FileDisk, FileFault, PageDisk, ReadOnly, SystemFault};
 use cs_frame::Geometry;
 use cs_refusal::Refusal;
-use std::alloc::Global;
 use std::fs::File;
 use std::rt::Files;
 use std::time::{Clock, Duration};

@@ -51,10 +51,7 @@ pub fn left_in<R: AllocGlobal + Clock + Files<File = File>>(rt: &R, place: Place
                 shards,
             })
         }
-        Err((_, disk)) => {
-            let mut disk = disk;
-            left_by(known_of(rt.alloc(), &mut disk).content)
-        }
+        Err((_, mut disk)) => { left_by(known_of(rt.alloc(), &mut disk).content) }
     }
 }
 

@@ -173,10 +173,7 @@ fn core_on<E: Shown + Drop>(
             findings,
             scanned,
         }),
-        Err((refusal, disk)) => {
-            let mut disk = disk;
-            Err(Unopened::of_disk(alloc, refusal, &mut disk))
-        }
+        Err((refusal, mut disk)) => Err(Unopened::of_disk(alloc, refusal, &mut disk)),
     }
 }
 
@@ -210,9 +207,6 @@ fn typed_on<E: Shown + Drop>(
             findings,
             scanned,
         }),
-        Err((refusal, disk)) => {
-            let mut disk = disk;
-            Err(Unopened::of_disk(alloc, refusal, &mut disk))
-        }
+        Err((refusal, mut disk)) => Err(Unopened::of_disk(alloc, refusal, &mut disk)),
     }
 }

@@ -101,10 +101,7 @@ fn kept<R: AllocGlobal + Files<File = File> + Eprint>(
     }
     match Mounted::<Written>::open_core(rt.alloc(), disk) {
         Ok((core, _)) => Ok(core),
-        Err((refusal, disk)) => {
-            let mut disk = disk;
-            Err(Unopened::of_disk(rt.alloc(), refusal, &mut disk))
-        }
+        Err((refusal, mut disk)) => Err(Unopened::of_disk(rt.alloc(), refusal, &mut disk)),
     }
 }
 

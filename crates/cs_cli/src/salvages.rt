@@ -105,10 +105,7 @@ fn rescue_on(
             findings,
             scanned,
         }),
-        Err((refusal, disk)) => {
-            let mut disk = disk;
-            Err(Unopened::of_disk(alloc, refusal, &mut disk))
-        }
+        Err((refusal, mut disk)) => Err(Unopened::of_disk(alloc, refusal, &mut disk)),
     }
 }
 

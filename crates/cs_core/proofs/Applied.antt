@@ -21,7 +21,8 @@ use Rattle.cs_core.specs.Views.{IsCore, IsFound, IsIn, IsReached, IsStep, View}
 use Rattle.cs_core.proofs.Answering.{answered_means}
 use Rattle.cs_core.proofs.Applies.{goes}
 use Rattle.cs_core.proofs.Crashes.{crash_within, left_of, still_before}
-use Rattle.cs_core.proofs.Leaving.{LeftBy, left_now}
+use Rattle.cs_core.specs.Prefixes.{IsPrefixOf}
+use Rattle.cs_core.proofs.Leaving.{left_now}
 use Rattle.cs_core.proofs.Saying.{puts_kept}
 use Rattle.cs_reader.specs.ImageReads.{page_total}
 
@@ -71,16 +72,16 @@ module _ {D : Type 0} (disks : PageDisk D) {v w : Stored} {disk after : D} {even
       step = went;
     }
 
-    pub left_then : IsWhole v.extents → disks.honest disk → length (disks.state after).durable ≡ disks.page_count after → Leaves (disks.state after) (LeftBy (core_of after opened found w kept first limit))
+    pub left_then : IsWhole v.extents → disks.honest disk → length (disks.state after).durable ≡ disks.page_count after → Leaves (disks.state after) (IsPrefixOf (core_of after opened found w kept first limit))
     left_then whole there long = let was = core_then.legal (served.honesty.0 there) in
         left_of v.extents whole (but_for_room w) served.same_shape opened kept was.0 (disks.state after) was.1.reached was.1.store was.1.disk (long ∙ served.pages ∙ core.device)
 
     pub crash_then : IsWhole v.extents → disks.honest disk → length (disks.state disk).durable ≡ disks.page_count disk → length (disks.state after).durable ≡ disks.page_count after
-        → ((c : Image) → disks.left_since disk (disks.moment disk) c → MayLeave (disks.state disk) c) → LeavesOnly disks.moment disks.left_since disk after (LeftBy (core_of disk opened found v history base limit))
+        → ((c : Image) → disks.left_since disk (disks.moment disk) c → MayLeave (disks.state disk) c) → LeavesOnly disks.moment disks.left_since disk after (IsPrefixOf (core_of disk opened found v history base limit))
     crash_then whole there long long_then only_now =
         let was = core.legal there in
         let d = goes disks.state v w disk after opened found history base first limit limit event told.0 served.same_shape (served.step there) was.0 was.1 in
-        still_before disks.state disks.moment disks.left_since disk after (LeftBy (core_of disk opened found v history base limit)) (left_now disks core whole there long) only_now (served.time there)
+        still_before disks.state disks.moment disks.left_since disk after (IsPrefixOf (core_of disk opened found v history base limit)) (left_now disks core whole there long) only_now (served.time there)
         (crash_within v.extents whole (but_for_room v) (but_for_room w) refl served.same_shape opened history event told.0 was.0 d.1 (disks.state disk) (disks.state after)
         was.1.reached was.1.store was.1.disk d.4.reached d.4.store d.4.disk (long ∙ core.device) (long_then ∙ served.pages ∙ core.device) served.rises (served.quiet there))
 
@@ -105,12 +106,12 @@ module _ {D : Type 0} (disks : PageDisk D) {v w : Stored} {disk after : D} {even
       begun = λ there. subst (λ (S : Shape). IsFound S opened found) (sym served.same_shape) (core.begun (served.honesty.1 there));
     }
 
-    pub left_untouched : IsWhole v.extents → disks.honest disk → length (disks.state after).durable ≡ disks.page_count after → Leaves (disks.state after) (LeftBy (core_of after opened found w kept first limit))
+    pub left_untouched : IsWhole v.extents → disks.honest disk → length (disks.state after).durable ≡ disks.page_count after → Leaves (disks.state after) (IsPrefixOf (core_of after opened found w kept first limit))
     left_untouched whole there long = let was = core_untouched.legal (served.honesty.0 there) in
         left_of v.extents whole (but_for_room w) served.same_shape opened kept was.0 (disks.state after) was.1.reached was.1.store was.1.disk (long ∙ served.pages ∙ core.device)
 
     pub crash_untouched : IsWhole v.extents → disks.honest disk → length (disks.state disk).durable ≡ disks.page_count disk
-        → ((c : Image) → disks.left_since disk (disks.moment disk) c → MayLeave (disks.state disk) c) → LeavesOnly disks.moment disks.left_since disk after (LeftBy (core_of disk opened found v history base limit))
+        → ((c : Image) → disks.left_since disk (disks.moment disk) c → MayLeave (disks.state disk) c) → LeavesOnly disks.moment disks.left_since disk after (IsPrefixOf (core_of disk opened found v history base limit))
     crash_untouched whole there long only_now = let here = left_now disks core whole there long in
-        still_before disks.state disks.moment disks.left_since disk after (LeftBy (core_of disk opened found v history base limit)) here only_now (served.time there)
-        (subst (λ (d : DiskState). Leaves d (LeftBy (core_of disk opened found v history base limit))) (sym (served.same there)) here)
+        still_before disks.state disks.moment disks.left_since disk after (IsPrefixOf (core_of disk opened found v history base limit)) here only_now (served.time there)
+        (subst (λ (d : DiskState). Leaves d (IsPrefixOf (core_of disk opened found v history base limit))) (sym (served.same there)) here)

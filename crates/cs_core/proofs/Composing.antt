@@ -19,6 +19,7 @@ use Rattle.cs_core.specs.States.{IsStateOf}
 use Rattle.cs_core.specs.Stored.{Stored}
 use Rattle.cs_core.specs.Views.{Applies, IsUntouched, IsFull, IsIn, IsReached, IsStep, View}
 use Rattle.cs_core.proofs.Crashes.{commands_reached}
+use Rattle.cs_core.specs.Prefixes.{IsPrefixBetween}
 
 -- an event adds its command, newest first
 pub said_more : (history : List (Event × Reply)) (e : Event) (r : Reply) → commands_said (history ++ (e, r) ∷ []) ≡ command_said e r ++ commands_said history
@@ -136,11 +137,7 @@ module _ {D : Type 0} (disks : PageDisk D) where
     is_in = q.is_in;
   }
 
-  -- an image that a crash of the first core may leave, in the words of the last
-  abbrev Left : (old new : View D) → Image → Type 0
-  Left old new = IsPrefix (shape old.store.extents) (page old.opened) (commands_said new.history) old.store.frontier new.store.accepted
-
-  left_later : (a b c : View D) → Follows a b → Follows b c → (image : Image) → Left a b image → Left a c image
+  left_later : (a b c : View D) → Follows a b → Follows b c → (image : Image) → IsPrefixBetween a b image → IsPrefixBetween a c image
   left_later a b c p q image is =
       let more : length (commands_said c.history) ≡ length q.more + length (commands_said b.history) = ap length q.longer ∙ length-append q.more (commands_said b.history) in
       let wide : b.store.accepted ≤ c.store.accepted = omega (arith, p.counted, q.counted, more) in
@@ -148,7 +145,7 @@ module _ {D : Type 0} (disks : PageDisk D) where
       (prefix_wider (shape a.store.extents) (page a.opened) (q.more ++ commands_said b.history) a.store.frontier b.store.accepted a.store.frontier c.store.accepted image (omega arith) wide
       (prefix_later (shape a.store.extents) (page a.opened) q.more (commands_said b.history) a.store.frontier b.store.accepted image (le_of_eq p.counted) is))
 
-  left_before : (a b c : View D) → Follows a b → (image : Image) → Left b c image → Left a c image
+  left_before : (a b c : View D) → Follows a b → (image : Image) → IsPrefixBetween b c image → IsPrefixBetween a c image
   left_before a b c p image is =
       subst (λ (i : Image). IsPrefix (shape a.store.extents) (page i) (commands_said c.history) a.store.frontier c.store.accepted image) p.opened
       (subst (λ (S : Shape). IsPrefix S (page b.opened) (commands_said c.history) a.store.frontier c.store.accepted image) p.same_shape
@@ -180,13 +177,13 @@ module _ {D : Type 0} (disks : PageDisk D) where
 
   -- a crash at any moment of these calls
   pub calls_leave : (between : List (View D)) (old new : View D) (s : State) → disks.honest old.disk → AreCalls disks old between new → IsIn disks.state old s
-      → LeavesOnly disks.moment disks.left_since old.disk new.disk (Left old new)
+      → LeavesOnly disks.moment disks.left_since old.disk new.disk (IsPrefixBetween old new)
   calls_leave [] old new s there call is =
       let next = call_follows old new s there call is in
-      leaves_more old.disk new.disk (Left old old) (Left old new) (call.crash there) (left_later old old new (same_follows old s there is) next)
+      leaves_more old.disk new.disk (IsPrefixBetween old old) (IsPrefixBetween old new) (call.crash there) (left_later old old new (same_follows old s there is) next)
   calls_leave (v ∷ vs) old new s there (call, calls) is =
       let next = call_follows old v s there call is in
       let rest = follow vs v new next.state_then next.stays_honest calls next.is_in in
-      leaves_then old.disk v.disk new.disk (Left old old) (Left v new) (Left old new) (call.crash there) (calls_leave vs v new next.state_then next.stays_honest calls next.is_in)
+      leaves_then old.disk v.disk new.disk (IsPrefixBetween old old) (IsPrefixBetween v new) (IsPrefixBetween old new) (call.crash there) (calls_leave vs v new next.state_then next.stays_honest calls next.is_in)
       (λ i left. left_later old old new (same_follows old s there is) (follows_then old v new next rest) i left)
       (left_before old v new next)

@@ -21,7 +21,7 @@ use Rattle.law_machine.proofs.Keeps.{steps}
 use Rattle.law_refinement.specs.Bridge.{name}
 use Rattle.law_refinement.specs.Parts.{ArePartsOf}
 use Rattle.law_refinement.proofs.Shapes.{store_format, store_shape}
-use Rattle.cs_core.specs.declared.roots.Root.{Root as Noted}
+use Rattle.cs_core.specs.declared.histories.Root.{Root as Noted}
 use Rattle.cs_core.specs.States.{AreRootsOf, IsStateOf}
 use Rattle.cs_core.specs.Stored.{Stored, members_of, but_for_room}
 use Rattle.cs_core.proofs.RootsStay.{SameRoots}

@@ -5,10 +5,9 @@ use Rattle.std.proofs.lemmas.Bool.{cases_eq}
 use Rattle.std.proofs.lemmas.List.{append-nil}
 use Rattle.cs_disk.proofs.Images.{All_cons, applied_push, length-applied, page_other, page_same}
 use Rattle.cs_disk.specs.Disk.{Image, State as DiskState, Write, flushed, page, seen, written}
-use Rattle.cs_frame.specs.Geometries.{device_pages, section_length}
+use Rattle.cs_frame.specs.Geometries.{device_pages}
 use Rattle.cs_frame.specs.Roots.{SpellsRoot}
-use Rattle.cs_frame.specs.Superblocks.{SpellsSuperblock}
-use Rattle.cs_core.specs.Started.{AreNewWritten, IsHead, IsHeadWritten, IsNewOn}
+use Rattle.cs_core.specs.Started.{AreNewWritten, IsHead, IsHeadWritten, IsNewOn, head_page, SpellsNew}
 
 -- whatever the refusal
 pub on_err : {T E : Type 0} (r : Result T E) (A : Type 0) → A → OnErr r A
@@ -16,10 +15,6 @@ on_err (Ok t) A a = tt
 on_err (Err e) A a = a
 
 -- ---- where sections lie
-
--- the page of section j
-abbrev pub head_page : (extents pages j : ℕ) → ℕ
-head_page extents pages j = if j == 0 then 0 else 1 + extents * pages + j
 
 first_page : (extents pages j : ℕ) → j ≡ 0 → head_page extents pages j ≡ 0
 first_page extents pages j is = let test : (j == 0) ≡ true = eq-eqb j 0 is in ap (λ (b : Bool). if b then 0 else 1 + extents * pages + j) test
@@ -102,7 +97,7 @@ module _ (format extents pages sections : ℕ) (old : DiskState) (sized : length
 
   -- one section more
   pub more_written : (count : ℕ) (mid new : DiskState) (bytes : List ℕ) → AreNewWritten format extents pages sections count old mid → count < sections
-      → SpellsSuperblock bytes format 1 0 extents pages sections count (replicate (section_length extents sections count) (0, 0)) → new ≡ written mid (head_page extents pages count) bytes
+      → SpellsNew format extents pages sections count bytes → new ≡ written mid (head_page extents pages count) bytes
       → AreNewWritten format extents pages sections (count + 1) old new
   more_written count mid new bytes so_far lt spelled is =
       let long : length mid.durable ≡ device_pages format extents pages sections = ap length so_far.head.durable ∙ sized in
@@ -112,10 +107,10 @@ module _ (format extents pages sections : ℕ) (old : DiskState) (sized : length
         head = head_more extents pages old mid (head_page extents pages count) bytes (head_is extents pages count) so_far.head;
         each = λ j few. ⊎_elim
             (λ (here : j ≡ count). subst
-            (λ (k : ℕ). SpellsSuperblock (page (seen (written mid (head_page extents pages count) bytes)) (head_page extents pages k)) format 1 0 extents pages sections k (replicate (section_length extents sections k) (0, 0))) (sym here)
-            (subst (λ (b : List ℕ). SpellsSuperblock b format 1 0 extents pages sections count (replicate (section_length extents sections count) (0, 0))) (sym (wrote_here mid (head_page extents pages count) bytes inside)) spelled))
+            (λ (k : ℕ). SpellsNew format extents pages sections k (page (seen (written mid (head_page extents pages count) bytes)) (head_page extents pages k))) (sym here)
+            (subst (λ (b : List ℕ). SpellsNew format extents pages sections count b) (sym (wrote_here mid (head_page extents pages count) bytes inside)) spelled))
             (λ (other : j ≡ count → ⊥).
-            subst (λ (b : List ℕ). SpellsSuperblock b format 1 0 extents pages sections j (replicate (section_length extents sections j) (0, 0)))
+            subst (λ (b : List ℕ). SpellsNew format extents pages sections j b)
             (sym (wrote_there mid (head_page extents pages count) (head_page extents pages j) bytes (head_apart extents pages j count other)))
             (so_far.each j (omega (arith, few, other))))
             (cases_eq j count);
@@ -128,7 +123,7 @@ module _ (format extents pages sections : ℕ) (old : DiskState) (sized : length
       let long : length mid.durable ≡ device_pages format extents pages sections = ap length so_far.head.durable ∙ sized in
       subst (λ (d : DiskState). IsNewOn format extents pages sections old d) (sym is) (record {
         formatted = (written mid 1 bytes, head_more extents pages old mid 1 bytes (inl (omega arith)) so_far.head, refl);
-        superblock = λ j lt. subst (λ (b : List ℕ). SpellsSuperblock b format 1 0 extents pages sections j (replicate (section_length extents sections j) (0, 0)))
+        superblock = λ j lt. subst (λ (b : List ℕ). SpellsNew format extents pages sections j b)
             (sym (wrote_there mid 1 (head_page extents pages j) bytes (head_not_root extents pages j))) (so_far.each j lt);
         root = subst (λ (b : List ℕ). SpellsRoot b format 1 0 []) (sym (wrote_here mid 1 bytes (omega (arith, long, some)))) spelled;
       })

@@ -1,17 +1,18 @@
 -- What each step of a store keeps.
 use Rattle.std.proofs.Common.{◌≡◌, ◌∙◌, ℕ, zero, suc, ◌+◌, ◌^◌, ◌<◌, ◌≤◌, Bool, true, false, List, [], ◌∷◌, ◌++◌, Some, length, sym, ap, subst, inl, inr, ⊎_elim, arith, refl}
-use Rattle.std.specs.Prelude.{Option, map, slice_index, slice_index_or, if◌then◌else◌, ◌==◌}
+use Rattle.std.specs.Prelude.{OnErr, OnOk, Option, Result, Ok, Err, map, slice_index, slice_index_or, if◌then◌else◌, ◌==◌}
+use Rattle.cs_refusal.specs.declared.refusals.Refusal.{Refusal as Code}
 use Rattle.cs_deps.specs.declared.elements.Element.{Element}
 use Rattle.cs_deps.specs.State.{State as GraphState, AddsNone}
-use Rattle.cs_extent.specs.Appended.{AreAppendedBy, IsAppendedBy}
+use Rattle.cs_extent.specs.Appended.{AreAppendedBy, IsAppendedBy, IsReady}
 use Rattle.cs_extent.specs.Frames.{AreResetsStaged, root_family}
-use Rattle.cs_extent.specs.State.{State as ExtentsState, extents_of, shape}
+use Rattle.cs_extent.specs.State.{IsWhole, State as ExtentsState, extents_of, shape}
 use Rattle.cs_chunk.proofs.Chunkings.{length-spelled}
 use Rattle.cs_frame.specs.declared.locators.Locator.{Locator}
 use Rattle.cs_frame.specs.Formats.{formats_of, place_of}
 use Rattle.cs_frame.specs.Frames.{spelled_frame}
 use Rattle.cs_index.specs.Merges.{deletions_go, stage_takes}
-use Rattle.cs_index.specs.Staged.{IsMergeStaged, IsNewestStaged, IsPartAppendedBy, IsRunAppended, run_frame}
+use Rattle.cs_index.specs.Staged.{IsMergeStaged, IsNewestStaged, IsPartAppendedBy, IsRunAppendedBy, run_frame}
 use Rattle.law_machine.specs.Index.{IsMergedRun}
 use Rattle.law_machine.specs.Element.{Entry, Run}
 use Rattle.cs_frame.specs.Formats.{as_locator}
@@ -31,7 +32,7 @@ use Rattle.law_refinement.proofs.cs_reclaim.Sweeping.{append_swept}
 use Rattle.law_refinement.proofs.cs_reclaim.SweptStays.{append_stays_apart}
 use Rattle.cs_core.specs.Stored.{AreInside, AreSwept, AreWithin, IsKept, IsKeptApart, KeepsDevice, Stored, members_of}
 use Rattle.cs_core.proofs.KeptApart.{kept_apart_marked}
-use Rattle.cs_core.specs.declared.roots.Root.{Root}
+use Rattle.cs_core.specs.declared.histories.Root.{Root}
 use Rattle.cs_core.specs.Frontiers.{AreNoted}
 use Rattle.cs_core.proofs.Moves.{AddsRoot, extent_there, frame_fits, last_root, moves_extents, moves_merged, moves_then}
 use Rattle.cs_core.proofs.Noted.{noted_accepted, noted_pushed}
@@ -121,7 +122,7 @@ swept_part b go k i x g r runs y h rule (inr m) swept = subst AreSwept (sym m.1)
 
 pub swept_merged : (i : IndexState) (x : ExtentsState) (g : GraphState) (r : Reason) (v commands : ℕ) (j : IndexState) (y : ExtentsState) (h : GraphState) → (shape x).apart ≡ false → IsMergeStaged i x g r v commands j y h → AreSwept x → AreSwept y
 swept_merged i x g r v commands j y h rule staged swept = ⊎_elim
-    (λ (m : (entries : List Entry) × (place : Place) × (entries ≡ [] → ⊥) × IsMergedRun (index_of i) entries × IsRunAppended x g r entries place y staged.between × (j.runs ≡ record { place = place; entries = entries } ∷ [])).
+    (λ (m : (entries : List Entry) × (place : Place) × (entries ≡ [] → ⊥) × IsMergedRun (index_of i) entries × IsRunAppendedBy false x g r entries place y staged.between × (j.runs ≡ record { place = place; entries = entries } ∷ [])).
     swept_appended false x y g staged.between r (run_frame x m.0) (as_locator m.1) rule m.4 swept)
     (λ (m : ((id : ℕ) → live_at (index_of i) id ≡ []) × (y ≡ x) × (staged.between ≡ g) × (j.runs ≡ [])). subst AreSwept (sym m.1) swept)
     staged.appended
@@ -173,14 +174,23 @@ noted_staged s kept graph h v adds roots same =
     (subst (λ (rs : List Root). AreNoted (slice_index s.graph.staging.pending.persistent root_family) v rs s.frontier s.accepted) (sym same)
     (noted_pushed (slice_index s.graph.staging.pending.persistent root_family) (last_root s.graph) s.roots s.frontier s.accepted kept.noted v (graph.persistent_staged root_family) (omega (arith, adds.next))))
 
--- SOUNDNESS
-pub kept_on : (s w : Stored) → IsKept s → KeepsDevice s.extents s.graph w.extents w.graph → AreResetsStaged (extents_of w.extents) w.graph.staging
-    → length w.graph.staging.latest ≡ length s.graph.staging.latest → w.index.format ≡ s.index.format → w.index.limit ≡ s.index.limit → AreInside (shape s.extents) w.index
+-- extents of the same shape whose resets go with staged roots are as ready
+pub ready_after : (x y : ExtentsState) (s : Staging) → shape y ≡ shape x → AreResetsStaged (extents_of y) s → IsReady x s → IsReady y s
+ready_after x y s same resets ready = record { families = ready.families ∙ ap (λ (S : Shape). 1 + S.sections) (sym same); resets = resets }
+
+-- then the root has a family
+pub root_there : (x y : ExtentsState) (s : Staging) → IsWhole x → shape y ≡ shape x → IsReady y s → root_family < length s.latest
+root_there x y s whole same ready =
+    let sections : (shape y).sections ≡ (shape x).sections = ap (λ (S : Shape). S.sections) same in
+    omega (arith, ready.families, sections, whole.geometry.fewest_sections)
+
+-- a store keeps what every store keeps where these parts do
+pub kept_on : (s w : Stored) → IsKept s → KeepsDevice s.extents s.graph w.extents w.graph → IsReady w.extents w.graph.staging
+    → w.index.format ≡ s.index.format → w.index.limit ≡ s.index.limit → AreInside (shape s.extents) w.index
     → w.out ≡ s.out → w.issued ≡ s.issued → w.base + w.accepted < 2 ^ 63 → AreSwept w.extents → ((shape w.extents).apart ≡ true → IsKeptApart w.extents w.index w.copies)
     → AreNoted (slice_index s.graph.staging.pending.persistent root_family) (last_root w.graph) w.roots w.frontier w.accepted → IsKept w
-kept_on s w kept moves resets families format limit inside out issued numbers swept apart noted = record {
-  families = families ∙ kept.families ∙ ap (λ (S : Shape). 1 + S.sections) (sym moves.same_shape);
-  resets = resets;
+kept_on s w kept moves ready format limit inside out issued numbers swept apart noted = record {
+  ready = ready;
   writes = subst (λ (S : Shape). AreWithin (page_total S) w.graph) (sym moves.same_shape) (moves.within kept.writes);
   format = format ∙ kept.format ∙ ap (λ (S : Shape). S.format) (sym moves.same_shape);
   limit = limit ∙ kept.limit ∙ ap (λ (S : Shape). S.most_weight) (sym moves.same_shape);
@@ -222,18 +232,26 @@ marked_resets x y g e b old is = subst (λ (u : Extents). AreResetsStaged u g) (
 
 pub kept_marked : (s : Stored) → IsKept s → (y : ExtentsState) (e : ℕ) (b : Bool) → shape y ≡ shape s.extents → extents_of y ≡ marked (extents_of s.extents) e b
     → (b ≡ true → ((shape y).apart ≡ false) × IsSwept (shape y) (extents_of y) e) → IsKept (record s { extents = y })
-kept_marked s kept y e b same extents here = kept_on s (record s { extents = y }) kept (moves_extents s.extents s.graph y same) (marked_resets s.extents y s.graph.staging e b kept.resets extents)
-    refl refl refl kept.places refl refl kept.numbers
+kept_marked s kept y e b same extents here = kept_on s (record s { extents = y }) kept (moves_extents s.extents s.graph y same) (ready_after s.extents y s.graph.staging same (marked_resets s.extents y s.graph.staging e b kept.ready.resets extents) kept.ready)
+    refl refl kept.places refl refl kept.numbers
     (swept_marked s.extents y e b same extents kept.swept (λ t. let swept = here t in ((λ before. swept.1), (λ apart. absurd (not_both (shape y).apart swept.0 apart)))))
     (kept_apart_marked s.extents y s.index s.copies e b same extents (λ t. (here t).0) kept.apart) kept.noted
+
+-- a sweep was given up, or that was refused
+pub kept_abandoned : {T : Type 0} (s : Stored) → IsKept s → (y : ExtentsState) (e : ℕ) → shape y ≡ shape s.extents → (result : Result T Code)
+    → OnOk result (extents_of y ≡ marked (extents_of s.extents) e false) → OnErr result (y ≡ s.extents) → IsKept (record s { extents = y })
+kept_abandoned s kept y e same (Ok t) ended unwritten = kept_marked s kept y e false same ended (λ on. absurd (cc on))
+kept_abandoned s kept y e same (Err r) ended unwritten = subst (λ (x : ExtentsState). IsKept (record s { extents = x })) (sym unwritten) kept
 
 -- a round began or ended
 pub kept_round : (s : Stored) → IsKept s → (g : GraphState) → g.staging.latest ≡ s.graph.staging.latest → AddsNone s.graph g → (out : Option (List Element)) → out ≡ g.round → (issued : ℕ) → issued ≤ length (members_of out)
     → (roots : List Root) (frontier : ℕ) → AreNoted (slice_index g.staging.pending.persistent root_family) (last_root s.graph) roots frontier s.accepted
     → IsKept (record s { graph = g; roots = roots; out = out; issued = issued; frontier = frontier })
 kept_round s kept g latest none out is issued few roots frontier noted = record {
-  families = ap length latest ∙ kept.families;
-  resets = subst (λ (vs : List ℕ). (e : ℕ) → (extents_of s.extents).reset e ≤ slice_index vs 1) (sym latest) kept.resets;
+  ready = record {
+    families = ap length latest ∙ kept.ready.families;
+    resets = subst (λ (vs : List ℕ). (e : ℕ) → (extents_of s.extents).reset e ≤ slice_index vs 1) (sym latest) kept.ready.resets;
+  };
   writes = λ x w there. kept.writes x w (none x w there);
   format = kept.format;
   limit = kept.limit;

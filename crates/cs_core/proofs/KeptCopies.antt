@@ -5,6 +5,7 @@ use Rattle.std.proofs.lemmas.Bool.{cases_eq, cond-false, ne_eqb}
 use Rattle.cs_refusal.specs.declared.refusals.Refusal.{Refusal as Code}
 use Rattle.cs_refusal.specs.declared.refusals.Refusal.TheVariants as code
 use Rattle.cs_deps.specs.State.{State as GraphState}
+use Rattle.cs_extent.specs.Appended.{IsReady}
 use Rattle.cs_extent.specs.Frames.{AreResetsStaged}
 use Rattle.cs_extent.specs.State.{State as ExtentsState, extents_of, shape}
 use Rattle.cs_frame.specs.declared.identifiers.ShardId.{ShardId}
@@ -21,7 +22,7 @@ use Rattle.law_refinement.specs.cs_reclaim.Copied.{AllUpTo, AreInOrder, IsCopyMa
 use Rattle.law_refinement.specs.cs_reclaim.Moves.{chunk_frame}
 use Rattle.law_refinement.specs.cs_reclaim.Sweeps.{IsSweptApart}
 use Rattle.cs_core.specs.Stored.{AreSwept, IsKept, IsKeptApart, StagesBehind, Stored}
-use Rattle.cs_core.proofs.Kept.{kept_on, noted_on, only_apart, places_there, swept_appended}
+use Rattle.cs_core.proofs.Kept.{kept_on, noted_on, only_apart, places_there, ready_after, swept_appended}
 use Rattle.cs_core.proofs.Moves.{behind_none, last_root, moves_appended, moves_extents, moves_refused, root_appended}
 
 -- ---- a sweep begins
@@ -43,7 +44,7 @@ module _ (v : Stored) (kept : IsKept v) (apart : (shape v.extents).apart ≡ tru
 
     kept_one : IsKept (record v { extents = y })
     kept_one = kept_on v (record v { extents = y }) kept (moves_extents v.extents v.graph y same)
-        (subst (λ (u : Extents). AreResetsStaged u v.graph.staging) (sym begun) kept.resets) refl refl refl kept.places refl refl kept.numbers
+        (ready_after v.extents y v.graph.staging same (subst (λ (u : Extents). AreResetsStaged u v.graph.staging) (sym begun) kept.ready.resets) kept.ready) refl refl kept.places refl refl kept.numbers
         (only_apart y apart_then (λ d is. subst (λ (k : ℕ). IsSweptApart (shape y) (extents_of y) k) (sym (only_one d is)) swept))
         (λ rule. record {
           runs = subst (λ (S : Shape). length v.index.runs ≤ S.most_runs) (sym same) (kept.apart apart).runs;
@@ -83,7 +84,7 @@ module _ (x : ExtentsState) (g : GraphState) (i : IndexState) (copies : List Cop
       (subst (λ (cs : List Copy). c ∈ cs) made.noted among)
 
 module _ (v : Stored) (kept : IsKept v) (apart : (shape v.extents).apart ≡ true) (e : ℕ) (marked : (extents_of v.extents).swept e ≡ true) (y : ExtentsState) (h : GraphState) (after : List Copy)
-    (resets : AreResetsStaged (extents_of y) h.staging) (families : length h.staging.latest ≡ length v.graph.staging.latest) (same : shape y ≡ shape v.extents)
+    (ready : IsReady y h.staging) (same : shape y ≡ shape v.extents)
     (order : AreInOrder after) (up_to : AllUpTo (index_of v.index) after e) where
   -- the same extent is marked alone
   kept_copies : ((d : ℕ) → (extents_of y).swept d ≡ true → (extents_of v.extents).swept d ≡ true) → ((c : Copy) → c ∈ after → Inside (shape v.extents) c.to.extent c.to.page)
@@ -99,7 +100,7 @@ module _ (v : Stored) (kept : IsKept v) (apart : (shape v.extents).apart ≡ tru
 
   kept_copy : (id k : ℕ) (payload : List ℕ) → IsCopyMade v.index v.extents v.graph v.copies e id k payload after y h → IsKept (record v { extents = y; graph = h; copies = after })
   kept_copy id k payload made = kept_on v (record v { extents = y; graph = h; copies = after }) kept
-      (moves_appended true v.extents v.graph ForMove (chunk_frame v.extents payload) made.to y h made.appended) resets families refl refl kept.places
+      (moves_appended true v.extents v.graph ForMove (chunk_frame v.extents payload) made.to y h made.appended) ready refl refl kept.places
       refl refl kept.numbers
       (swept_appended true v.extents y v.graph h ForMove (chunk_frame v.extents payload) made.to apart made.appended kept.swept)
       (λ rule. kept_copies (λ d is. sym (ap (λ (u : Extents). u.swept d) made.appended.extents) ∙ is) (copies_there v.extents v.graph v.index v.copies e id k payload after y h made (kept.apart apart).placed)
@@ -116,7 +117,7 @@ module _ (v : Stored) (kept : IsKept v) (apart : (shape v.extents).apart ≡ tru
       (subst (λ (k : ExtentsState). IsKept (record v { extents = k; graph = h })) (sym u.1) (subst (λ (k : GraphState). IsKept (record v { graph = k })) (sym u.2) kept))
   kept_copied (Ok (Some (id, k))) unchanged copied refused unwritten unstaged = let c = copied id k refl in kept_copy (id_number id) k c.0 c.1
   kept_copied (Err r) unchanged copied refused unwritten unstaged = kept_on v (record v { extents = y; graph = h; copies = after }) kept
-      (moves_refused v.extents v.graph y h unwritten unstaged) resets families refl refl kept.places refl refl kept.numbers
+      (moves_refused v.extents v.graph y h unwritten unstaged) ready refl refl kept.places refl refl kept.numbers
       (subst (λ (x : ExtentsState). AreSwept x) (sym unwritten) kept.swept)
       (λ rule. kept_copies (λ d is. ap (λ (x : ExtentsState). (extents_of x).swept d) (sym unwritten) ∙ is)
       (λ c among. (kept.apart apart).placed c (subst (λ (cs : List Copy). c ∈ cs) refused among))

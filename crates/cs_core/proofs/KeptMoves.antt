@@ -3,7 +3,7 @@ use Rattle.std.proofs.Common.{◌≡◌, ◌∙◌, ◌⊎◌, false, inl, inr, 
 use Rattle.std.specs.Prelude.{OnErr, OnOk, Option, Result}
 use Rattle.cs_refusal.specs.declared.refusals.Refusal.{Refusal as Code}
 use Rattle.cs_deps.specs.State.{State as GraphState}
-use Rattle.cs_extent.specs.Frames.{AreResetsStaged}
+use Rattle.cs_extent.specs.Appended.{IsReady}
 use Rattle.cs_extent.specs.State.{State as ExtentsState, extents_of, shape}
 use Rattle.cs_frame.specs.declared.identifiers.ShardId.{ShardId}
 use Rattle.cs_frame.specs.Formats.{place_of}
@@ -27,10 +27,10 @@ in_replaced (z ∷ xs) (suc k) y x among = ⊎_elim
     among
 
 module _ (v : Stored) (kept : IsKept v) (together : (shape v.extents).apart ≡ false) (e : ℕ) (y : ExtentsState) (h : GraphState) (j : IndexState)
-    (resets : AreResetsStaged (extents_of y) h.staging) (families : length h.staging.latest ≡ length v.graph.staging.latest) (same : shape y ≡ shape v.extents) (format : j.format ≡ v.index.format) (limit : j.limit ≡ v.index.limit) where
+    (ready : IsReady y h.staging) (same : shape y ≡ shape v.extents) (format : j.format ≡ v.index.format) (limit : j.limit ≡ v.index.limit) where
   kept_move : (id k : ℕ) (payload : List ℕ) → IsMoved v.index v.extents v.graph e id k payload j y h → IsKept (record v { extents = y; graph = h; index = j })
   kept_move id k payload moved = kept_on v (record v { extents = y; graph = h; index = j }) kept
-      (moves_appended false v.extents v.graph ForMove (chunk_frame v.extents payload) moved.to y h moved.appended) resets families format limit
+      (moves_appended false v.extents v.graph ForMove (chunk_frame v.extents payload) moved.to y h moved.appended) ready format limit
       (inside_set (shape v.extents) v.index id (replaced (live_at (index_of v.index) id) k (place_of moved.to)) j kept.places moved.entry (λ l among. ⊎_elim
       (λ (new : l ≡ place_of moved.to). places_there false v.extents v.graph ForMove (shape v.extents) (payload ∷ []) (moved.to ∷ []) y h refl (y, h, moved.appended, (refl, refl)) l (inl new))
       (λ (old : l ∈ live_at (index_of v.index) id). kept.places id l old)
@@ -50,7 +50,7 @@ module _ (v : Stored) (kept : IsKept v) (together : (shape v.extents).apart ≡ 
       (subst (λ (k : ExtentsState). IsKept (record v { extents = k; graph = h })) (sym u.1) (subst (λ (k : GraphState). IsKept (record v { graph = k })) (sym u.2) kept))
   kept_moved (Ok (Some (id, k))) unchanged moved refused unwritten unstaged = let m = moved id k refl in kept_move (id_number id) k m.0 m.1
   kept_moved (Err r) unchanged moved refused unwritten unstaged = kept_on v (record v { extents = y; graph = h; index = j }) kept
-      (moves_refused v.extents v.graph y h unwritten unstaged) resets families format limit
+      (moves_refused v.extents v.graph y h unwritten unstaged) ready format limit
       (inside_live (shape v.extents) v.index j kept.places (same_live v.index j refused)) refl refl kept.numbers
       (subst (λ (x : ExtentsState). AreSwept x) (sym unwritten) kept.swept)
       (λ rule. absurd (not_both (shape y).apart (ap (λ (S : Shape). S.apart) same ∙ together) rule))

@@ -3,7 +3,8 @@ use Rattle.std.proofs.Common.{◌≡◌, ◌≢◌, ◌∙◌, ◌⊎◌, inl, i
 use Rattle.std.specs.Prelude.{if◌then◌else◌, ◌==◌}
 use Rattle.std.proofs.lemmas.Bool.{cases_eq, cond-false, cond-true, eq-eqb, ne_eqb}
 use Rattle.cs_deps.specs.State.{State as GraphState}
-use Rattle.cs_extent.specs.Frames.{AreResetsStaged, root_family}
+use Rattle.cs_extent.specs.Appended.{IsReady}
+use Rattle.cs_extent.specs.Frames.{root_family}
 use Rattle.cs_extent.specs.State.{IsWhole, State as ExtentsState, extents_of, shape}
 use Rattle.cs_index.proofs.Chosen.{takes_below, takes_none, takes_some}
 use Rattle.cs_index.proofs.Parts.{part_live}
@@ -27,7 +28,7 @@ use Rattle.law_refinement.proofs.cs_reclaim.SweptStays.{stage_stays}
 use Rattle.law_refinement.specs.cs_reclaim.Copied.{AllUpTo, AreInOrder}
 use Rattle.law_refinement.specs.cs_reclaim.Rooted.{IsRetiredApart, IsSweepStaged, extents_at_rest, lying_apart}
 use Rattle.law_refinement.proofs.Shapes.{store_shape}
-use Rattle.cs_core.specs.declared.roots.Root.{Root as Noted}
+use Rattle.cs_core.specs.declared.histories.Root.{Root as Noted}
 use Rattle.cs_core.specs.Puts.{MeansTheSame}
 use Rattle.cs_core.specs.Stored.{AreInside, AreSwept, IsKept, IsKeptApart, KeepsDevice, Stored}
 use Rattle.cs_core.proofs.PutsMeant.{live_means, settled_means, then_means}
@@ -47,12 +48,12 @@ kept_same x y i j copies after extents index same kept =
     (subst (λ (cs : List Copy). (shape x).apart ≡ true → IsKeptApart x i cs) (sym same) kept))
 
 -- it was refused
-pub kept_refused : (v : Stored) → IsKept v → (y : ExtentsState) (h : GraphState) (j : IndexState) (after : List Copy) (roots : List Noted) → AreResetsStaged (extents_of y) h.staging
-    → length h.staging.latest ≡ length v.graph.staging.latest → j.format ≡ v.index.format → j.limit ≡ v.index.limit
+pub kept_refused : (v : Stored) → IsKept v → (y : ExtentsState) (h : GraphState) (j : IndexState) (after : List Copy) (roots : List Noted) → IsReady y h.staging
+    → j.format ≡ v.index.format → j.limit ≡ v.index.limit
     → j ≡ v.index → after ≡ v.copies → y ≡ v.extents → h ≡ record v.graph { room = h.room } → roots ≡ v.roots → IsKept (record v { extents = y; graph = h; out = h.round; index = j; copies = after; roots = roots })
-kept_refused v kept y h j after roots resets families format limit refused stay unwritten unstaged noted =
+kept_refused v kept y h j after roots ready format limit refused stay unwritten unstaged noted =
     let m = moves_refused v.extents v.graph y h unwritten unstaged in
-    kept_on v (record v { extents = y; graph = h; out = h.round; index = j; copies = after; roots = roots }) kept m resets families format limit
+    kept_on v (record v { extents = y; graph = h; out = h.round; index = j; copies = after; roots = roots }) kept m ready format limit
     (subst (λ (k : IndexState). AreInside (shape v.extents) k) (sym refused) kept.places) (m.round ∙ sym kept.round) refl kept.numbers
     (subst (λ (x : ExtentsState). AreSwept x) (sym unwritten) kept.swept)
     (kept_same v.extents y v.index j v.copies after unwritten refused stay kept.apart)

@@ -33,7 +33,6 @@ pub mod NewTaken
 pub mod Noted
 pub mod Opening
 pub mod Opens
-pub mod PieceCounts
 pub mod Puts
 pub mod PutsMeant
 pub mod Readying

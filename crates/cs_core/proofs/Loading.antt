@@ -18,7 +18,7 @@ use Rattle.law_machine.specs.Device.{Inside, Shape}
 use Rattle.law_machine.specs.Element.{Copy}
 use Rattle.law_machine.specs.Geometry.{most_weight_in}
 use Rattle.law_machine.specs.Index.{entries_of, live_at}
-use Rattle.cs_core.specs.declared.roots.Root.{Root as Noted}
+use Rattle.cs_core.specs.declared.histories.Root.{Root as Noted}
 use Rattle.cs_core.specs.Openings.{AreExtentsOpened}
 use Rattle.cs_reader.specs.Openings.{AreLocatedBy}
 use Rattle.cs_core.specs.Openings.{IsLoaded, opened_stored}
@@ -74,9 +74,11 @@ module _ (format : ℕ) (versions : List ℕ) (pages : ℕ) (written : List (ℕ
 
   pub kept_opened : commands < 2 ^ 63 → length runs ≤ 24 → AreLocatedBy x runs → IsKept (opened_stored y versions root commands runs)
   kept_opened low few located = record {
-    families = (let sections : y.sections ≡ length versions = ap (λ (S : Shape). S.sections) opened.same_shape in omega (arith, length-by_family versions root, sections));
-    resets = λ e. subst (λ (v : ℕ). (extents_of y).reset e ≤ v) (sym (root_in versions root whole.geometry.fewest_sections))
-        (resets_opened x y (index_at (newest_first runs) format (most_weight_in format pages)) root opened (λ d. let none : slice_index (replicate (length written) 0) d ≡ 0 = all_default (length written) d 0 in omega (arith, none)) e);
+    ready = record {
+      families = (let sections : y.sections ≡ length versions = ap (λ (S : Shape). S.sections) opened.same_shape in omega (arith, length-by_family versions root, sections));
+      resets = λ e. subst (λ (v : ℕ). (extents_of y).reset e ≤ v) (sym (root_in versions root whole.geometry.fewest_sections))
+          (resets_opened x y (index_at (newest_first runs) format (most_weight_in format pages)) root opened (λ d. let none : slice_index (replicate (length written) 0) d ≡ 0 = all_default (length written) d 0 in omega (arith, none)) e);
+    };
     writes = λ z w kept. let clash : None ≡ Some w = kept in absurd (cc clash);
     format = refl;
     limit = refl;

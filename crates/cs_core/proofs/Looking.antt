@@ -25,7 +25,8 @@ use Rattle.cs_core.specs.Stored.{Stored, but_for_room}
 use Rattle.cs_core.specs.Views.{IsCore, IsIn, View}
 use Rattle.cs_core.proofs.Crashes.{still_before}
 use Rattle.cs_core.proofs.Going.{same_state}
-use Rattle.cs_core.proofs.Leaving.{LeftBy, left_now}
+use Rattle.cs_core.specs.Prefixes.{IsPrefixOf}
+use Rattle.cs_core.proofs.Leaving.{left_now}
 
 -- ---- what is told
 
@@ -110,8 +111,8 @@ module _ {D : Type 0} (disks : PageDisk D) {v : View D} (core : IsCore disks v) 
   }
 
   pub crash_read : IsWhole v.store.extents → disks.honest v.disk → length (disks.state v.disk).durable ≡ disks.page_count v.disk
-      → ((c : Image) → disks.left_since v.disk (disks.moment v.disk) c → MayLeave (disks.state v.disk) c) → LeavesOnly disks.moment disks.left_since v.disk after (LeftBy v)
+      → ((c : Image) → disks.left_since v.disk (disks.moment v.disk) c → MayLeave (disks.state v.disk) c) → LeavesOnly disks.moment disks.left_since v.disk after (IsPrefixOf v)
   crash_read whole there long only_now =
       let here = left_now disks core whole there long in
-      still_before disks.state disks.moment disks.left_since v.disk after (LeftBy v) here only_now (reads.time there)
-      (subst (λ (d : DiskState). Leaves d (LeftBy v)) (sym (reads.same there)) here)
+      still_before disks.state disks.moment disks.left_since v.disk after (IsPrefixOf v) here only_now (reads.time there)
+      (subst (λ (d : DiskState). Leaves d (IsPrefixOf v)) (sym (reads.same there)) here)

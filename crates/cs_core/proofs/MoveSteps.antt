@@ -10,7 +10,7 @@ use Rattle.cs_refusal.specs.declared.refusals.Refusal.TheVariants as code
 use Rattle.cs_deps.specs.State.{IsWhole as IsWholeGraph, State as GraphState}
 use Rattle.cs_disk.specs.Disk.{State as DiskState, seen}
 use Rattle.cs_extent.specs.State.{IsWhole, State as ExtentsState, extents_of, shape}
-use Rattle.cs_extent.specs.Worn.{IsFrameWorn}
+use Rattle.cs_extent.specs.Worn.{IsFrameWornBy}
 use Rattle.cs_frame.specs.declared.faults.FormatFault.{FormatFault}
 use Rattle.cs_frame.specs.declared.faults.FormatFault.TheVariants as fault
 use Rattle.cs_frame.specs.declared.frames.FrameKind.TheVariants.{Chunk}
@@ -38,7 +38,7 @@ use Rattle.law_refinement.proofs.Shapes.{store_format, store_shape}
 use Rattle.law_refinement.specs.Devices.{IsDiskOf, pages_now}
 use Rattle.law_refinement.specs.Parts.{ArePartsOf}
 use Rattle.cs_index.proofs.Living.{nth_in}
-use Rattle.law_refinement.specs.cs_reclaim.Moves.{AnswersMove, AnswersPlace, IsMoved, chunk_frame}
+use Rattle.law_refinement.specs.cs_reclaim.Moves.{AnswersMove, AnswersPlaceBy, IsMoved, chunk_frame}
 use Rattle.cs_frame.specs.declared.identifiers.ShardId.{ShardId}
 use Rattle.cs_core.specs.Reads.{DeclinesOn, MoveAnswers, StepsOn}
 use Rattle.cs_core.specs.States.{IsStateOf}
@@ -135,7 +135,7 @@ module _ (v : Stored) (whole : IsWhole v.extents) (graph : IsWholeGraph v.graph)
       (frame : (view : ℕ → List ℕ) → AreNewest v.graph (seen disk) view → IsFrameIn v.extents view ChunkFrame (as_locator moved.from) payload)
       (sane : (view : ℕ → List ℕ) → AreNewest v.graph (seen disk) view → (d n : ℕ) (from : Place) → FirstLive (index_of v.index) e d n from → fault_in v.extents view Chunk (as_locator from) ≡ None)
       (why : (view : ℕ → List ℕ) → AreNewest v.graph (seen disk) view → (d n : ℕ) (from : Place) (bytes : List ℕ) → FirstLive (index_of v.index) e d n from → IsFrameIn v.extents view ChunkFrame (as_locator from) bytes
-      → (NoPlace (shape v.extents) (extents_of v.extents) ForMove (length (chunk_frame v.extents bytes)) → ⊥) × (IsFrameWorn v.extents ForMove v.graph.staging (length (chunk_frame v.extents bytes)) → ⊥)) where
+      → (NoPlace (shape v.extents) (extents_of v.extents) ForMove (length (chunk_frame v.extents bytes)) → ⊥) × (IsFrameWornBy false v.extents ForMove v.graph.staging (length (chunk_frame v.extents bytes)) → ⊥)) where
     module _ (s : State) (is : IsStateOf v s) (on : IsDiskOf (shape v.extents) (formats_of (shape v.extents)) s disk) where
       view : ℕ → List ℕ
       view = pages_now (shape v.extents) s (seen disk)
@@ -152,7 +152,7 @@ module _ (v : Stored) (whole : IsWhole v.extents) (graph : IsWholeGraph v.graph)
       reads_it : ReadsNow (shape v.extents) (formats_of (shape v.extents)) s moved.from ChunkFrame payload
       reads_it = live_payload v.extents s (seen disk) whole is.sound (found_as_much v.extents s is.parts.world.extents) v.index is.parts.index id moved.from payload has (frame (pages_now (shape v.extents) s (seen disk)) newest)
 
-      reasons : (NoPlace (shape v.extents) (extents_of v.extents) ForMove (length (chunk_frame v.extents payload)) → ⊥) × (IsFrameWorn v.extents ForMove v.graph.staging (length (chunk_frame v.extents payload)) → ⊥)
+      reasons : (NoPlace (shape v.extents) (extents_of v.extents) ForMove (length (chunk_frame v.extents payload)) → ⊥) × (IsFrameWornBy false v.extents ForMove v.graph.staging (length (chunk_frame v.extents payload)) → ⊥)
       reasons = why (pages_now (shape v.extents) s (seen disk)) newest id k moved.from payload moved.first (frame (pages_now (shape v.extents) s (seen disk)) newest)
 
       refuses : (f : Ground) → Refuses (shape v.extents) (formats_of (shape v.extents)) s (MoveOne e) f → ⊥
@@ -189,7 +189,7 @@ module _ (v : Stored) (whole : IsWhole v.extents) (graph : IsWholeGraph v.graph)
       (met : (view : ℕ → List ℕ) → AreNewest v.graph (seen disk) view → (d n : ℕ) (from : Place) → FirstLive (index_of v.index) e d n from
       → IsNoAnswer r ⊎ IsOfFault (fault_in v.extents view Chunk (as_locator from)) r ⊎ ((fault_in v.extents view Chunk (as_locator from) ≡ None) × ((r ≡ code.Full) ⊎ (r ≡ code.WornOut))))
       (why : (view : ℕ → List ℕ) → AreNewest v.graph (seen disk) view → (d n : ℕ) (from : Place) (bytes : List ℕ) → FirstLive (index_of v.index) e d n from → IsFrameIn v.extents view ChunkFrame (as_locator from) bytes
-      → IsNoAnswer r ⊎ IsWhy r (NoPlace (shape v.extents) (extents_of v.extents) ForMove (length (chunk_frame v.extents bytes))) (IsFrameWorn v.extents ForMove v.graph.staging (length (chunk_frame v.extents bytes)))) where
+      → IsNoAnswer r ⊎ IsWhy r (NoPlace (shape v.extents) (extents_of v.extents) ForMove (length (chunk_frame v.extents bytes))) (IsFrameWornBy false v.extents ForMove v.graph.staging (length (chunk_frame v.extents bytes)))) where
     module _ (s : State) (is : IsStateOf v s) (on : IsDiskOf (shape v.extents) (formats_of (shape v.extents)) s disk) where
       newest_r : AreNewest v.graph (seen disk) (pages_now (shape v.extents) s (seen disk))
       newest_r = newest_there v whole graph disk size s is on
@@ -248,10 +248,10 @@ module _ (v : Stored) (whole : IsWhole v.extents) (graph : IsWholeGraph v.graph)
             (λ (chunk : (payload : List ℕ) × ReadsNow (shape v.extents) (formats_of (shape v.extents)) s first.2 ChunkFrame payload). chunk)
             (is.sound.gives.holds first.0 first.2 (nth_in (live_at (index_now s) first.0) first.1 first.2 first.3.there))
 
-        reason : IsWhy r (NoPlace (shape v.extents) (extents_of v.extents) ForMove (length (chunk_frame v.extents payload_there.0))) (IsFrameWorn v.extents ForMove v.graph.staging (length (chunk_frame v.extents payload_there.0)))
+        reason : IsWhy r (NoPlace (shape v.extents) (extents_of v.extents) ForMove (length (chunk_frame v.extents payload_there.0))) (IsFrameWornBy false v.extents ForMove v.graph.staging (length (chunk_frame v.extents payload_there.0)))
         reason = ⊎_elim
             (λ (none : IsNoAnswer r). absurd (not_answer r place none))
-            (λ (is_why : IsWhy r (NoPlace (shape v.extents) (extents_of v.extents) ForMove (length (chunk_frame v.extents payload_there.0))) (IsFrameWorn v.extents ForMove v.graph.staging (length (chunk_frame v.extents payload_there.0)))). is_why)
+            (λ (is_why : IsWhy r (NoPlace (shape v.extents) (extents_of v.extents) ForMove (length (chunk_frame v.extents payload_there.0))) (IsFrameWornBy false v.extents ForMove v.graph.staging (length (chunk_frame v.extents payload_there.0)))). is_why)
             (why (pages_now (shape v.extents) s (seen disk)) newest_r first.0 first.1 first.2 payload_there.0 found (frame_read v.extents s is.parts.world.extents (seen disk) whole is.sound first.2 payload_there.0 payload_there.1))
 
         full_there : NoRoomToMove (shape v.extents) (formats_of (shape v.extents)) s e ↔ NoPlace (shape v.extents) (extents_of v.extents) ForMove (length (chunk_frame v.extents payload_there.0))
@@ -260,7 +260,7 @@ module _ (v : Stored) (whole : IsWhole v.extents) (graph : IsWholeGraph v.graph)
         full_step : r ≡ code.Full → Step (shape v.extents) (formats_of (shape v.extents)) s (MoveOne e) (Refused Full) s
         full_step full =
             let none : NoPlace (shape v.extents) (extents_of v.extents) ForMove (length (chunk_frame v.extents payload_there.0))
-            = subst (λ (q : Code). IsWhy q (NoPlace (shape v.extents) (extents_of v.extents) ForMove (length (chunk_frame v.extents payload_there.0))) (IsFrameWorn v.extents ForMove v.graph.staging (length (chunk_frame v.extents payload_there.0)))) full reason in (
+            = subst (λ (q : Code). IsWhy q (NoPlace (shape v.extents) (extents_of v.extents) ForMove (length (chunk_frame v.extents payload_there.0))) (IsFrameWornBy false v.extents ForMove v.graph.staging (length (chunk_frame v.extents payload_there.0)))) full reason in (
               inl (full_before (shape v.extents) (formats_of (shape v.extents)) s e (runs_on s is) (marked_not s is) together (undamaged s is first.0 first.1 first.2 first.3 chunk_whole)
                   (λ nothing. some (none_here s is nothing)) (full_there.1 none)),
               refl,
@@ -268,8 +268,8 @@ module _ (v : Stored) (whole : IsWhole v.extents) (graph : IsWholeGraph v.graph)
 
         worn_step : r ≡ code.WornOut → Step (shape v.extents) (formats_of (shape v.extents)) s (MoveOne e) (Refused WornOut) s
         worn_step worn =
-            let both : (NoPlace (shape v.extents) (extents_of v.extents) ForMove (length (chunk_frame v.extents payload_there.0)) → ⊥) × IsFrameWorn v.extents ForMove v.graph.staging (length (chunk_frame v.extents payload_there.0))
-            = subst (λ (q : Code). IsWhy q (NoPlace (shape v.extents) (extents_of v.extents) ForMove (length (chunk_frame v.extents payload_there.0))) (IsFrameWorn v.extents ForMove v.graph.staging (length (chunk_frame v.extents payload_there.0)))) worn reason in
+            let both : (NoPlace (shape v.extents) (extents_of v.extents) ForMove (length (chunk_frame v.extents payload_there.0)) → ⊥) × IsFrameWornBy false v.extents ForMove v.graph.staging (length (chunk_frame v.extents payload_there.0))
+            = subst (λ (q : Code). IsWhy q (NoPlace (shape v.extents) (extents_of v.extents) ForMove (length (chunk_frame v.extents payload_there.0))) (IsFrameWornBy false v.extents ForMove v.graph.staging (length (chunk_frame v.extents payload_there.0)))) worn reason in
             let would_pass : WouldPass (shape v.extents) (formats_of (shape v.extents)) s (MoveOne e)
             = (move_worn v.extents v.graph v.index s whole is.parts e first.0 first.1 first.2 payload_there.0 found payload_there.1 is.sound is.bounded together (marked_there s is) chunk_whole both.0).1 both.1 in (
               inl (worn_before (shape v.extents) (formats_of (shape v.extents)) s e (runs_on s is) (marked_not s is) together (undamaged s is first.0 first.1 first.2 first.3 chunk_whole)
@@ -301,7 +301,7 @@ module _ (v : Stored) (whole : IsWhole v.extents) (graph : IsWholeGraph v.graph)
       → ((view : ℕ → List ℕ) → AreNewest v.graph (seen disk) view → (d n : ℕ) (from : Place) → FirstLive (index_of v.index) e d n from
       → AnswersMove (fault_in v.extents view Chunk (as_locator from)) result)
       → ((view : ℕ → List ℕ) → AreNewest v.graph (seen disk) view → (d n : ℕ) (from : Place) (payload : List ℕ) → FirstLive (index_of v.index) e d n from
-      → IsFrameIn v.extents view ChunkFrame (as_locator from) payload → AnswersPlace v.extents v.graph.staging payload result)
+      → IsFrameIn v.extents view ChunkFrame (as_locator from) payload → AnswersPlaceBy false v.extents v.graph.staging payload result)
       → IfErr result (λ r. IsReadRefusal r ⊎ (r ≡ code.Full) ⊎ (r ≡ code.WornOut))
       → OnErr result (j ≡ record v.index { room = j.room }) → OnErr result (y ≡ v.extents) → OnErr result (h ≡ record v.graph { room = h.room }) → shape y ≡ shape v.extents
       → MoveAnswers v disk e result (record v { extents = y; graph = h; index = j })

@@ -8,7 +8,7 @@ use Rattle.cs_refusal.specs.declared.refusals.Refusal.{Refusal as Code}
 use Rattle.cs_refusal.specs.declared.refusals.Refusal.TheVariants as code
 use Rattle.cs_deps.specs.State.{IsWhole as IsWholeGraph, State as GraphState}
 use Rattle.cs_disk.specs.Disk.{State as DiskState, seen}
-use Rattle.cs_extent.specs.Frames.{AreResetsStaged}
+use Rattle.cs_extent.specs.Appended.{IsReady}
 use Rattle.cs_extent.specs.State.{IsWhole, State as ExtentsState, extents_of, shape}
 use Rattle.cs_frame.specs.declared.frames.FrameKind.TheVariants.{Chunk}
 use Rattle.cs_frame.specs.declared.identifiers.ShardId.{ShardId}
@@ -99,7 +99,7 @@ stays_roomed true i j stays = same_index i j stays
 -- ---- what is kept
 
 module _ (v : Stored) (kept : IsKept v) (e : ℕ) (marks : (extents_of v.extents).swept e ≡ true) (y : ExtentsState) (h : GraphState) (j : IndexState) (after : List Copy)
-    (resets : AreResetsStaged (extents_of y) h.staging) (families : length h.staging.latest ≡ length v.graph.staging.latest) (same : shape y ≡ shape v.extents)
+    (ready : IsReady y h.staging) (same : shape y ≡ shape v.extents)
     (format : j.format ≡ v.index.format) (limit : j.limit ≡ v.index.limit) where
   pub kept_moved_by : (b : Bool) → (shape v.extents).apart ≡ b → (b ≡ true → AreInOrder after) → (b ≡ true → AllUpTo (index_of j) after e) → (result : Result (Option (ShardId × ℕ)) Code)
       → ChangesNothing v.index v.extents v.graph v.copies j y h after result → MovesNext b v.index v.extents v.graph v.copies e j y h after result
@@ -107,12 +107,12 @@ module _ (v : Stored) (kept : IsKept v) (e : ℕ) (marks : (extents_of v.extents
       → IsKept (record v { extents = y; graph = h; index = j; copies = after })
   kept_moved_by false rule order up_to result unchanged moved refused stay unwritten unstaged =
       subst (λ (cs : List Copy). IsKept (record v { extents = y; graph = h; index = j; copies = cs })) (sym (copies_stay v.index v.extents v.graph v.copies e j y h after result unchanged moved stay))
-      (kept_moved v kept rule e y h j resets families same format limit result
+      (kept_moved v kept rule e y h j ready same format limit result
       (nothing_before v.index v.extents v.graph v.copies e j y h after result unchanged) (moved_before v.index v.extents v.graph v.copies e j y h after result unchanged moved) refused unwritten unstaged)
   kept_moved_by true rule order up_to result unchanged moved refused stay unwritten unstaged =
       let index = index_stays v.index v.extents v.graph v.copies e j y h after result unchanged moved refused in
       subst (λ (k : IndexState). IsKept (record v { extents = y; graph = h; index = k; copies = after })) (sym index)
-      (kept_copied v kept rule e marks y h after resets families same (order refl) (subst (λ (k : IndexState). AllUpTo (index_of k) after e) index (up_to refl)) result
+      (kept_copied v kept rule e marks y h after ready same (order refl) (subst (λ (k : IndexState). AllUpTo (index_of k) after e) index (up_to refl)) result
       (nothing_apart v.index v.extents v.graph v.copies e j y h after result unchanged) (copied_apart v.index v.extents v.graph v.copies e j y h after result unchanged moved) stay unwritten unstaged)
 
 -- ---- what is answered

@@ -2,8 +2,8 @@
 use Rattle.std.proofs.Common.{◌≡◌, ◌≢◌, ◌∙◌, ℕ, ◌+◌, ◌<◌, ◌≤◌, List, [], Result, Ok, Err, OnOk, arith, subst, sym}
 use Rattle.cs_disk.specs.declared.disk.PageDisk.{Ghosts as PageDisk}
 use Rattle.cs_frame.specs.Roots.{SpellsRoot}
-use Rattle.cs_core.specs.Started.{TakesNew}
-use Rattle.cs_core.proofs.Heads.{head_apart, head_not_root, head_page}
+use Rattle.cs_core.specs.Started.{TakesNew, head_page}
+use Rattle.cs_core.proofs.Heads.{head_apart, head_not_root}
 
 module _ {D : Type 0} (disks : PageDisk D) (format extents pages sections : ℕ) where
   -- a section was written

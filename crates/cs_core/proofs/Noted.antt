@@ -2,7 +2,7 @@
 use Rattle.std.proofs.Common.{◌≡◌, ⊎_elim, ◌∙◌, ℕ, zero, suc, ◌<◌, ◌≤◌, List, [], ◌∷◌, ◌++◌, refl, sym, ap, subst, arith}
 use Rattle.std.specs.Prelude.{Contains, slice_index_or}
 use Rattle.std.proofs.lemmas.List.Elements.{Contains-append_cases, Contains-append_right}
-use Rattle.cs_core.specs.declared.roots.Root.{Root}
+use Rattle.cs_core.specs.declared.histories.Root.{Root}
 use Rattle.cs_core.specs.Frontiers.{AreNoted, AreRising, LetsGo}
 
 -- ---- roots that rise

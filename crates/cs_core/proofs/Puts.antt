@@ -1,6 +1,6 @@
 -- A put is a step of the machine.
 use Rattle.std.proofs.Common.{◌≡◌, ◌⊎◌, inl, inr, ⊎_elim, ℕ, suc, ◌+◌, ◌*◌, ◌^◌, ◌<◌, ◌≤◌, Bool, true, false, List, [], ◌∷◌, Some, Ok, Err, length, map, refl, sym, ap, ◌∙◌, subst, arith}
-use Rattle.std.specs.Prelude.{◌↔◌}
+use Rattle.std.specs.Prelude.{◌↔◌, IsTrue}
 use Rattle.cs_refusal.specs.declared.refusals.Refusal.{Refusal as Code}
 use Rattle.cs_refusal.specs.declared.refusals.Refusal.TheVariants as code
 use Rattle.cs_deps.specs.State.{State as GraphState}
@@ -13,6 +13,8 @@ use Rattle.cs_index.specs.State.{IsSet, State as IndexState, index_of}
 use Rattle.law_machine.specs.Append.{chunk_frames, page_counts}
 use Rattle.law_machine.specs.Device.{Shape}
 use Rattle.law_machine.specs.Element.{Locator}
+use Rattle.cs_reader.proofs.Loading.{no_heavier}
+use Rattle.law_machine.proofs.Chunks.{chunked_there}
 use Rattle.law_machine.proofs.Payloads.{payloads_length}
 use Rattle.law_machine.specs.Events.{ArePayloads, Chunked, Does}
 use Rattle.law_machine.specs.Extents.{FitsBy, ForPut, Purpose}
@@ -61,6 +63,27 @@ light_placed b x y g h i j id command bytes cs ls are all light roomed =
     ∙ frames_length (shape x) (formats_of (shape x)) cs ∙ payloads_length (shape x) (formats_of (shape x)) id command bytes cs are in
     subst (λ (k : IndexState). weight_with (weigh_in k.format) (index_of k) id (length ls) ≤ k.limit) (sym roomed)
     (subst (λ (n : ℕ). weight_with (weigh_in i.format) (index_of i) id n ≤ i.limit) (sym many) (light are.0 are.1))
+
+-- the pieces of a put are as many as were weighed
+module _ (S : Shape) (index : IndexState) (id count : ℕ) (bytes : List ℕ) (counts : (pieces : List (List ℕ)) → Chunked S.chunk_bytes bytes pieces → length pieces ≡ count) where
+  abbrev weight : ℕ → ℕ
+  weight n = weight_with (weigh_in index.format) (index_of index) id n
+
+  pub too_heavy : 0 < S.chunk_bytes → index.limit < weight count → IsTooHeavy S index id bytes
+  too_heavy some over =
+      let pieces = chunked_there S.chunk_bytes bytes some in
+      (pieces.0, pieces.1, subst (λ (n : ℕ). index.limit < weight n) (sym (counts pieces.0 pieces.1)) over)
+
+  module _ (fits : index.limit < weight count → ⊥) where
+    pub not_heavy : IsTooHeavy S index id bytes → ⊥
+    not_heavy heavy = fits (subst (λ (n : ℕ). index.limit < weight n) (counts heavy.0 heavy.1) heavy.2)
+
+    pub light_enough : (pieces : List (List ℕ)) → Chunked S.chunk_bytes bytes pieces → weight (length pieces) ≤ index.limit
+    light_enough pieces cut = subst (λ (n : ℕ). weight n ≤ index.limit) (sym (counts pieces cut)) (no_heavier index.limit (weight count) fits)
+
+-- a test that failed
+pub told_false : {P : Type 0} → IsTrue false ↔ P → P → ⊥
+told_false told p = let wrong : false ≡ true = told.1 p in cc wrong
 
 -- ---- one step
 
@@ -240,14 +263,12 @@ module _ (v w : Stored) (whole : IsWhole v.extents) (b : Bool) (rule : (shape v.
       inr (IndexFull, e, λ s is. (s, put_index v s whole is b rule id bytes limit format runs i.0 i.1, same_state v w s is same))
 
   module _ (small : IsLarge → ⊥) (light : IsTooHeavy (shape v.extents) v.index id bytes → ⊥) where
-    pub chunks_decline : (r ≡ code.TooLarge) ⊎ (r ≡ code.Full) ⊎ (r ≡ code.WornOut) ⊎ (r ≡ code.OutOfMemory) → (r ≡ code.TooLarge → IsLarge) → (r ≡ code.Full → (IsLarge → ⊥) × NoneFits) → (r ≡ code.WornOut → (IsLarge → ⊥) × IsOut)
-        → Declines v (Put id bytes) r w
-    chunks_decline (inl e) large full worn = absurd (small (large e))
-    chunks_decline (inr (inl e)) large full worn = inr (Full, e, λ s is. (s, put_no_room v s whole is b rule id bytes limit format runs small light (full e).1, same_state v w s is same))
-    chunks_decline (inr (inr (inl e))) large full worn =
-        let out = (worn e).1 in
+    pub chunks_decline : (r ≡ code.Full) ⊎ (r ≡ code.WornOut) ⊎ (r ≡ code.OutOfMemory) → (r ≡ code.Full → NoneFits) → (r ≡ code.WornOut → IsOut) → Declines v (Put id bytes) r w
+    chunks_decline (inl e) full worn = inr (Full, e, λ s is. (s, put_no_room v s whole is b rule id bytes limit format runs small light (full e), same_state v w s is same))
+    chunks_decline (inr (inl e)) full worn =
+        let out = worn e in
         inr (WornOut, e, λ s is. (s, put_worn_out v s whole is b rule id bytes limit format runs small light (λ none. none out.0 out.1 out.2) out, same_state v w s is same))
-    chunks_decline (inr (inr (inr e))) large full worn = inl e
+    chunks_decline (inr (inr e)) full worn = inl e
 
     pub last_declines : 2 ^ 63 ≤ v.base + v.accepted + 1 → IsWhyWorn v.extents bytes r → Declines v (Put id bytes) r w
     last_declines last why = go r refl why

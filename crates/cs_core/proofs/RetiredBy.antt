@@ -5,7 +5,8 @@ use Rattle.cs_refusal.specs.declared.refusals.Refusal.{Refusal as Code}
 use Rattle.cs_refusal.specs.declared.refusals.Refusal.TheVariants as code
 use Rattle.cs_deps.specs.Staging.{IsKept as AreKept}
 use Rattle.cs_deps.specs.State.{State as GraphState}
-use Rattle.cs_extent.specs.Frames.{AreResetsStaged, root_family}
+use Rattle.cs_extent.specs.Appended.{IsReady}
+use Rattle.cs_extent.specs.Frames.{root_family}
 use Rattle.cs_extent.specs.State.{IsWhole, State as ExtentsState, extents_of, shape}
 use Rattle.cs_index.specs.State.{State as IndexState, index_of}
 use Rattle.law_machine.specs.Element.{Copy}
@@ -13,11 +14,11 @@ use Rattle.law_machine.specs.Extents.{ForMove}
 use Rattle.law_machine.specs.Index.{live_at}
 use Rattle.law_machine.specs.State.{Retire, Retired}
 use Rattle.law_refinement.specs.cs_reclaim.ByRule.{IsRetireExactBy, IsRetiredBy, NothingToMoveBy}
-use Rattle.cs_core.specs.declared.roots.Root.{Root as Noted}
+use Rattle.cs_core.specs.declared.histories.Root.{Root as Noted}
 use Rattle.cs_core.specs.Puts.{MeansTheSame}
 use Rattle.cs_core.specs.Steps.{Declines, Steps}
 use Rattle.cs_core.specs.Stored.{AreSwept, IsKept, IsKeptApart, AreInside, KeepsDevice, Stored, but_for_room}
-use Rattle.cs_core.proofs.Kept.{inside_live, kept_on, moves_retired, noted_staged, swept_retired}
+use Rattle.cs_core.proofs.Kept.{inside_live, kept_on, moves_retired, noted_staged, root_there, swept_retired}
 use Rattle.cs_core.proofs.KeptStages.{kept_together, retired_adds, retired_inside, retired_kept, retired_means, retired_moves, retired_swept}
 use Rattle.cs_core.proofs.Moves.{AddsRoot, root_merged}
 use Rattle.cs_core.proofs.PutsMeant.{live_means}
@@ -57,7 +58,7 @@ module _ (i : IndexState) (x : ExtentsState) (g : GraphState) (copies : List Cop
 -- ---- what is kept
 
 module _ (v : Stored) (kept : IsKept v) (y : ExtentsState) (h : GraphState) (j : IndexState) (after : List Copy) (roots : List Noted)
-    (resets : AreResetsStaged (extents_of y) h.staging) (families : length h.staging.latest ≡ length v.graph.staging.latest) (format : j.format ≡ v.index.format) (limit : j.limit ≡ v.index.limit) where
+    (ready : IsReady y h.staging) (format : j.format ≡ v.index.format) (limit : j.limit ≡ v.index.limit) where
   abbrev store_then : Stored
   store_then = record v { extents = y; graph = h; out = h.round; index = j; copies = after; roots = roots }
 
@@ -66,12 +67,12 @@ module _ (v : Stored) (kept : IsKept v) (y : ExtentsState) (h : GraphState) (j :
       → IsRetiredBy b v.index v.extents v.graph v.copies e n commands j y h after → roots ≡ v.roots ++ record { version = n; commands = v.accepted } ∷ [] → IsKept store_then
   kept_retired_by b rule whole graph e n commands marks same map done noted =
       let m = retired_moves_by v.index v.extents v.graph v.copies e n commands j y h after b done whole.geometry.fewest_sections same in
-      kept_on v store_then kept m resets families format limit
+      kept_on v store_then kept m ready format limit
       (retired_inside_by v.index v.extents v.graph v.copies e n commands j y h after kept.apart map b rule done kept.places) (m.round ∙ sym kept.round) refl kept.numbers
       (retired_swept_by v.index v.extents v.graph v.copies e n commands j y h after kept.apart map whole same marks b rule done kept.swept)
       (retired_kept_by v.index v.extents v.graph v.copies e n commands j y h after kept.apart map whole same marks b rule done)
       (noted_staged v kept graph h n
-      (retired_adds_by v.index v.extents v.graph v.copies e n commands j y h after b done (omega (arith, families, kept.families, whole.geometry.fewest_sections))) roots noted)
+      (retired_adds_by v.index v.extents v.graph v.copies e n commands j y h after b done (root_there v.extents y h.staging whole same ready)) roots noted)
 
 -- ---- what is answered
 

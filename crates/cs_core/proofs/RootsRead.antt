@@ -8,7 +8,7 @@ use Rattle.law_machine.specs.Lists.{◌∈◌}
 use Rattle.law_machine.specs.Open.{opened_state, root_read, superblocks_read}
 use Rattle.law_machine.specs.Recovery.{Recovers}
 use Rattle.law_machine.specs.State.{State}
-use Rattle.cs_core.specs.declared.roots.Root.{Root as Noted}
+use Rattle.cs_core.specs.declared.histories.Root.{Root as Noted}
 use Rattle.cs_core.specs.States.{AreRootsOf}
 
 module _ (S : Shape) (F : Formats) (img : ℕ → Page) (n : ℕ) (m : Map) (found : Recovers S F img n m) where

@@ -34,7 +34,7 @@ use Rattle.law_refinement.proofs.Keeping.{ended as keeps_ended, members_named}
 use Rattle.law_refinement.proofs.RoundsOut.{begin, nothing}
 use Rattle.law_refinement.proofs.Shapes.{store_format, store_shape}
 use Rattle.cs_core.specs.declared.events.Event.TheVariants as asked
-use Rattle.cs_core.specs.declared.roots.Root.{Root as Noted}
+use Rattle.cs_core.specs.declared.histories.Root.{Root as Noted}
 use Rattle.cs_core.specs.Frontiers.{AreNoted, LetsGo}
 use Rattle.cs_core.specs.States.{AreRootsOf, IsStateOf}
 use Rattle.cs_core.specs.Rounds.{EndAnswers, IssueAnswers}

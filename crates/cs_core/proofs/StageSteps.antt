@@ -32,7 +32,7 @@ use Rattle.law_refinement.proofs.Indexes.{looked_up, none_too, nothing_live}
 use Rattle.law_refinement.proofs.RefusedStages.{no_room_to_stage, retire_full, retire_worn, stage_worn}
 use Rattle.law_refinement.specs.Parts.{ArePartsOf}
 use Rattle.law_refinement.specs.cs_reclaim.Retired.{IsRetireFull, IsRetireWorn, IsRetired}
-use Rattle.cs_core.specs.declared.roots.Root.{Root as Noted}
+use Rattle.cs_core.specs.declared.histories.Root.{Root as Noted}
 use Rattle.cs_core.specs.States.{AreRootsOf, IsStateOf}
 use Rattle.cs_core.specs.Steps.{Declines, Steps}
 use Rattle.cs_core.specs.Stored.{Stored, but_for_room}

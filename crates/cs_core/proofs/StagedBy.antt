@@ -3,7 +3,8 @@ use Rattle.std.proofs.Common.{◌≡◌, ◌≢◌, ◌⊎◌, inl, inr, ⊎_eli
 use Rattle.cs_refusal.specs.declared.refusals.Refusal.{Refusal as Code}
 use Rattle.cs_deps.specs.Staging.{IsKept as AreKept}
 use Rattle.cs_deps.specs.State.{State as GraphState}
-use Rattle.cs_extent.specs.Frames.{AreResetsStaged, root_family}
+use Rattle.cs_extent.specs.Appended.{IsReady}
+use Rattle.cs_extent.specs.Frames.{root_family}
 use Rattle.cs_extent.specs.State.{IsWhole, State as ExtentsState, extents_of, shape}
 use Rattle.cs_index.specs.Merges.{deletions_go, stage_takes}
 use Rattle.cs_index.specs.Staged.{IsWhy}
@@ -13,10 +14,10 @@ use Rattle.law_machine.specs.Extents.{ForRun}
 use Rattle.law_machine.specs.Index.{live_at}
 use Rattle.law_machine.specs.State.{Stage, Staged, Unchanged}
 use Rattle.law_refinement.specs.cs_reclaim.ByRule.{IsSweepStageFullBy, IsSweepStageWornBy, IsSweepStagedBy, MayStageBy, is_left_over_by}
-use Rattle.cs_core.specs.declared.roots.Root.{Root as Noted}
+use Rattle.cs_core.specs.declared.histories.Root.{Root as Noted}
 use Rattle.cs_core.specs.Steps.{Declines, Steps}
 use Rattle.cs_core.specs.Stored.{AreSwept, IsKept, IsKeptApart, KeepsDevice, Stored, but_for_room}
-use Rattle.cs_core.proofs.Kept.{inside_live, kept_on, noted_staged, swept_newest}
+use Rattle.cs_core.proofs.Kept.{inside_live, kept_on, noted_staged, root_there, swept_newest}
 use Rattle.cs_core.proofs.KeptStages.{kept_together, swept_adds, swept_kept, swept_moves, swept_still, swept_table}
 use Rattle.cs_core.proofs.Moves.{AddsRoot, moves_newest, root_newest}
 use Rattle.cs_core.proofs.StagesApart.{stage_apart_declines, stage_apart_none, stage_apart_steps}
@@ -49,19 +50,19 @@ module _ (i : IndexState) (x : ExtentsState) (g : GraphState) (copies : List Cop
 -- ---- what is kept
 
 module _ (v : Stored) (kept : IsKept v) (y : ExtentsState) (h : GraphState) (j : IndexState) (after : List Copy) (roots : List Noted)
-    (resets : AreResetsStaged (extents_of y) h.staging) (families : length h.staging.latest ≡ length v.graph.staging.latest) (format : j.format ≡ v.index.format) (limit : j.limit ≡ v.index.limit) where
+    (ready : IsReady y h.staging) (format : j.format ≡ v.index.format) (limit : j.limit ≡ v.index.limit) where
   pub kept_staged_by : (b : Bool) → (shape v.extents).apart ≡ b → (whole : IsWhole v.extents) → AreKept v.graph.staging → (n commands : ℕ) → shape y ≡ shape v.extents
       → ((id : ℕ) → live_at (index_of j) id ≡ live_at (index_of v.index) id)
       → IsSweepStagedBy b v.index v.extents v.graph v.copies n commands j y h after → roots ≡ v.roots ++ record { version = n; commands = v.accepted } ∷ []
       → IsKept (record v { extents = y; graph = h; out = h.round; index = j; copies = after; roots = roots })
   kept_staged_by b rule whole graph n commands same map done noted =
       let m = staged_moves_by v.index v.extents v.graph v.copies n commands j y h after b done whole.geometry.fewest_sections in
-      kept_on v (record v { extents = y; graph = h; out = h.round; index = j; copies = after; roots = roots }) kept m resets families format limit
+      kept_on v (record v { extents = y; graph = h; out = h.round; index = j; copies = after; roots = roots }) kept m ready format limit
       (inside_live (shape v.extents) v.index j kept.places map) (m.round ∙ sym kept.round) refl kept.numbers
       (staged_swept_by v.index v.extents v.graph v.copies n commands j y h after b rule done kept.swept)
       (staged_kept_by v.index v.extents v.graph v.copies n commands j y h after b rule whole same done kept.swept kept.apart)
       (noted_staged v kept graph h n
-      (staged_adds_by v.index v.extents v.graph v.copies n commands j y h after b done (omega (arith, families, kept.families, whole.geometry.fewest_sections))) roots noted)
+      (staged_adds_by v.index v.extents v.graph v.copies n commands j y h after b done (root_there v.extents y h.staging whole same ready)) roots noted)
 
 -- ---- what is answered
 

@@ -35,7 +35,7 @@ use Rattle.law_refinement.proofs.RefusedRetires.{idle, may_stage, retire_full, r
 use Rattle.law_refinement.proofs.RefusedSweeps.{nothing_left}
 use Rattle.law_refinement.proofs.StagesApart.{retire, stage}
 use Rattle.law_refinement.specs.Copying.{AreAllPartsOf}
-use Rattle.cs_core.specs.declared.roots.Root.{Root as Noted}
+use Rattle.cs_core.specs.declared.histories.Root.{Root as Noted}
 use Rattle.cs_core.specs.States.{IsStateOf}
 use Rattle.cs_core.specs.Steps.{Declines, Steps}
 use Rattle.cs_core.specs.Stored.{Stored, but_for_room}

@@ -32,13 +32,12 @@ use Rattle.law_refinement.proofs.StartedNew.{new_started}
 use Rattle.law_refinement.specs.Devices.{IsDiskOf}
 use Rattle.cs_core.specs.declared.events.Event.{Event}
 use Rattle.cs_core.specs.declared.events.Reply.{Reply}
-use Rattle.cs_core.specs.declared.roots.Root.{Root as Noted}
+use Rattle.cs_core.specs.declared.histories.Root.{Root as Noted}
 use Rattle.cs_core.specs.Puts.{ArePutsMeant}
-use Rattle.cs_core.specs.Started.{AreFirstNew, AreNew, IsNewOn, IsNewSection, new_stored}
+use Rattle.cs_core.specs.Started.{AreFirstNew, AreNew, IsNewOn, IsNewSection, new_stored, head_page, SpellsNew}
 use Rattle.cs_core.specs.States.{IsStateOf}
 use Rattle.cs_core.specs.Stored.{IsKept, Stored, but_for_room}
 use Rattle.cs_core.specs.Views.{IsCore, IsReached}
-use Rattle.cs_core.proofs.Heads.{head_page}
 use Rattle.cs_core.proofs.Noted.{noted_alone}
 use Rattle.cs_core.proofs.RootsRead.{noted, read_alone}
 use Rattle.cs_reader.proofs.SectionReads.{in_push}
@@ -51,8 +50,10 @@ all_default (suc n) (suc e) d = all_default n e d
 
 pub kept_new : (format extents pages sections : ℕ) → 1 ≤ sections → IsKept (new_stored format extents pages sections)
 kept_new format extents pages sections some = record {
-  families = omega (arith, length-by_family (replicate sections 1) 1, length-replicate {A = ℕ} sections 1);
-  resets = λ e. let none : slice_index (replicate (length (replicate {A = ℕ × ℕ} extents (0, 0))) 0) e ≡ 0 = all_default (length (replicate {A = ℕ × ℕ} extents (0, 0))) e 0 in omega (arith, none);
+  ready = record {
+    families = omega (arith, length-by_family (replicate sections 1) 1, length-replicate {A = ℕ} sections 1);
+    resets = λ e. let none : slice_index (replicate (length (replicate {A = ℕ × ℕ} extents (0, 0))) 0) e ≡ 0 = all_default (length (replicate {A = ℕ × ℕ} extents (0, 0))) e 0 in omega (arith, none);
+  };
   writes = λ x w kept. let clash : None ≡ Some w = kept in absurd (cc clash);
   format = refl;
   limit = refl;
@@ -226,7 +227,7 @@ none_new format extents pages sections = record { counted = refl; each = λ k it
 -- its page spells it so
 pub spelled_new : (format extents pages sections section : ℕ) (it : Superblock) → IsNewSection format extents pages sections section it → (bytes : List ℕ)
     → SpellsSuperblock bytes it.format it.version it.recorded it.extent_count it.pages it.sections it.section it.extents.items
-    → SpellsSuperblock bytes format 1 0 extents pages sections section (replicate (section_length extents sections section) (0, 0))
+    → SpellsNew format extents pages sections section bytes
 spelled_new format extents pages sections section it new_one bytes spelled =
     let at = new_one.section_at in
     let rows : List (ℕ × ℕ) = replicate (section_length extents sections section) (0, 0) in
@@ -241,10 +242,10 @@ spelled_new format extents pages sections section it new_one bytes spelled =
 
 -- what was written of a section, by its number
 pub moved_section : (format extents pages sections section k : ℕ) → section ≡ k → (old new : DiskState)
-    → (bytes : List ℕ) × SpellsSuperblock bytes format 1 0 extents pages sections section (replicate (section_length extents sections section) (0, 0)) × (new ≡ written old (head_page extents pages section) bytes)
-    → (bytes : List ℕ) × SpellsSuperblock bytes format 1 0 extents pages sections k (replicate (section_length extents sections k) (0, 0)) × (new ≡ written old (head_page extents pages k) bytes)
+    → (bytes : List ℕ) × SpellsNew format extents pages sections section bytes × (new ≡ written old (head_page extents pages section) bytes)
+    → (bytes : List ℕ) × SpellsNew format extents pages sections k bytes × (new ≡ written old (head_page extents pages k) bytes)
 moved_section format extents pages sections section k same old new wrote = subst
-    (λ (n : ℕ). (bytes : List ℕ) × SpellsSuperblock bytes format 1 0 extents pages sections n (replicate (section_length extents sections n) (0, 0)) × (new ≡ written old (head_page extents pages n) bytes)) same wrote
+    (λ (n : ℕ). (bytes : List ℕ) × SpellsNew format extents pages sections n bytes × (new ≡ written old (head_page extents pages n) bytes)) same wrote
 
 -- one more of them
 pub more_new : (format extents pages sections count : ℕ) (items : List Superblock) (it : Superblock) → AreFirstNew format extents pages sections count items → IsNewSection format extents pages sections count it

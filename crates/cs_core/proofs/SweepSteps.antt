@@ -1,6 +1,6 @@
 -- Marks of sweeps are steps of the machine.
 use Rattle.std.proofs.Common.{◌≡◌, ◌⊎◌, inl, inr, ℕ, ◌<◌, ◌≤◌, Bool, true, false, Ok, Err, refl, sym, ap, ◌∙◌, subst, arith}
-use Rattle.std.specs.Prelude.{◌↔◌, IfErr, MatchBool, MatchOption, None, OnErr, OnOk, Option, Result, Some, is_some}
+use Rattle.std.specs.Prelude.{◌↔◌, IfErr, OnErr, OnOk, Result}
 use Rattle.std.proofs.lemmas.Bool.{cases_Bool, false_from_ne_true}
 use Rattle.cs_refusal.specs.declared.refusals.Refusal.{Refusal as Code}
 use Rattle.cs_refusal.specs.declared.refusals.Refusal.TheVariants as code
@@ -18,7 +18,7 @@ use Rattle.law_refinement.proofs.CallsApart.{begin_sweep}
 use Rattle.law_refinement.proofs.RefusedRounds.{begin_sweep_refused}
 use Rattle.law_refinement.proofs.RefusedSweeps.{begin_refused}
 use Rattle.law_refinement.specs.Copying.{AreAllPartsOf}
-use Rattle.law_refinement.specs.cs_reclaim.Sweeps.{IsNotSweepable}
+use Rattle.law_refinement.specs.cs_reclaim.Sweeps.{IsMarked, IsNotMarked, IsNotSweepable}
 use Rattle.cs_core.specs.States.{IsStateOf}
 use Rattle.cs_core.specs.Steps.{Answers, Declines, Steps}
 use Rattle.cs_core.specs.Stored.{AreSwept, Stored, but_for_room}
@@ -36,17 +36,12 @@ pub unswept : (x : ExtentsState) (e : ℕ) → AreSwept x → ((shape x).extents
 unswept x e swept (inl out) = false_from_ne_true ((extents_of x).swept e) (λ is. let lt : e < (shape x).extents = swept_inside x e swept is in absurd (omega (arith, lt, out)))
 unswept x e swept (inr not) = not
 
--- a sweep is found again by its mark, or it isn't
+-- a sweep goes on at an extent, or it doesn't
 abbrev pub IsFound : ExtentsState → ℕ → Type 0
-IsFound x e = (e < (shape x).extents) × ((extents_of x).swept e ≡ true)
+IsFound x e = IsMarked (shape x) (extents_of x) e
 
 abbrev pub IsGone : ExtentsState → ℕ → Type 0
-IsGone x e = ((shape x).extents ≤ e) ⊎ ((extents_of x).swept e ≡ false)
-
-pub is_resumed : (x : ExtentsState) (e : ℕ) (found : Option ℕ) (told : Bool) → MatchOption found (IsGone x e) (λ s. (s ≡ e) × (e < (shape x).extents) × ((extents_of x).swept e ≡ true)) → told ≡ is_some found
-    → MatchBool told (IsFound x e) (IsGone x e)
-is_resumed x e None told tells is = subst (λ (b : Bool). MatchBool b (IsFound x e) (IsGone x e)) (sym is) tells
-is_resumed x e (Some s) told tells is = subst (λ (b : Bool). MatchBool b (IsFound x e) (IsGone x e)) (sym is) (tells.1, tells.2)
+IsGone x e = IsNotMarked (shape x) (extents_of x) e
 
 -- what a sweep copied is one of the parts too
 pub all_parts : (v : Stored) (s : State) → IsStateOf v s → AreAllPartsOf v.extents v.graph v.index v.copies s
@@ -132,3 +127,12 @@ module _ (v : Stored) (whole : IsWhole v.extents) (runs : v.halted ≡ false) (e
               (frontier_same (shape v.extents) (formats_of (shape v.extents)) s (mark s e false) v.frontier is.frontier (record { roots = refl; persistent = refl; root = refl }) refl)
               (roots_same v.roots s (mark s e false) is.roots (record { roots = refl; persistent = refl; root = refl }) refl),
         )
+
+  -- it is given up, or it wasn't swept
+  pub abandon_answers : {T : Type 0} (result : Result T Code) (y : ExtentsState) → AreSwept v.extents → OnOk result (IsFound v.extents e) → OnOk result (extents_of y ≡ marked (extents_of v.extents) e false)
+      → shape y ≡ shape v.extents → IfErr result (λ r. (r ≡ code.NotSweepable) × IsGone v.extents e) → OnErr result (y ≡ v.extents)
+      → Answers v (Abandon e) (λ _. Abandoned) result (record v { extents = y })
+  abandon_answers (Ok t) y swept found ended same refused unwritten = abandon_steps found.1 y same ended
+  abandon_answers (Err r) y swept found ended same refused unwritten =
+      subst (λ (x : ExtentsState). Declines v (Abandon e) r (record v { extents = x })) (sym unwritten)
+      (subst (λ (q : Code). Declines v (Abandon e) q v) (sym refused.0) (abandon_declines (unswept v.extents e swept refused.1)))

@@ -35,7 +35,7 @@ use Rattle.cs_core.specs.States.{IsStateOf}
 use Rattle.cs_core.specs.Stored.{Stored}
 use Rattle.cs_core.specs.Views.{Applies, IsCore, IsFull, IsIn, IsReached, IsStep, View}
 use Rattle.cs_core.proofs.Crashes.{commands_reached}
-use Rattle.cs_core.proofs.Leaving.{LeftBy}
+use Rattle.cs_core.specs.Prefixes.{IsPrefixOf}
 
 -- ---- some extents of a geometry keep what all extents keep
 
@@ -138,28 +138,28 @@ none_added event m (inr end) = ap (λ (e : Event). command_of (event_of e) m) en
 module _ {D : Type 0} (disks : PageDisk D) where
   -- a core in a state of the machine, over this disk
   torn_in : (v : View D) (s : State) → HasGeometry v.store.extents → IsIn disks.state v s → length (disks.state v.disk).durable ≡ page_total (shape v.store.extents)
-      → (left image : Image) → MayLeave (disks.state v.disk) left → IsTornFrom (shape v.store.extents) (disks.state v.disk) left image → LeftBy v image
+      → (left image : Image) → MayLeave (disks.state v.disk) left → IsTornFrom (shape v.store.extents) (disks.state v.disk) left image → IsPrefixOf v image
   torn_in v s geometry is size left image may torn =
       torn_of (emptied v.store.extents) (emptied_whole v.store.extents geometry) v.store (emptied_shape v.store.extents) v.opened v.history s (disks.state v.disk) left image
       is.reached is.store is.disk size may torn
 
   -- a core, by what each keeps
   pub torn_now : (v : View D) → IsCore disks v → HasGeometry v.store.extents → disks.honest v.disk → length (disks.state v.disk).durable ≡ disks.page_count v.disk
-      → (left image : Image) → MayLeave (disks.state v.disk) left → IsTornFrom (shape v.store.extents) (disks.state v.disk) left image → LeftBy v image
+      → (left image : Image) → MayLeave (disks.state v.disk) left → IsTornFrom (shape v.store.extents) (disks.state v.disk) left image → IsPrefixOf v image
   torn_now v core geometry there long left image may torn = let was = core.legal there in
       torn_in v was.0 geometry was.1 (long ∙ core.device) left image may torn
 
   -- what it holds after an Issue or an End, by the numbers before
   torn_after : (v w : View D) (event : Event) (reply : Reply) → IsCore disks v → HasGeometry v.store.extents → disks.honest v.disk → length (disks.state v.disk).durable ≡ disks.page_count v.disk
       → IsStep disks v event reply w → length (disks.state w.disk).durable ≡ length (disks.state v.disk).durable → (event ≡ Issue) ⊎ (event ≡ End)
-      → (left image : Image) → MayLeave (disks.state w.disk) left → IsTornFrom (shape v.store.extents) (disks.state w.disk) left image → LeftBy v image
+      → (left image : Image) → MayLeave (disks.state w.disk) left → IsTornFrom (shape v.store.extents) (disks.state w.disk) left image → IsPrefixOf v image
   torn_after v w event reply core geometry there long went size quiet left image may torn =
       let was = core.legal there in
       let x = v.store.extents in
       let d = went.step there was.0 was.1 in
       let t : State = d.1 in
       let is_then : IsIn disks.state w t = d.4 in
-      let after : LeftBy w image = torn_of (emptied x) (emptied_whole x geometry) w.store (went.same_shape ∙ emptied_shape x) w.opened w.history t (disks.state w.disk) left image
+      let after : IsPrefixOf w image = torn_of (emptied x) (emptied_whole x geometry) w.store (went.same_shape ∙ emptied_shape x) w.opened w.history t (disks.state w.disk) left image
       is_then.reached is_then.store is_then.disk (size ∙ long ∙ core.device ∙ ap page_total (sym went.same_shape)) may
       (subst (λ (S : Shape). IsTornFrom S (disks.state w.disk) left image) (sym went.same_shape) torn) in
       let on = history_on (shape x) (formats_of (shape x)) was.0 t ((event_of event, d.0) ∷ []) (t, d.3, refl) in
@@ -179,19 +179,19 @@ module _ {D : Type 0} (disks : PageDisk D) where
   -- what the disk holds before the call or after it
   pub torn_within : (v w : View D) (event : Event) (reply : Reply) (disk : DiskState) → IsCore disks v → HasGeometry v.store.extents → disks.honest v.disk → length (disks.state v.disk).durable ≡ disks.page_count v.disk
       → Applies disks v event reply w → IsDiskAfter v.store (disks.state v.disk) event reply (disks.state w.disk) → (disk ≡ disks.state v.disk) ⊎ (disk ≡ disks.state w.disk)
-      → (left image : Image) → MayLeave disk left → IsTornFrom (shape v.store.extents) disk left image → LeftBy v image
+      → (left image : Image) → MayLeave disk left → IsTornFrom (shape v.store.extents) disk left image → IsPrefixOf v image
   torn_within v w event reply disk core geometry there long applied after holds left image may torn = ⊎_elim before (λ then_is. ⊎_elim (full then_is) (step then_is) applied) holds
     where
-      before : disk ≡ disks.state v.disk → LeftBy v image
+      before : disk ≡ disks.state v.disk → IsPrefixOf v image
       before is = torn_now v core geometry there long left image (subst (λ (d : DiskState). MayLeave d left) is may) (subst (λ (d : DiskState). IsTornFrom (shape v.store.extents) d left image) is torn)
 
-      full : disk ≡ disks.state w.disk → IsFull v event reply w → LeftBy v image
+      full : disk ≡ disks.state w.disk → IsFull v event reply w → IsPrefixOf v image
       full is kept = before (is ∙ ap (λ (u : View D). disks.state u.disk) kept.same)
 
-      done : disk ≡ disks.state w.disk → IsStep disks v event reply w → (event ≡ Issue) ⊎ (event ≡ End) → LeftBy v image
+      done : disk ≡ disks.state w.disk → IsStep disks v event reply w → (event ≡ Issue) ⊎ (event ≡ End) → IsPrefixOf v image
       done is went quiet = torn_after v w event reply core geometry there long went (after_size v.store (disks.state v.disk) event reply (disks.state w.disk) after) quiet left image
           (subst (λ (d : DiskState). MayLeave d left) is may) (subst (λ (d : DiskState). IsTornFrom (shape v.store.extents) d left image) is torn)
 
-      step : disk ≡ disks.state w.disk → IsStep disks v event reply w → LeftBy v image
+      step : disk ≡ disks.state w.disk → IsStep disks v event reply w → IsPrefixOf v image
       step is went = ⊎_elim (λ issue. done is went (inl issue)) (λ others. ⊎_elim (λ end. done is went (inr end)) (λ same. before (is ∙ same)) others)
           (after_quiet v.store (disks.state v.disk) event reply (disks.state w.disk) after)

@@ -3,18 +3,16 @@ use Rattle.std.specs.Prelude.{List, [], ◌∷◌, ◌≡◌, ◌≤◌, ◌⊎�
 use Rattle.std.specs.List.{AllByRecursion}
 use Rattle.cs_deps.specs.declared.elements.Element.{Element as Name}
 use Rattle.cs_disk.specs.declared.disk.PageDisk.{Ghosts as PageDisk}
-use Rattle.cs_disk.specs.Disk.{GoesOn, LeavesOnly, page}
-use Rattle.cs_extent.specs.State.{shape}
-use Rattle.law_refinement.specs.Crashes.{IsPrefix}
+use Rattle.cs_disk.specs.Disk.{GoesOn, LeavesOnly}
 use Rattle.cs_core.specs.declared.events.Event.{Event}
 use Rattle.cs_core.specs.declared.events.Event.TheVariants.{Begin, End}
 use Rattle.cs_core.specs.declared.events.Reply.{Reply}
 use Rattle.cs_core.specs.declared.events.Reply.TheVariants.{Begun, Ended}
 use Rattle.cs_core.specs.Checkpoints.{Replaces}
-use Rattle.cs_core.specs.Meanings.{commands_said}
 use Rattle.cs_core.specs.Stored.{Stored}
 use Rattle.cs_core.specs.Views.{Applies, IsUntouched, View}
 use Rattle.cs_core.specs.Writebacks.{WritesBack}
+use Rattle.cs_core.specs.Prefixes.{IsPrefixOf}
 
 -- these events with their replies, one after another, do this to a store
 abbrev pub AreDone : (old : Stored) → List (Event × Reply) → (new : Stored) → Type 0
@@ -48,7 +46,7 @@ module _ {D : Type 0} (disks : PageDisk D) where
     pub pages : disks.page_count new.disk ≡ disks.page_count old.disk
     -- a crash within leaves what one before it might have left, or what one after it may
     pub time : GoesOn disks.honest disks.state disks.moment disks.left_since old.disk new.disk
-    pub crash : disks.honest old.disk → LeavesOnly disks.moment disks.left_since old.disk new.disk (IsPrefix (shape old.store.extents) (page old.opened) (commands_said old.history) old.store.frontier old.store.accepted)
+    pub crash : disks.honest old.disk → LeavesOnly disks.moment disks.left_since old.disk new.disk (IsPrefixOf old)
 
   -- one call and more, with these cores between them
   abbrev pub AreCalls : (old : View D) → List (View D) → (new : View D) → Type 0

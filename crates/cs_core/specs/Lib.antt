@@ -7,6 +7,7 @@ pub mod Histories
 pub mod Lookups
 pub mod Meanings
 pub mod Openings
+pub mod Prefixes
 pub mod Puts
 pub mod Reads
 pub mod Replays

@@ -8,11 +8,16 @@ use Rattle.cs_reader.specs.Loads.{graph_at, index_at}
 use Rattle.law_refinement.specs.Images.{AreExtentsNoted}
 use Rattle.cs_index.specs.declared.stored_runs.StoredRun.{StoredRun}
 use Rattle.cs_index.specs.State.{newest_first, State as IndexState}
-use Rattle.law_machine.specs.Geometry.{most_weight_in}
+use Rattle.law_machine.specs.Geometry.{most_weight_in, shape_of}
 use Rattle.law_machine.specs.Index.{entries_of, live_at}
+use Rattle.law_machine.specs.Device.{Page, Shape}
+use Rattle.law_machine.specs.Element.{Map}
+use Rattle.law_machine.specs.Recovery.{Recovers}
 use Rattle.cs_reader.specs.Openings.{IsStoreReadBy}
 use Rattle.cs_core.specs.Stored.{Stored}
 use Rattle.law_refinement.specs.cs_reclaim.Rooted.{freed_under}
+use Rattle.cs_frame.specs.Formats.{formats_of}
+use Rattle.cs_frame.specs.Geometries.{IsGeometry, device_pages, section_size}
 
 -- The extents of a store as it is opened, from those that were read, an index of the runs that were read, and this version of the root:
 -- they are as they were read where chunks and runs may lie on one extent; where they lie apart it is noted on which of them runs lie, and
@@ -70,3 +75,18 @@ pub record IsStoreMade (honest : Type 0) (view : ℕ → List ℕ) (format : ℕ
   pub made : store ≡ opened_stored extents versions root commands runs
   pub counted : HasCount (λ id. live_at (entries_of (newest_first runs)) id ≢ []) live
   pub read : honest → IsStoreReadBy view format versions records pages written root commands runs
+
+-- a device of so many pages holds a store of so many commands and so many live shards, and this store is made of it; if the device is
+-- honest, its pages read as these
+abbrev pub IsStoreFound : (honest : Type 0) → (count : ℕ) → (view : ℕ → List ℕ) → (commands live : ℕ) → Stored → Type 0
+IsStoreFound honest count view commands live store = (format : ℕ) × (versions : List ℕ) × (records : List ℕ) × (pages : ℕ) × (written : List (ℕ × ℕ))
+    × (count ≡ device_pages format (length written) pages (length versions)) × IsStoreMade honest view format versions records pages written commands live store
+
+-- of whatever store a device of so many pages holds, which read as these: of its shape, its number of commands and its map
+abbrev pub IfStoreOn : (count : ℕ) → (view : ℕ → Page) → (Shape → ℕ → Map → Type 0) → Type 0
+IfStoreOn count view P = (format extents pages sections : ℕ) → IsGeometry format extents pages sections → count ≡ device_pages format extents pages sections
+    → (n : ℕ) (m : Map) → (let S = shape_of extents pages sections (section_size extents sections) format in Recovers S (formats_of S) view n m → P S n m)
+
+-- a store was opened as one of this shape, of n commands and of as many shards as the map has
+abbrev pub IsOpenedAs : Shape → (n : ℕ) → Map → Stored → (found : ℕ × ℕ) → Type 0
+IsOpenedAs S n m store found = (shape store.extents ≡ S) × (found.0 ≡ n) × HasCount (λ id. m id ≢ None) found.1

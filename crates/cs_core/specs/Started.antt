@@ -62,17 +62,23 @@ pub record IsHeadWritten (extents pages : ℕ) (old new : DiskState) : Type 0 wh
 abbrev pub IsFormatted : (extents pages : ℕ) → (old new : DiskState) → Type 0
 IsFormatted extents pages old new = (between : DiskState) × IsHeadWritten extents pages old between × (new ≡ flushed between)
 
+-- the page of section j of the superblock
+abbrev pub head_page : (extents pages j : ℕ) → ℕ
+head_page extents pages j = if j == 0 then 0 else 1 + extents * pages + j
+
+-- the page spells section j of the superblock of a new store
+abbrev pub SpellsNew : (format extents pages sections j : ℕ) → List ℕ → Type 0
+SpellsNew format extents pages sections j bytes = SpellsSuperblock bytes format 1 0 extents pages sections j (replicate (section_length extents sections j) (0, 0))
+
 -- The pages of the first so many sections of a new store were written.
 pub record AreNewWritten (format extents pages sections count : ℕ) (old new : DiskState) : Type 0 where
   pub head : IsHeadWritten extents pages old new
   pub each : (j : ℕ) → j < count
-      → SpellsSuperblock (page (seen new) ((shape_of extents pages sections (section_size extents sections) format).section_page j)) format 1 0 extents pages sections j
-      (replicate (section_length extents sections j) (0, 0))
+      → SpellsNew format extents pages sections j (page (seen new) ((shape_of extents pages sections (section_size extents sections) format).section_page j))
 
 -- A disk takes what is written of a new store: the sections of its superblock, from this one on, and its root.
 pub record TakesNew {D : Type 0} (disks : PageDisk D) (format extents pages sections first : ℕ) (disk : D) : Type 0 where
-  pub of_section : (j : ℕ) (bytes : List ℕ) → first ≤ j → j < sections → SpellsSuperblock bytes format 1 0 extents pages sections j (replicate (section_length extents sections j) (0, 0))
-      → disks.takes disk (if j == 0 then 0 else 1 + extents * pages + j) bytes
+  pub of_section : (j : ℕ) (bytes : List ℕ) → first ≤ j → j < sections → SpellsNew format extents pages sections j bytes → disks.takes disk (head_page extents pages j) bytes
   pub of_root : (bytes : List ℕ) → SpellsRoot bytes format 1 0 [] → disks.takes disk 1 bytes
 
 -- A new store was written and made durable: the sections of its superblock, and its root.

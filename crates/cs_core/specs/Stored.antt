@@ -1,10 +1,12 @@
 -- What a store has in memory, and what it keeps whatever its disk does.
 use Rattle.std.specs.Prelude.{◌≡◌, ◌+◌, ◌^◌, ◌<◌, ◌≤◌, ◌++◌, ℕ, Bool, true, false, List, Option, Some, length, slice_index}
+use Rattle.cs_chunk.specs.Puts.{IsPutFull, PutFits}
 use Rattle.cs_deps.specs.declared.elements.Element.{Element as Name}
 use Rattle.cs_deps.specs.Named.{Named}
 use Rattle.cs_deps.specs.Pending.{Pending}
 use Rattle.cs_deps.specs.State.{State as GraphState, Write, write_of}
-use Rattle.cs_extent.specs.Frames.{AreResetsStaged, root_family}
+use Rattle.cs_extent.specs.Appended.{IsReady}
+use Rattle.cs_extent.specs.Frames.{root_family}
 use Rattle.cs_extent.specs.State.{State as ExtentsState, extents_of, shape}
 use Rattle.cs_index.specs.State.{State as IndexState, index_of}
 use Rattle.law_machine.specs.Device.{Inside, Shape}
@@ -13,15 +15,12 @@ use Rattle.law_machine.specs.Index.{live_at, weight_with}
 use Rattle.law_machine.specs.Lists.{◌∈◌}
 use Rattle.cs_refusal.specs.declared.refusals.Refusal.{Refusal}
 use Rattle.cs_refusal.specs.declared.refusals.Refusal.TheVariants.{Full, WornOut}
-use Rattle.cs_frame.specs.Formats.{formats_of}
-use Rattle.law_machine.specs.Append.{chunk_frames, page_counts}
-use Rattle.law_machine.specs.Events.{ArePayloads, Chunked}
-use Rattle.law_machine.specs.Extents.{FitsBy, ForPut}
+use Rattle.law_machine.specs.Events.{Chunked}
 use Rattle.law_machine.specs.Geometry.{weigh_in}
 use Rattle.law_refinement.specs.cs_reclaim.Copied.{AllUpTo, AreInOrder}
 use Rattle.law_refinement.specs.cs_reclaim.Sweeps.{IsSwept, IsSweptApart}
 use Rattle.law_refinement.specs.Rounds.{members_of as members}
-use Rattle.cs_core.specs.declared.roots.Root.{Root}
+use Rattle.cs_core.specs.declared.histories.Root.{Root}
 use Rattle.cs_core.specs.Frontiers.{AreNoted}
 use Rattle.cs_reader.specs.ImageReads.{page_total}
 
@@ -89,8 +88,7 @@ members_of out = members out
 
 -- what every store keeps
 pub record IsKept (s : Stored) : Type 0 where
-  pub families : length s.graph.staging.latest ≡ 1 + (shape s.extents).sections
-  pub resets : AreResetsStaged (extents_of s.extents) s.graph.staging
+  pub ready : IsReady s.extents s.graph.staging
   pub writes : AreWithin (page_total (shape s.extents)) s.graph
   pub format : s.index.format ≡ (shape s.extents).format
   pub limit : s.index.limit ≡ (shape s.extents).most_weight
@@ -114,8 +112,6 @@ IsTooHeavy S index id bytes = (pieces : List (List ℕ)) × Chunked S.chunk_byte
 -- why a put is refused where the number of commands is the greatest, whatever its identifier and its number: 30 where its chunks don't
 -- fit, else 35
 abbrev pub IsWhyWorn : ExtentsState → List ℕ → Refusal → Type 0
-IsWhyWorn x bytes WornOut = (id command : ℕ) → (cs : List (List ℕ)) × ArePayloads (shape x) (formats_of (shape x)) id command bytes cs
-    × FitsBy (shape x) (shape x).apart (extents_of x) ForPut (page_counts (chunk_frames (shape x) (formats_of (shape x)) cs))
-IsWhyWorn x bytes Full = (id command : ℕ) (cs : List (List ℕ)) → ArePayloads (shape x) (formats_of (shape x)) id command bytes cs
-    → FitsBy (shape x) (shape x).apart (extents_of x) ForPut (page_counts (chunk_frames (shape x) (formats_of (shape x)) cs)) → ⊥
+IsWhyWorn x bytes WornOut = (id command : ℕ) → PutFits x id command bytes
+IsWhyWorn x bytes Full = (id command : ℕ) → IsPutFull x id command bytes
 IsWhyWorn x bytes _ = ⊥

@@ -1,10 +1,10 @@
 //! Puts and deletes.
-ghost use Rattle.std.specs.Prelude.{◌≡◌, ◌≢◌, ◌+◌, ◌*◌, ◌<◌, ◌≤◌, ◌⊎◌, ◌↔◌, ℕ, List, IfErr, IfOk, MatchOption, OnErr, OnOk, false, length, map};
-ghost use Rattle.cs_extent.specs.State.{IsWhole, shape};
+ghost use Rattle.std.specs.Prelude.{◌≡◌, ◌≢◌, ◌<◌, ◌≤◌, ◌⊎◌, ℕ, List, IfErr, IfOk, MatchOption, OnErr, OnOk, false, length, map};
+ghost use Rattle.cs_chunk.specs.Cuts.{IsCut};
+ghost use Rattle.cs_extent.specs.State.{shape};
 ghost use Rattle.cs_frame.specs.Formats.{place_of};
 ghost use Rattle.cs_frame.specs.Locators.{KeepFormat};
 ghost use Rattle.cs_index.specs.State.{IsSet, id_number, index_of};
-ghost use Rattle.law_machine.specs.Events.{Chunked};
 ghost use Rattle.law_machine.specs.Geometry.{weigh_in};
 ghost use Rattle.law_machine.specs.Index.{weight_with};
 ghost use Rattle.law_machine.specs.State.{Accepted, Delete, Put};
@@ -12,22 +12,22 @@ ghost use Rattle.cs_core.specs.Lookups.{AreMeantBytes};
 ghost use Rattle.cs_core.specs.Puts.{MeansTheSameBut};
 ghost use Rattle.cs_core.specs.Replies.{MayRefuse};
 ghost use Rattle.cs_core.specs.Steps.{Answers, deleted_or_not};
-ghost use Rattle.cs_core.specs.Stored.{IsTooHeavy, IsWhyWorn, but_for_room};
+ghost use Rattle.cs_core.specs.Stored.{IsWhyWorn, but_for_room};
 ghost use Rattle.cs_core.specs.Writebacks.{AddsCommand, KeepsRound, KeepsStaging, Stages};
 
 use crate::events::Event;
-use crate::parts::Store;
-use cs_chunk::{put_chunks, put_fits, shard_bytes};
+use crate::stores::Store;
+use cs_chunk::{Cut, Origin};
 use cs_extent::Extents;
 use cs_frame::{Places, ShardId};
 use cs_index::Index;
 use cs_refusal::Refusal;
 
 impl Store {
-    /// Stages a shard, chunk by chunk, and gives its number among the accepted commands.
+    /// Stages a shard, chunk by chunk. Returns its number among the accepted commands.
     ///
-    /// Refused 31 TooLarge for more than 8 chunks, then 32 IndexFull where with its entry in place of what the identifier has the newest
-    /// entries weigh more than they may, then 30 Full where the extents don't take all its chunks, then 35 WornOut, and 9 OutOfMemory.
+    /// The refusals come in the order of `Event::Put`. Of 31 and 32 nothing is appended, and 9 `OutOfMemory` may come
+    /// after them.
     pub fn put(&mut self, id: ShardId, bytes: &[u8]) -> Result<u64, Refusal>
         ensures adds { IfOk result (λ n. AddsCommand n self.old self.new) }
         ensures round { KeepsRound self.old self.new }
@@ -40,22 +40,24 @@ impl Store {
         ensures frontier { self.new.frontier ≡ self.old.frontier }
         ensures no_fault { IfErr result (λ r. r ≢ Refusal.DeviceFault) }
     {
-        match test_put(&self.extents, &self.index, id, bytes) {
-            Ok(()) => {}
-            Err(refusal) => return Err(refusal),
+        let Some(cut) = Cut::of(&self.extents, bytes.len()) else {
+            return Err(Refusal::TooLarge);
+        };
+        if self.index.is_full_for(id, cut.count()) {
+            return Err(Refusal::IndexFull);
         }
         if self.is_worn() {
-            return Err(why_worn(&self.extents, bytes));
+            return Err(why_worn(&self.extents, cut));
         }
         self.index.reserve(1)?;
-        // A chunk's head says which command put it; these go on from those of the root that was read at open.
+        // A chunk's head names the command that put it, counted from the first command of the store.
         let command = self.base + self.accepted + 1;
-        match put_chunks(
+        let origin = Origin { id, command };
+        match cut.put(
             self.alloc,
             &mut self.extents,
             &mut self.graph,
-            id,
-            command,
+            origin,
             bytes,
         ) {
             Ok(places) => {
@@ -67,9 +69,7 @@ impl Store {
         }
     }
 
-    /// Deletes a shard, and gives the number of that among the accepted commands, None where there is no such shard.
-    ///
-    /// Refused 35 WornOut, and 9 OutOfMemory.
+    /// Deletes a shard. Returns the number of that among the accepted commands, or None if there is no such shard.
     pub fn delete(&mut self, id: ShardId) -> Result<Option<u64>, Refusal>
         ensures step { self.old.halted ≡ false → Answers self.old (Delete (id_number id)) deleted_or_not result self.new }
         ensures adds { IfOk result (λ deleted. MatchOption deleted (but_for_room self.new ≡ but_for_room self.old) (λ n. AddsCommand n self.old self.new)) }
@@ -101,37 +101,12 @@ impl Store {
     }
 }
 
-/// In how many chunks so many bytes are put, where they aren't too many.
-fn chunk_count(extents: &Extents, size: usize) -> usize
-    ensures count { (bytes : List ℕ) (pieces : List (List ℕ)) → length bytes ≡ size → Chunked (shape extents.now).chunk_bytes bytes pieces → length pieces ≡ result }
-    ensures few { ¬ ((shape extents.now).most_chunks * (shape extents.now).chunk_bytes < size) → result ≤ 8 }
+/// Why a put is refused if no further command can be numbered: 30 `Full` comes before 35 `WornOut`.
+fn why_worn(extents: &Extents, cut: Cut) -> Refusal
+    requires { cut.pages ≡ (shape extents.now).pages }
+    ensures { (bytes : List ℕ) → IsCut (shape extents.now) (length bytes) cut → IsWhyWorn extents.now bytes result }
 {
-    size.div_ceil(extents.geometry().chunk_bytes()).max(1)
-}
-
-/// Whether a put of these bytes is refused before anything is appended: 31 TooLarge, then 32 IndexFull.
-fn test_put(extents: &Extents, index: &Index, id: ShardId, bytes: &[u8]) -> Result<(), Refusal>
-    ensures too_large { (result ≡ Err Refusal.TooLarge) ↔ ((shape extents.now).most_chunks * (shape extents.now).chunk_bytes < length bytes.now) }
-    ensures index_full { (result ≡ Err Refusal.IndexFull) ↔ (¬ ((shape extents.now).most_chunks * (shape extents.now).chunk_bytes < length bytes.now) × IsTooHeavy (shape extents.now) index.now (id_number id) bytes.now) }
-    ensures room { OnOk result ((pieces : List (List ℕ)) → Chunked (shape extents.now).chunk_bytes bytes.now pieces → weight_with (weigh_in index.now.format) (index_of index.now) (id_number id) (length pieces) ≤ index.now.limit) }
-    ensures refusals { IfErr result (λ r. (r ≡ Refusal.TooLarge) ⊎ (r ≡ Refusal.IndexFull)) }
-    ensures whole { IsWhole extents.now }
-{
-    if shard_bytes(extents) < bytes.len() {
-        return Err(Refusal::TooLarge);
-    }
-    if index.is_full_for(id, chunk_count(extents, bytes.len())) {
-        return Err(Refusal::IndexFull);
-    }
-    Ok(())
-}
-
-/// Why a put is refused where the number of commands is the greatest: 30 Full comes before 35 WornOut.
-fn why_worn(extents: &Extents, bytes: &[u8]) -> Refusal
-    requires { ¬ ((shape extents.now).most_chunks * (shape extents.now).chunk_bytes < length bytes.now) }
-    ensures { IsWhyWorn extents.now bytes.now result }
-{
-    if put_fits(extents, bytes) {
+    if cut.fits(extents) {
         Refusal::WornOut
     } else {
         Refusal::Full

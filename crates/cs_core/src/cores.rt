@@ -1,13 +1,15 @@
 //! The event machine over one disk.
 //!
-//! **What a crash leaves.** Take a core on an honest disk that was opened on an image in which no shard is damaged, and any events and
-//! checkpoints. Whenever it stops, in the middle of one or after one, what the crash leaves on the disk can be opened again, unless memory
-//! or the device refuses. It is then the map after the first n of the commands accepted since, and counts n more than the image did:
-//! n isn't below the frontier, which no acknowledged number exceeds, nor above the number of commands accepted. The clauses `crash` and
-//! `left` of `Core::apply` say that the image is such a one; `a_crash_of_a_run_leaves_a_prefix` says it of many calls in a row;
-//! `recovers` of `Core::open` says that such an image is opened so.
+//! **What a crash leaves.** Take a core over an honest disk, opened on an image in which no shard is damaged, and any
+//! events and checkpoints. It may stop at any moment, within a call or between two. What the crash leaves on the disk
+//! can be opened again, unless memory or the device refuses. The store is then the map after the first n of the
+//! commands accepted since, and counts n more commands than the image did. n isn't below the frontier, which no
+//! acknowledged number exceeds, and not above the number of accepted commands.
+//!
+//! The clauses `crash` and `left` of `Core::apply` say that the image is such a one, and
+//! `a_crash_of_a_run_leaves_a_prefix` says it of many calls in a row. `recovers` of `Core::open` says that such an
+//! image is opened so.
 ghost use Rattle.std.specs.Prelude.{IfErr, IfOk, IsOk, IsSome, IsTrue, MatchBool, MatchOption, MatchResult, None, OnErr, OnOk, Some, [], false, length, take, true, ℕ, ◌+◌, ◌<◌, ◌^◌, ◌↔◌, ◌≡◌, ◌≢◌, ◌≤◌, ◌⊎◌};
-ghost use Rattle.law_refinement.specs.Crashes.{IsPrefix};
 ghost use Rattle.cs_chunk.specs.Reads.{IsNoAnswer};
 ghost use Rattle.cs_deps.specs.Named.{IsWithin};
 ghost use Rattle.cs_deps.specs.Staging.{IsKept};
@@ -16,10 +18,7 @@ ghost use Rattle.cs_deps.specs.View.{pending_of, rounds_of};
 ghost use Rattle.cs_disk.specs.Disk.{GoesOn, Leaves, LeavesOnly, MayLeave, Rises, StaysSound, flushed, page, seen};
 ghost use Rattle.cs_extent.specs.State.{IsWhole, extents_of, shape};
 ghost use Rattle.cs_frame.specs.Formats.{formats_of};
-ghost use Rattle.cs_frame.specs.Geometries.{IsGeometry, device_pages, section_size};
-ghost use Rattle.cs_reader.specs.Counts.{HasCount};
-ghost use Rattle.law_machine.specs.Element.{Map};
-ghost use Rattle.law_machine.specs.Geometry.{shape_of};
+ghost use Rattle.cs_frame.specs.Geometries.{device_pages};
 ghost use Rattle.law_machine.specs.Recovery.{Recovers};
 ghost use Rattle.law_machine.specs.State.{State};
 ghost use Rattle.cs_plan.specs.Best.{IsBestPlan};
@@ -27,23 +26,20 @@ ghost use Rattle.cs_core.specs.Answered.{TellsMeant};
 ghost use Rattle.cs_core.specs.Sweepable.{IsUnsweepable};
 ghost use Rattle.cs_core.specs.Checkpoints.{IsNotReplaced, IsSettled, Replaces};
 ghost use Rattle.cs_core.specs.Disks.{CountsCalls, IsDiskAfter};
-ghost use Rattle.cs_core.specs.Meanings.{commands_said};
 ghost use Rattle.cs_reader.specs.Openings.{IsOpeningRefusal, IsWhyNotOpened};
-ghost use Rattle.cs_core.specs.Openings.{IsOpened};
+ghost use Rattle.cs_core.specs.Openings.{IsOpened, IfStoreOn, IsOpenedAs};
 ghost use Rattle.cs_core.specs.Replays.{replayed};
 ghost use Rattle.cs_core.specs.Replies.{MayAnswer};
 ghost use Rattle.cs_core.specs.Unstaged.{MayStage, NothingToStage};
 ghost use Rattle.cs_core.specs.Started.{IsHeadWritten, IsNewOn, TakesNew, new_stored};
 ghost use Rattle.cs_core.specs.Views.{Applies, IsCore, IsUntouched, IsFound, IsIn, kept};
 ghost use Rattle.cs_core.specs.Writebacks.{WritesBack};
+ghost use Rattle.cs_core.specs.Prefixes.{IsPrefixOf};
 
-use crate::contents::Bytes;
-use crate::core_openings::flush_and_read;
-use crate::events::{Event, OutOfMemory, Reply};
-use crate::formats::start_store;
-use crate::histories::History;
-use crate::parts::Store;
-use crate::replays::replay_events;
+use crate::core_openings::{flush_and_read, start_store};
+use crate::events::{Bytes, Event, OutOfMemory, Reply};
+use crate::histories::{History, replay_events};
+use crate::stores::Store;
 use cs_deps::{Dependency, Element, GraphView, LAST_NUMBER, Plan};
 use cs_disk::PageDisk;
 use cs_frame::{Geometry, ShardId};
@@ -55,9 +51,9 @@ use std::snapshot::Snapshot;
 /// What bounds a core.
 #[derive(Clone, Copy, Debug, PartialEq, Eq)]
 pub struct Limits {
-    /// How many events it may keep: with so many, a further Put, Get, Delete, Settle, BeginSweep or MoveOne is refused 41 HistoryFull,
-    /// until a checkpoint replaces them. All others are done, so that what was accepted can always be written back. It bounds the memory
-    /// of the history but for those; the program takes 65,536.
+    /// How many events it may keep. With so many, a further Put, Get, Delete, Settle, BeginSweep or MoveOne is refused
+    /// 41 `HistoryFull` until a checkpoint replaces them. All other events are done, so that what was accepted can
+    /// always be written back. The limit bounds the memory of the history but for those. The program takes 65,536.
     pub history: usize,
 }
 
@@ -88,10 +84,11 @@ impl<D: PageDisk> Model for Core<D> {
 }
 
 impl<D: PageDisk> Core<D> {
-    /// Makes a new store of this geometry on a disk: writes all sections of its superblock and its root, and makes them durable.
+    /// Makes a new store of this geometry on a disk: writes all sections of its superblock and its root, and makes them
+    /// durable.
     ///
-    /// Refused 43 NotAStore where the disk hasn't the geometry's pages, 1 DeviceFault, and 9 OutOfMemory. The disk comes
-    /// back then.
+    /// 43 `NotAStore` if the disk doesn't have the geometry's pages; 1 `DeviceFault`; 9 `OutOfMemory`. A refusal
+    /// returns the disk.
     pub fn format(
         alloc: Global,
         disk: D,
@@ -103,8 +100,8 @@ impl<D: PageDisk> Core<D> {
         // What it starts on recovers no command and no shard.
         ensures found { IfOk result (λ core. core.found ≡ (0, 0)) }
         ensures start { IfOk result (λ core. D.honest disk → Recovers (shape core.store.extents) (formats_of (shape core.store.extents)) (page core.opened) 0 (λ id. None)) }
-        // The sections of the superblock and the root are written, and no page of an extent; where it is refused 43 the disk isn't asked
-        // for anything.
+        // The sections of the superblock and the root are written, and no page of an extent. If 43 is refused the disk
+        // isn't asked for anything.
         ensures written { D.honest disk → MatchResult result (λ core. IsNewOn geometry.format geometry.extents geometry.pages geometry.sections (D.state disk) (D.state core.disk)) (λ refused. IsHeadWritten geometry.extents geometry.pages (D.state disk) (D.state refused.1)) }
         ensures same { D.page_count disk ≢ device_pages geometry.format geometry.extents geometry.pages geometry.sections → result ≡ Err (Refusal.NotAStore, disk) }
         ensures pages { MatchResult result (λ core. D.page_count core.disk ≡ D.page_count disk) (λ refused. D.page_count refused.1 ≡ D.page_count disk) }
@@ -135,34 +132,40 @@ impl<D: PageDisk> Core<D> {
         }
     }
 
-    /// Opens the store on a disk: flushes, and reads the superblock section by section, root and runs. The pages of shards
-    /// aren't read.
+    /// Opens the store on a disk: flushes, and reads the superblock section by section, the root and the runs. The
+    /// pages of shards aren't read.
     ///
-    /// The disk comes back where it is refused, by the first test that fails: 43 NotAStore where there are fewer than 10
-    /// pages, before the disk is asked for anything; 20 to 24 for page 0; 43 where it has another section than the first, then
-    /// where the disk hasn't the superblock's pages; for each further section 20 to 24 for its page, and 43 where that has
-    /// another section, or one of another superblock; 20 to 24 for page 1; 27 RootLost where a section records a later root
-    /// than that of page 1, since commands that were acknowledged would be missed; for each run, the oldest first, 43 where its locator
-    /// is of no frame, and 20 to 26 for its pages; 43 where a locator of the newest entry of an identifier is of
-    /// no frame (in the older formats that of any entry), or where the newest entries weigh more than those of one run may. 1 DeviceFault and 9 OutOfMemory may come in
-    /// place of any but the first. Of what was read the superblock's pointers, the root's numbers and the index are kept in memory; in
-    /// format 3 extents on which nothing that counts lies are emptied there.
+    /// The superblock's pointers, the root's numbers and the index are kept in memory. In format 3 the extents on which
+    /// nothing that counts lies are emptied there.
+    ///
+    /// A refusal returns the disk. It is that of the first test that fails, but 1 `DeviceFault` and 9 `OutOfMemory` may
+    /// come in place of any but the first:
+    /// - 43 `NotAStore` if there are fewer than 10 pages, before the disk is asked for anything;
+    /// - 20 to 24 for page 0; 43 if it has another section than the first, then if the disk doesn't have the
+    ///   superblock's pages;
+    /// - for each further section 20 to 24 for its page, and 43 if it has another section, or one of another
+    ///   superblock;
+    /// - 20 to 24 for page 1; 27 `RootLost` if a section records a later root, since commands that were acknowledged
+    ///   would be missed;
+    /// - for each run, the oldest first, 43 if its locator is of no frame, and 20 to 26 for its pages;
+    /// - 43 if a locator of the newest entry of an identifier is of no frame (in the older formats one of any entry),
+    ///   or if the newest entries weigh more than those of one run may.
     pub fn open(alloc: Global, disk: D, limits: Limits) -> Result<Self, (Refusal, D)>
         ensures new { IfOk result (λ core. (core.history ≡ []) × (core.base ≡ 0) × (core.limit ≡ limits.history)) }
         ensures image { IfOk result (λ core. D.honest disk → (core.opened ≡ seen (D.state disk)) × (D.state core.disk ≡ flushed (D.state disk))) }
         ensures store { IfOk result (λ core. IsOpened (D.honest disk) core.opened core.found core.store) }
-        // Where the disk reads as a store of some geometry, that store is opened.
-        ensures recovers { D.honest disk → (format extents pages sections : ℕ) → IsGeometry format extents pages sections → D.page_count disk ≡ device_pages format extents pages sections → (n : ℕ) (m : Map)
-            → (let S = shape_of extents pages sections (section_size extents sections) format in Recovers S (formats_of S) (page (seen (D.state disk))) n m
-            → MatchResult result (λ core. (shape core.store.extents ≡ S) × (core.found.0 ≡ n) × HasCount (λ id. m id ≢ None) core.found.1) (λ refused. IsNoAnswer refused.0)) }
+        // If the disk reads as a store of some geometry, that store is opened.
+        ensures recovers { D.honest disk → IfStoreOn (D.page_count disk) (page (seen (D.state disk)))
+            (λ S n m. MatchResult result (λ core. IsOpenedAs S n m core.store core.found) (λ refused. IsNoAnswer refused.0)) }
         ensures refusals { IfErr result (λ refused. D.honest disk → IsNoAnswer refused.0 ⊎ IsWhyNotOpened (D.page_count disk) (page (seen (D.state disk))) refused.0) }
-        // Whatever the disk answers: 1, 9, 20 to 27, or 43.
+        // Whatever the disk does: 1, 9, 20 to 27, or 43.
         ensures number { IfErr result (λ refused. IsOpeningRefusal refused.0) }
         ensures small { D.page_count disk < 10 → result ≡ Err (Refusal.NotAStore, disk) }
-        // Nothing is written, to what the disk shows or to the device below it, and a crash within leaves what one before it might have left.
+        // Nothing is written, to what the disk shows or to the device below it. A crash during this call leaves what a
+        // crash before it may leave.
         ensures kept { IfErr result (λ refused. D.honest disk → (D.state refused.1 ≡ D.state disk) ⊎ (D.state refused.1 ≡ flushed (D.state disk))) }
         ensures unwritten { D.honest disk → MatchResult result (λ core. D.device core.disk ≡ flushed (D.device disk)) (λ refused. (D.device refused.1 ≡ D.device disk) ⊎ (D.device refused.1 ≡ flushed (D.device disk))) }
-        // One flush, and no write; where it is refused one at most.
+        // One flush, and no write; at most one flush if it is refused.
         ensures calls { D.honest disk → MatchResult result (λ core. D.moment core.disk ≡ D.moment disk + 1) (λ refused. D.moment refused.1 ≤ D.moment disk + 1) }
         ensures crash { D.honest disk → MatchResult result (λ core. LeavesOnly D.moment D.left_since disk core.disk (MayLeave (D.state disk))) (λ refused. LeavesOnly D.moment D.left_since disk refused.1 (MayLeave (D.state disk))) }
         ensures honest { MatchResult result (λ core. D.honest disk ↔ D.honest core.disk) (λ refused. D.honest disk ↔ D.honest refused.1) }
@@ -189,19 +192,20 @@ impl<D: PageDisk> Core<D> {
         }
     }
 
-    /// Does one event, and keeps it with its reply in the history, a refusal too. Two answers are kept nowhere:
-    /// 41 HistoryFull, where as many events are kept as may be and nothing changes, and `OutOfMemory`, the only `Err`, after
-    /// which nothing has changed but what memory is reserved.
+    /// Does one event, and keeps it with its reply in the history, also if it is refused. Two answers are kept nowhere:
+    /// 41 `HistoryFull`, if as many events are kept as may be, and `OutOfMemory`, the only `Err`. After either nothing
+    /// has changed but what memory is reserved.
     ///
-    /// Refused 41 HistoryFull (Put, Get, Delete, Settle, BeginSweep and MoveOne alone), then 40 Halted where a write or a flush failed
-    /// (but for Get and Settle), then as `Event` says. `step` says that a core goes by two tables of law_machine: `Does` (specs/Events.antt), what each event does, and
-    /// `Refuses` (specs/Grounds.antt), the grounds of its refusals in their order.
+    /// 41 `HistoryFull` comes first, for Put, Get, Delete, Settle, BeginSweep and MoveOne. Then comes 40 `Halted` if a
+    /// write or a flush failed, but for Get and Settle. Then the refusals come as `Event` says. `step` says that a core
+    /// goes by two tables of law_machine: `Does` (specs/Events.antt), what each event does, and `Refuses`
+    /// (specs/Grounds.antt), the grounds of its refusals in their order.
     pub fn apply(&mut self, event: &Event) -> Result<Reply, OutOfMemory>
         ensures step { IfOk result (λ reply. Applies D.PageDisk self.old event.now reply self.new) }
         ensures memory { OnErr result (IsUntouched D.PageDisk self.old self.new) }
         ensures answers { IfOk result (λ reply. MayAnswer event.now reply) }
         ensures writeback { IfOk result (λ reply. WritesBack self.old.store event.now reply self.new.store) }
-        // Whatever the disk answers, the bytes that a Get tells are those that the places of the identifier mean.
+        // Whatever the disk reads as, the bytes that a Get returns are those that the places of the identifier mean.
         ensures meant { IfOk result (λ reply. TellsMeant self.old.store event.now reply) }
         ensures rises { self.old.store.frontier ≤ self.new.store.frontier }
         // How many writes and flushes it makes, and which, by what the disk holds then.
@@ -211,10 +215,10 @@ impl<D: PageDisk> Core<D> {
         // The disk's count of failures doesn't fall, whatever the answer.
         ensures later { D.failure_count self.old.disk ≤ D.failure_count self.new.disk }
         // A crash at any moment of the event leaves the map after some of the commands, as before it.
-        ensures crash { D.honest self.old.disk → LeavesOnly D.moment D.left_since self.old.disk self.new.disk (IsPrefix (shape self.old.store.extents) (page self.old.opened) (commands_said self.old.history) self.old.store.frontier self.old.store.accepted) }
+        ensures crash { D.honest self.old.disk → LeavesOnly D.moment D.left_since self.old.disk self.new.disk (IsPrefixOf self.old) }
         // A crash after it does so for the commands and the frontier then.
-        ensures left { D.honest self.old.disk → Leaves (D.state self.new.disk) (IsPrefix (shape self.new.store.extents) (page self.new.opened) (commands_said self.new.history) self.new.store.frontier self.new.store.accepted) }
-        // Its calls of the disk come behind those before it, in time.
+        ensures left { D.honest self.old.disk → Leaves (D.state self.new.disk) (IsPrefixOf self.new) }
+        // Its calls of the disk come after those before it.
         ensures time { GoesOn D.honest D.state D.moment D.left_since self.old.disk self.new.disk }
         ensures honest { D.honest self.old.disk ↔ D.honest self.new.disk }
         ensures pages { D.page_count self.new.disk ≡ D.page_count self.old.disk }
@@ -231,8 +235,8 @@ impl<D: PageDisk> Core<D> {
         Ok(reply)
     }
 
-    /// How many commands the root counted, and how many shards there were, as the core was opened. Contracts call this `found`, and
-    /// `opened` the image then.
+    /// How many commands the root counted and how many shards there were when the core was opened. Contracts call this
+    /// `found`, and the image then `opened`.
     pub fn opened(&self) -> (u64, usize)
         ensures found { result ≡ self.now.found }
         ensures image { D.honest self.now.disk → IsFound (shape self.now.store.extents) self.now.opened result }
@@ -275,8 +279,8 @@ impl<D: PageDisk> Core<D> {
         self.store.round()
     }
 
-    /// The events that are kept with their replies, the first one first: those since the last checkpoint, or since the core was opened where
-    /// there was none.
+    /// The events that are kept with their replies, the first one first: those since the last checkpoint, or since the
+    /// core was opened if there was none.
     pub fn history(&self) -> &[(Event, Reply)]
         ensures kept { result.now ≡ kept self.now }
         ensures replaced { self.now.base ≤ length self.now.history }
@@ -284,7 +288,8 @@ impl<D: PageDisk> Core<D> {
         self.history.kept()
     }
 
-    /// How many events checkpoints replaced. So event k of those that are kept, counted from 0, is event `base() + k` of all.
+    /// How many events checkpoints replaced. Event k of those that are kept, counted from 0, is event `base() + k` of
+    /// all.
     pub fn base(&self) -> u64
         ensures base { result ≡ self.now.base }
         ensures fits { result < 2 ^ 63 }
@@ -292,20 +297,20 @@ impl<D: PageDisk> Core<D> {
         self.history.base()
     }
 
-    /// Replaces the events that are kept by the state that they led to, and gives how many they were. Their bytes are let go of. Map, numbers
-    /// of commands, what is persistent, extents and disk stay as they are, and so do the numbers of what comes. It takes no memory, and time
-    /// for each event.
+    /// Replaces the events that are kept by the state that they led to, and drops their bytes. Returns how many they
+    /// were. All else stays: the map, the numbers of commands, what is persistent, the extents and the disk, and the
+    /// numbers of later commands. It takes no memory, and time for each event.
     ///
-    /// Refused 40 Halted where a write or a flush failed; then 44 Unsettled where something waits, a round is out, the index has changes that
-    /// aren't staged, or an extent is being swept; then 35 WornOut past 2^63 - 1 events.
+    /// 40 `Halted` if a write or a flush failed. Then 44 `Unsettled` if something waits, a round is out, the index has
+    /// changes that aren't staged, or an extent is being swept. Then 35 `WornOut` after 2^63 - 1 events.
     pub fn checkpoint(&mut self) -> Result<u64, Refusal>
         ensures ok { IfOk result (λ n. Replaces self.old n self.new) }
         ensures err { IfErr result (λ refusal. IsNotReplaced self.old refusal × (self.new ≡ self.old)) }
         ensures settled { OnOk result ((self.old.store.halted ≡ false) × IsSettled self.old.store) }
         // It is refused for no other reason.
         ensures always { self.old.store.halted ≡ false → IsSettled self.old.store → length self.old.history < 2 ^ 63 → IsOk result }
-        // A crash meanwhile leaves what one before it might have left.
-        ensures crash { D.honest self.old.disk → LeavesOnly D.moment D.left_since self.old.disk self.new.disk (IsPrefix (shape self.old.store.extents) (page self.old.opened) (commands_said self.old.history) self.old.store.frontier self.old.store.accepted) }
+        // A crash during this call leaves what a crash before it may leave.
+        ensures crash { D.honest self.old.disk → LeavesOnly D.moment D.left_since self.old.disk self.new.disk (IsPrefixOf self.old) }
     {
         // Called for its contract alone: what all extents keep.
         self.store.extent_count();
@@ -321,8 +326,9 @@ impl<D: PageDisk> Core<D> {
         Ok(self.history.replace())
     }
 
-    /// What the first k events that are kept put or deleted, each identifier with its bytes or None, the first of them first; of all
-    /// that are kept where there are fewer. Goes through k events and takes memory for the list alone, since bytes are shared.
+    /// What the first k events that are kept put or deleted, or all of them if there are fewer: each identifier with
+    /// its bytes or None, in order. It goes through k events, and takes memory for the list alone, since bytes are
+    /// shared.
     pub fn replay(&self, k: usize) -> Result<Vec<(ShardId, Option<Bytes>)>, AllocError>
         ensures { IfOk result (λ changes. changes.items ≡ replayed (take k (kept self.now))) }
     {
@@ -336,7 +342,7 @@ impl<D: PageDisk> Core<D> {
         self.store.graph.has_waiting()
     }
 
-    /// With how many kept events a further Put, Get, Delete, Settle, BeginSweep or MoveOne is refused 41 HistoryFull.
+    /// With how many kept events a further Put, Get, Delete, Settle, BeginSweep or MoveOne is refused 41 `HistoryFull`.
     pub fn limit(&self) -> usize
         ensures { result ≡ self.now.limit }
     {
@@ -350,7 +356,8 @@ impl<D: PageDisk> Core<D> {
         self.store.graph.everything()
     }
 
-    /// What is persistent and what waits, as plain data. Takes memory for all that waits, and as long as `Graph::view`.
+    /// What is persistent and what waits, as plain data. It takes memory for all that waits, and the time of
+    /// `Graph::view`.
     pub fn view(&self) -> Result<GraphView, AllocError>
         ensures view { IfOk result (λ view. pending_of view ≡ self.now.store.graph.staging.pending) }
         ensures kept { IsOk result → IsKept self.now.store.graph.staging }
@@ -360,8 +367,8 @@ impl<D: PageDisk> Core<D> {
         self.store.graph.view()
     }
 
-    /// The plan of all that waits. Refused 5 InFlight where a round is out, and 9 OutOfMemory. Time and memory grow with
-    /// what waits.
+    /// The plan of all that waits. 5 `InFlight` if a round is out; 9 `OutOfMemory`. Time and memory grow with what
+    /// waits.
     pub fn plan(&self) -> Result<Plan, Refusal>
         ensures kept { IsKept self.now.store.graph.staging }
         ensures out { self.now.store.out ≡ self.now.store.graph.round }
@@ -372,8 +379,8 @@ impl<D: PageDisk> Core<D> {
         self.store.plan(self.alloc)
     }
 
-    /// The plan that makes a dependency persistent. Refused 4 NotStaged, 5 InFlight where a round is out, and 9
-    /// OutOfMemory. Time and memory grow with what waits.
+    /// The plan that makes a dependency persistent. 4 `NotStaged`, then 5 `InFlight` if a round is out; 9
+    /// `OutOfMemory`. Time and memory grow with what waits.
     pub fn plan_for(&self, target: &Dependency) -> Result<Plan, Refusal>
         ensures best { IfOk result (λ plan. IsBestPlan self.now.store.graph.staging.pending target.now (rounds_of plan) plan.chain.items) }
         ensures not_staged { (result ≡ Err Refusal.NotStaged) ↔ ¬ IsWithin target.now self.now.store.graph.staging.staged self.now.store.graph.staging.latest }
@@ -383,7 +390,7 @@ impl<D: PageDisk> Core<D> {
         self.store.plan_for(self.alloc, target)
     }
 
-    /// The disk, with which the core ends.
+    /// The disk. The core ends.
     pub fn into_disk(self) -> D
         ensures { result ≡ self.disk }
     {
@@ -400,7 +407,7 @@ impl<D: PageDisk> Core<D> {
     }
 }
 
-/// What whoever drives a core asks of it.
+/// What those that drive a core ask of it.
 impl<D: PageDisk> Core<D> {
     /// How many commands were accepted since the core was opened, and how many of these are persistent.
     pub fn progress(&self) -> (u64, u64)
@@ -408,14 +415,14 @@ impl<D: PageDisk> Core<D> {
         ensures frontier { result.1 ≡ self.now.store.frontier }
         ensures fits { result.0 < 2 ^ 63 }
         ensures within { result.1 ≤ result.0 }
-        // What the laws of cores ask for.
+        // The laws of cores ask for these.
         ensures core { IsCore D.PageDisk self.now }
         ensures whole { IsWhole self.now.store.extents }
         ensures graph { IsWholeGraph self.now.store.graph }
-        // Where the disk is honest the history led to a state of the machine in which disk and store are.
+        // If the disk is honest the history led to a state of the machine in which disk and store are.
         ensures legal { D.honest self.now.disk → (s : State) × IsIn D.state self.now s }
         // A crash now leaves the map after some of the commands, none of the persistent ones left out.
-        ensures left { D.honest self.now.disk → Leaves (D.state self.now.disk) (IsPrefix (shape self.now.store.extents) (page self.now.opened) (commands_said self.now.history) self.now.store.frontier self.now.store.accepted) }
+        ensures left { D.honest self.now.disk → Leaves (D.state self.now.disk) (IsPrefixOf self.now) }
     {
         // Called for their contracts alone: what all extents and all graphs keep.
         self.store.extent_count();
@@ -423,7 +430,8 @@ impl<D: PageDisk> Core<D> {
         (self.store.accepted(), self.store.frontier())
     }
 
-    /// Whether a Stage stages a root: the index has changes that aren't staged, or a sweep that was given up left copies.
+    /// Whether a Stage stages a root: the index has changes that aren't staged, or a sweep that was given up left
+    /// copies.
     pub fn may_stage(&self) -> bool
         ensures { MatchBool result (MayStage self.now.store) (NothingToStage self.now.store) }
     {
@@ -437,8 +445,8 @@ impl<D: PageDisk> Core<D> {
         self.store.extent_count()
     }
 
-    /// Whether an extent may be swept: it is there, isn't empty and holds chunks, and no sweep goes on or left copies. In
-    /// the older formats: it is there, and neither open, empty nor being swept.
+    /// Whether an extent may be swept: it is there, isn't empty and holds chunks, and no sweep goes on or left copies.
+    /// In the older formats: it is there, and neither open, empty nor being swept.
     pub fn is_sweepable(&self, extent: usize) -> bool
         ensures may { IsTrue result → ¬ IsUnsweepable self.now.store extent }
         ensures not { ¬ (IsTrue result) → IsUnsweepable self.now.store extent }
@@ -446,15 +454,15 @@ impl<D: PageDisk> Core<D> {
         self.store.is_sweepable(extent)
     }
 
-    /// How many page writes are kept in memory; where no round is out, one for each plain write that waits, and at each height
-    /// one for each family of which a version waits there. It takes no memory.
+    /// How many page writes are kept in memory. If no round is out, that is one for each plain write that waits, and at
+    /// each height one for each family of which a version waits there. It takes no memory.
     pub fn kept_pages(&self) -> usize
         ensures { self.now.store.out ≡ None → AreCounted self.now.store.graph result }
     {
         self.store.kept_pages()
     }
 
-    /// The lowest extent that is being swept, None where none is.
+    /// The lowest extent that is being swept, or None if none is.
     pub fn swept_extent(&self) -> Option<usize>
         ensures { MatchOption result ((e : ℕ) → (extents_of self.now.store.extents).swept e ≡ false)
             (λ e. ((extents_of self.now.store.extents).swept e ≡ true) × ((k : ℕ) → k < e → (extents_of self.now.store.extents).swept k ≡ false)) }
@@ -466,7 +474,7 @@ impl<D: PageDisk> Core<D> {
     pub fn into_parts(self) -> (D, Vec<(Event, Reply)>)
         ensures disk { result.0 ≡ self.disk }
         ensures history { result.1.items ≡ kept self }
-        // Where the disk is honest the history led to a state of the machine in which disk and store are.
+        // If the disk is honest the history led to a state of the machine in which disk and store are.
         ensures legal { D.honest self.disk → (s : State) × IsIn D.state self s }
     {
         let Core {

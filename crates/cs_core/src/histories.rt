@@ -1,21 +1,25 @@
-//! What a core was asked and answered.
-ghost use Rattle.std.specs.Prelude.{◌≡◌, ◌+◌, ◌^◌, ◌<◌, ◌≤◌, ◌++◌, ◌∷◌, [], OnOk, drop, length};
+//! What went before: events with their replies, what these put and deleted, and the roots that were staged.
+ghost use Rattle.std.specs.Prelude.{◌≡◌, ◌+◌, ◌^◌, ◌<◌, ◌≤◌, ◌++◌, ◌∷◌, [], OnOk, drop, length, IfOk, take};
 ghost use Rattle.cs_core.specs.Histories.{Recorded, events_before};
+ghost use Rattle.cs_core.specs.Replays.{change_said, replayed};
 
-use crate::events::{Event, Reply};
+use crate::events::{Bytes, Event, Reply};
+use cs_frame::ShardId;
 use std::alloc::{AllocError, Global};
+use std::collections::VecDeque;
 use std::marker::Model;
 use std::snapshot::Snapshot;
 
-/// The events that checkpoints replaced, with their replies. They are values that clauses alone see: it takes no memory but its own tag,
-/// and none is asked for when more join it.
+/// The events that checkpoints replaced, with their replies. Only clauses see them: the value takes no memory but its
+/// own tag, and asks for none when more join it.
 #[derive(Drop)]
 pub enum Before {
     Nothing,
     Then(Snapshot<Before>, Snapshot<Vec<(Event, Reply)>>),
 }
 
-/// The events with their replies. Contracts see all of them, how many checkpoints replaced, and for how many more there is room.
+/// The events with their replies. Contracts see all of them, how many checkpoints replaced, and for how many more there
+/// is room.
 #[derive(Drop)]
 pub struct History {
     before: Before,
@@ -88,7 +92,7 @@ impl History {
         self.kept.push_reserved((event, reply));
     }
 
-    /// Lets go of the events that are kept, and gives how many they were. It takes no memory, and time for each.
+    /// Drops the events that are kept. Returns how many they were. It takes no memory, and time for each.
     pub fn replace(&mut self) -> u64
         requires { length self.old.all < 2 ^ 63 }
         ensures count { result ≡ length (drop self.old.base self.old.all) }
@@ -113,4 +117,67 @@ impl History {
         } = self;
         kept
     }
+}
+
+/// What the first so many events put or deleted, each identifier with its bytes or None, the first of them first.
+pub fn replay_events(
+    alloc: Global,
+    events: &[(Event, Reply)],
+    count: usize,
+) -> Result<Vec<(ShardId, Option<Bytes>)>, AllocError>
+    ensures { IfOk result (λ changes. changes.items ≡ replayed (take count events.now)) }
+{
+    let mut changes = Vec::new(alloc);
+    let last = count.min(events.len());
+    for k in 0..last {
+        let entry = &events[k];
+        push_change(&mut changes, &entry.0, &entry.1)?;
+    }
+    Ok(changes)
+}
+
+/// Adds what an accepted event put under an identifier, or that it deleted it.
+fn push_change(
+    changes: &mut Vec<(ShardId, Option<Bytes>)>,
+    event: &Event,
+    reply: &Reply,
+) -> Result<(), AllocError>
+    ensures { OnOk result (changes.new.items ≡ changes.old.items ++ change_said event.now reply.now) }
+{
+    let Reply::Accepted(_) = reply else {
+        return Ok(());
+    };
+    match event {
+        Event::Put(id, bytes) => {
+            let shared = bytes.share()?;
+            changes.push((*id, Some(shared)))?;
+            Ok(())
+        }
+        Event::Delete(id) => {
+            changes.push((*id, None))?;
+            Ok(())
+        }
+        _ => Ok(()),
+    }
+}
+
+/// A root that was staged, or read as the store was opened.
+#[derive(Clone, Copy, Debug)]
+pub struct Root {
+    /// Its version.
+    pub version: u64,
+    /// How many of the commands accepted since the store was opened it includes.
+    pub commands: u64,
+}
+
+/// The root that a store begins on, as it notes it: it includes none of the commands that are accepted since.
+pub fn first_root(alloc: Global, version: u64) -> Result<VecDeque<Root>, AllocError>
+    ensures { IfOk result (λ roots. roots.items ≡ record { version = version; commands = 0 } ∷ []) }
+{
+    let mut roots = VecDeque::new(alloc);
+    roots.push_back(Root {
+        version,
+        commands: 0,
+    })?;
+    Ok(roots)
 }

@@ -1,30 +1,23 @@
-//! The event machine of a shard store over one disk: each call of `apply` is one event, and the history keeps it with its
-//! reply until a checkpoint replaces it.
+//! The event machine of a shard store over one disk: each call of `apply` is one event, and the history keeps it with
+//! its reply until a checkpoint replaces it.
 //!
-//! An event goes through `cores` (`apply`) and `serves`, which refuses most of them where the store is halted, to one call of a `Store`:
-//! `commands`, `core_reads`, `stagings`, `rounds` or `sweep_events`. `formats` makes a new store; `core_openings` makes one of what cs_reader
-//! reads.
+//! An event goes through `cores` (`apply`) and `stores` (`serve`), which refuses most of them where the store is
+//! halted, to one call of a `Store`: `commands`, `core_reads`, `stagings`, `rounds` or `sweep_events`. `core_openings` makes
+//! a new store, or one of what cs_reader reads.
 #![tactic(auto)]
 
 mod commands;
-mod contents;
 mod core_laws;
 mod core_openings;
-mod core_plans;
 mod core_reads;
 mod cores;
 mod events;
-mod formats;
 mod histories;
-mod parts;
-mod replays;
-mod roots;
 mod rounds;
-mod serves;
 mod stagings;
+mod stores;
 mod sweep_events;
 
-pub use contents::{Bytes, Elements};
 pub use core_laws::{
     a_crash_of_a_run_leaves_a_prefix, a_round_lowers_heights_by_one,
     all_accepted_is_persistent_at_rest, disks_hold_what_is_persistent,
@@ -32,5 +25,5 @@ pub use core_laws::{
     what_places_mean_is_what_the_map_has, what_places_mean_is_what_was_put,
 };
 pub use cores::{Core, Limits};
-pub use events::{Event, OutOfMemory, Reply};
+pub use events::{Bytes, Elements, Event, OutOfMemory, Reply};
 pub use law_refinement::reclaim as reclaim;

@@ -1,5 +1,5 @@
-//! Rounds of writeback, what of them is persistent, and whether any of it is left to do.
-ghost use Rattle.std.specs.Prelude.{◌≡◌, ◌≢◌, ◌+◌, ◌^◌, ◌<◌, ◌≤◌, ◌⊎◌, [], IfOk, IfErr, IfSome, MatchBool, MatchOption, MatchResult, OnErr, IsErrOf, None, Some, false, true, length, slice_get, ◌↔◌, ◌∷◌, List, IsTrue, slice_index, ℕ};
+//! Rounds of writeback and their plans, what of them is persistent, and whether any of it is left to do.
+ghost use Rattle.std.specs.Prelude.{◌≡◌, ◌≢◌, ◌+◌, ◌^◌, ◌<◌, ◌≤◌, ◌⊎◌, [], IfOk, IfErr, IfSome, MatchBool, MatchOption, MatchResult, OnErr, IsErrOf, None, Some, false, true, length, slice_get, ◌↔◌, ◌∷◌, List, IsTrue, slice_index, ℕ, IsSome};
 ghost use Rattle.cs_extent.specs.State.{shape, extents_of};
 ghost use Rattle.cs_core.specs.Disks.{WritesAsTold};
 ghost use Rattle.cs_core.specs.Replies.{MayRefuse};
@@ -8,25 +8,28 @@ ghost use Rattle.cs_core.specs.Stored.{members_of, but_for_room};
 ghost use Rattle.cs_core.specs.Writebacks.{IsMemberIssued, IsRoundBegun, IsRoundEnded, StaysRefused};
 ghost use Rattle.cs_reader.specs.ImageReads.{page_total};
 ghost use Rattle.cs_extent.specs.Frames.{root_family};
-ghost use Rattle.cs_core.specs.declared.roots.Root.{Root};
+ghost use Rattle.cs_core.specs.declared.histories.Root.{Root};
 ghost use Rattle.cs_core.specs.Frontiers.{LetsGo};
 ghost use Rattle.cs_core.specs.Checkpoints.{IsSettled};
+ghost use Rattle.cs_deps.specs.Named.{IsWithin};
+ghost use Rattle.cs_deps.specs.Staging.{IsKept};
+ghost use Rattle.cs_deps.specs.State.{everything};
+ghost use Rattle.cs_deps.specs.View.{rounds_of};
+ghost use Rattle.cs_plan.specs.Best.{IsBestPlan};
 
 use crate::events::{Event, Reply};
-use crate::parts::Store;
-use crate::roots::Root;
-use cs_deps::{Dependency, Element, Graph};
+use crate::histories::Root;
+use crate::stores::Store;
+use cs_deps::{Dependency, Element, Graph, Plan};
 use cs_disk::{DiskFault, PageDisk};
 use cs_extent::ROOT;
-use cs_plan::next_round;
+use cs_plan::{next_round, plan_all};
 use cs_refusal::Refusal;
 use std::alloc::Global;
 use std::collections::VecDeque;
 
 impl Store {
-    /// Takes the next round of the plan of all that waits, and gives its members twice; None where nothing waits.
-    ///
-    /// Refused 5 InFlight where a round is out, and 9 OutOfMemory.
+    /// Takes the next round of the plan of all that waits. Returns its members twice, or None if nothing waits.
     pub fn begin(&mut self) -> Result<Option<(Vec<Element>, Vec<Element>)>, Refusal>
         ensures begun { IfOk result (λ begun. MatchOption begun ((self.old.graph.staging.pending.waiting ≡ []) × (self.old.out ≡ None) × (but_for_room self.new ≡ but_for_room self.old)) (λ r. IsRoundBegun r.0.items (but_for_room self.old) (but_for_room self.new))) }
         ensures twice { IfOk result (λ begun. IfSome begun (λ r. r.0.items ≡ r.1.items)) }
@@ -55,10 +58,8 @@ impl Store {
         Ok(Some((told, noted)))
     }
 
-    /// Writes the next member of the round to its page, and gives the member and the page.
-    ///
-    /// Refused 42 NoRound where no round is out or none of it is left, 1 DeviceFault, which halts the store, and 9
-    /// OutOfMemory.
+    /// Writes the next member of the round to its page. Returns the member and the page. 1 `DeviceFault` halts the
+    /// store.
     pub fn issue<D: PageDisk>(&mut self, disk: &mut D) -> Result<(Element, u64), Refusal>
         requires device { page_total (shape self.old.extents) ≡ D.page_count disk.old }
         ensures issued { MatchResult result (λ r. IsMemberIssued r.0 (but_for_room self.old) (but_for_room self.new)) (λ r. StaysRefused Event.Issue r (but_for_room self.old) (but_for_room self.new)) }
@@ -108,10 +109,8 @@ impl Store {
         }
     }
 
-    /// Flushes, after which the round is persistent, and gives how many commands are.
-    ///
-    /// Refused 42 NoRound where no round is out or some of it is left, 1 DeviceFault, which halts the store, and 9
-    /// OutOfMemory.
+    /// Flushes, after which the round is persistent. Returns how many commands are persistent then. 1 `DeviceFault`
+    /// halts the store.
     pub fn end<D: PageDisk>(&mut self, disk: &mut D) -> Result<u64, Refusal>
         requires device { page_total (shape self.old.extents) ≡ D.page_count disk.old }
         ensures ended { MatchResult result (λ n. IsRoundEnded n (but_for_room self.old) (but_for_room self.new)) (λ r. StaysRefused Event.End r (but_for_room self.old) (but_for_room self.new)) }
@@ -156,8 +155,7 @@ impl Store {
     }
 }
 
-/// Lets go of the roots before the newest that is persistent; the first of them is. It asks the graph of at most one root more than it
-/// lets go of.
+/// Drops the roots before the newest one that is persistent. The first root is persistent.
 pub fn let_go(alloc: Global, graph: &Graph, roots: &mut VecDeque<Root>)
     requires some { 0 < length roots.old.items }
     requires settled { (r : Root) (rs : List Root) → roots.old.items ≡ r ∷ rs → r.version ≤ slice_index graph.now.staging.pending.persistent root_family }
@@ -201,7 +199,7 @@ impl Store {
         }
     }
 
-    /// The lowest extent that is being swept, None where none is.
+    /// The lowest extent that is being swept, or None if none is.
     pub fn swept_extent(&self) -> Option<usize>
         ensures { MatchOption result ((e : ℕ) → (extents_of self.now.extents).swept e ≡ false)
             (λ e. ((extents_of self.now.extents).swept e ≡ true) × ((k : ℕ) → k < e → (extents_of self.now.extents).swept k ≡ false)) }
@@ -212,5 +210,31 @@ impl Store {
             }
         }
         None
+    }
+}
+
+impl Store {
+    /// The plan of all that waits. 5 `InFlight` if a round is out; 9 `OutOfMemory`.
+    pub fn plan(&self, alloc: Global) -> Result<Plan, Refusal>
+        ensures kept { IsKept self.now.graph.staging }
+        ensures out { self.now.out ≡ self.now.graph.round }
+        ensures best { IfOk result (λ plan. IsBestPlan self.now.graph.staging.pending (everything self.now.graph.staging) (rounds_of plan) plan.chain.items) }
+        ensures in_flight { (result ≡ Err Refusal.InFlight) ↔ IsSome self.now.graph.round }
+        ensures refusals { IfErr result (λ r. (r ≡ Refusal.InFlight) ⊎ (r ≡ Refusal.OutOfMemory)) }
+    {
+        // Called for its contract alone: what every graph keeps.
+        self.graph.families();
+        plan_all(alloc, &self.graph)
+    }
+
+    /// The plan that makes a dependency persistent. 4 `NotStaged`, then 5 `InFlight` if a round is out; 9
+    /// `OutOfMemory`.
+    pub fn plan_for(&self, alloc: Global, target: &Dependency) -> Result<Plan, Refusal>
+        ensures best { IfOk result (λ plan. IsBestPlan self.now.graph.staging.pending target.now (rounds_of plan) plan.chain.items) }
+        ensures not_staged { (result ≡ Err Refusal.NotStaged) ↔ ¬ IsWithin target.now self.now.graph.staging.staged self.now.graph.staging.latest }
+        ensures in_flight { (result ≡ Err Refusal.InFlight) ↔ (IsWithin target.now self.now.graph.staging.staged self.now.graph.staging.latest × IsSome self.now.graph.round) }
+        ensures refusals { IfErr result (λ r. (r ≡ Refusal.NotStaged) ⊎ (r ≡ Refusal.InFlight) ⊎ (r ≡ Refusal.OutOfMemory)) }
+    {
+        cs_plan::plan(alloc, &self.graph, target)
     }
 }

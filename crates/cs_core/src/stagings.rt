@@ -10,12 +10,13 @@ ghost use Rattle.cs_core.specs.Unstaged.{MayStage, NothingToStage, are_left_over
 ghost use Rattle.cs_core.specs.Writebacks.{KeepsRound, Stages};
 
 use crate::events::Event;
-use crate::parts::Store;
-use crate::roots::Root;
+use crate::histories::Root;
+use crate::stores::Store;
 use cs_refusal::Refusal;
 
 impl Store {
-    /// Whether a Stage stages a root: the index has changes that aren't staged, or a sweep that was given up left copies.
+    /// Whether `stage` stages a root: the index has changes that aren't staged, or a sweep that was given up left
+    /// copies.
     pub fn may_stage(&self) -> bool
         ensures { MatchBool result (MayStage self.now) (NothingToStage self.now) }
     {
@@ -32,12 +33,13 @@ impl Store {
         self.sweeps.are_left_over(&self.extents)
     }
 
-    /// Stages the index's changes as a run, and the next root over all runs, and gives that root's version; None where nothing
-    /// has changed. The run takes the place of as many of the newest runs as their sizes ask for, or of all where that one goes nowhere. A
-    /// root alone is staged where a sweep that was given up left copies. Under each root the extents on which nothing lives are emptied.
-    /// In the older formats one run of all that is live takes the place of all where there are four runs already, and nothing else is done.
+    /// Stages the index's changes as a run, and the next root over all runs. Returns that root's version, or None if
+    /// nothing has changed.
     ///
-    /// Refused 30 Full where no extent takes the run, 35 WornOut, and 9 OutOfMemory.
+    /// The run replaces as many of the newest runs as their sizes ask for, or all of them if such a run finds no place.
+    /// If only a sweep that was given up left copies, the root is staged alone. Under each root the extents on which
+    /// nothing lives are emptied. In the older formats one run of all that is live replaces four runs, and nothing else
+    /// is done.
     pub fn stage(&mut self) -> Result<Option<u64>, Refusal>
         ensures step { self.old.halted ≡ false → Answers self.old Stage staged_or_not result self.new }
         ensures staged { IfOk result (λ staged. MatchOption staged ((self.old.index.table ≡ []) × (but_for_room self.new ≡ but_for_room self.old)) (λ v. self.new.index.table ≡ [])) }

@@ -1,6 +1,6 @@
 //! Sweeps: an extent is marked, what lives on it goes elsewhere chunk by chunk, and it is emptied or given up.
-ghost use Rattle.std.specs.Prelude.{◌≡◌, ◌≢◌, ◌⊎◌, ◌<◌, ◌≤◌, IfErr, IsTrue, MatchBool, OnErr, OnOk, false, true, None, []};
-ghost use Rattle.cs_extent.specs.State.{extents_of, shape};
+ghost use Rattle.std.specs.Prelude.{◌≡◌, ◌≢◌, ◌⊎◌, IfErr, IsTrue, OnErr, OnOk, false, None, []};
+ghost use Rattle.cs_extent.specs.State.{shape};
 ghost use Rattle.law_machine.specs.State.{Abandon, Abandoned, BeginSweep, Sweeping, Retire, Retired};
 ghost use Rattle.cs_core.specs.Puts.{MeansTheSame};
 ghost use Rattle.cs_core.specs.Replies.{MayRefuse};
@@ -14,17 +14,14 @@ ghost use Rattle.cs_core.specs.Reads.{MoveAnswers};
 ghost use Rattle.cs_reader.specs.ImageReads.{page_total};
 
 use crate::events::Event;
-use crate::parts::Store;
-use crate::roots::Root;
+use crate::histories::Root;
+use crate::stores::Store;
 use cs_disk::PageDisk;
-use cs_extent::Extents;
 use cs_frame::ShardId;
 use cs_refusal::Refusal;
-use law_refinement::reclaim::Sweep;
 
 impl Store {
-    /// Marks an extent as being swept. Refused 33 NotSweepable where it is empty or holds runs, isn't there, or a sweep goes on or left
-    /// copies. In the older formats: where it is open, empty or being swept, or isn't there.
+    /// Marks an extent as being swept. `Event::BeginSweep` says when that is refused.
     pub fn begin_sweep(&mut self, extent: usize) -> Result<(), Refusal>
         ensures step { self.old.halted ≡ false → Answers self.old (BeginSweep extent) (λ _. Sweeping) result self.new }
         ensures round { KeepsRound self.old self.new }
@@ -38,11 +35,10 @@ impl Store {
     {
         // Called for its contract alone: what all extents keep.
         self.extents.extent_count();
-        // The mark stays; `Sweep::resume` finds the sweep again by it.
         self.sweeps.begin(&mut self.extents, extent)
     }
 
-    /// Sweeps an extent no longer. Refused 33 NotSweepable where it isn't being swept.
+    /// Gives the sweep of an extent up. 33 `NotSweepable` if it isn't being swept.
     pub fn abandon(&mut self, extent: usize) -> Result<(), Refusal>
         ensures step { self.old.halted ≡ false → Answers self.old (Abandon extent) (λ _. Abandoned) result self.new }
         ensures round { KeepsRound self.old self.new }
@@ -56,11 +52,7 @@ impl Store {
     {
         // Called for its contract alone: what all extents keep.
         self.extents.extent_count();
-        let Some(sweep) = Sweep::resume(&self.extents, extent) else {
-            return Err(Refusal::NotSweepable);
-        };
-        sweep.abandon(&mut self.extents);
-        Ok(())
+        self.sweeps.abandon(&mut self.extents, extent)
     }
 
     /// Whether the sweep of an extent may begin.
@@ -70,14 +62,10 @@ impl Store {
     {
         self.sweeps.may_begin(&self.extents, extent)
     }
-}
 
-impl Store {
-    /// Copies the first live chunk that isn't copied off an extent that is being swept, and tells which it was; None where all are. It counts
-    /// where it lay until the extent is retired. In the older formats it counts at once where it was moved to, and None tells that none is live.
-    ///
-    /// Refused 33 NotSweepable where it isn't being swept, 1 DeviceFault, 20 to 24 where the chunk is damaged, 26 where
-    /// another frame lies at its place, 30 Full, 35 WornOut, and 9 OutOfMemory.
+    /// Copies the first live chunk that isn't copied yet off an extent that is being swept. Returns which it was, or
+    /// None if all are copied. In the older formats it is moved, and None means that no chunk lives there.
+    /// `Event::MoveOne` has the refusals.
     pub fn move_one<D: PageDisk>(
         &mut self,
         disk: &mut D,
@@ -99,7 +87,7 @@ impl Store {
         // Called for their contracts alone: what all extents and every graph keep.
         self.extents.extent_count();
         self.graph.families();
-        if !is_swept(&self.extents, extent) {
+        if !self.sweeps.is_swept(&self.extents, extent) {
             return Err(Refusal::NotSweepable);
         }
         self.sweeps.move_one(
@@ -111,13 +99,10 @@ impl Store {
             disk,
         )
     }
-}
 
-impl Store {
-    /// What was copied counts, a root is staged as `stage` does, and an extent that is being swept is emptied under it. In the older formats one
-    /// run of all that is live is staged, and the root over it. Gives the root's version.
-    ///
-    /// Refused 33 NotSweepable where it isn't being swept, 34 StillLive, 30 Full, 35 WornOut, and 9 OutOfMemory.
+    /// Ends the sweep of an extent: what was copied counts, a root is staged as by `stage`, and the extent is emptied
+    /// under it. Returns the root's version. `Event::Retire` has the refusals. In the older formats one run of all that
+    /// is live is staged with the root.
     pub fn retire(&mut self, extent: usize) -> Result<u64, Refusal>
         ensures staged { OnOk result (self.new.index.table ≡ []) }
         ensures step { self.old.halted ≡ false → Answers self.old (Retire extent) (λ v. Retired v) result self.new }
@@ -133,7 +118,7 @@ impl Store {
         // Called for their contracts alone: what all extents and every graph keep.
         self.extents.extent_count();
         self.graph.families();
-        if !is_swept(&self.extents, extent) {
+        if !self.sweeps.is_swept(&self.extents, extent) {
             return Err(Refusal::NotSweepable);
         }
         if self.roots.reserve(1).is_err() {
@@ -157,11 +142,4 @@ impl Store {
             Err(refusal) => Err(refusal),
         }
     }
-}
-
-/// Whether an extent is being swept.
-fn is_swept(extents: &Extents, extent: usize) -> bool
-    ensures { MatchBool result ((extent < (shape extents.now).extents) × ((extents_of extents.now).swept extent ≡ true)) (((shape extents.now).extents ≤ extent) ⊎ ((extents_of extents.now).swept extent ≡ false)) }
-{
-    Sweep::resume(extents, extent).is_some()
 }

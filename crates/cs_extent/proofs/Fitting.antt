@@ -1,6 +1,6 @@
 -- Whether frames find a place depends on two numbers alone.
 use Rattle.std.proofs.Common.{◌≡◌, ◌≢◌, ◌∙◌, ℕ, suc, ◌+◌, ◌-◌, ◌<◌, ◌≤◌, Bool, true, false, List, [], ◌∷◌, length, drop, get_or, Option, Some, None, refl, sym, ap, subst, inl, inr, ⊎_elim, arith}
-use Rattle.std.specs.Prelude.{◌==◌, ◌↔◌, if◌then◌else◌, nat_le, nat_lt, All}
+use Rattle.std.specs.Prelude.{◌==◌, ◌↔◌, if◌then◌else◌, nat_le, nat_lt, All, MatchOption}
 use Rattle.std.specs.List.{AllByRecursion}
 use Rattle.std.proofs.lemmas.Bool.{cases_lt}
 use Rattle.std.proofs.lemmas.Bool.Decides.{nat_tests}
@@ -13,7 +13,7 @@ use Rattle.law_machine.specs.Lists.{with}
 use Rattle.cs_extent.specs.declared.places_v2.Supply.{Supply}
 use Rattle.cs_extent.specs.Places.{room_at, left_after}
 use Rattle.cs_extent.specs.State.{State, IsWhole, extents_of, shape}
-use Rattle.cs_extent.proofs.Empties.{empties_kept, empties_less, first_of}
+use Rattle.cs_extent.proofs.Empties.{empties_kept, empties_less, first_of, none_empty}
 
 pub with_same : (f : ℕ → ℕ) (e v : ℕ) → with f e v e ≡ v
 with_same f e v = let same : (e == e) ≡ true = grind (arith, nat_tests) in rw same refl
@@ -157,6 +157,11 @@ module _ (S : Shape) where
       (λ (p : HasRoom S x k e). no_room x ok k some gt e p)
       (λ (p : ((o : ℕ) → HasRoom S x k o → ⊥) × IsFirstEmpty S x e × (k ≤ S.pages) × (spare purpose < empties x.pointer S.extents)). omega (arith, p.3, few))
       placed
+
+pub place_empty : (S : Shape) (x : Extents) → IsBegun S x → (purpose : Reason) (k : ℕ) → 1 ≤ k → k ≤ S.pages → room_at S.pages x.pointer x.open_extent < k → spare purpose < empties x.pointer S.extents
+    → (o : Option ℕ) → MatchOption o ((d : ℕ) → d < S.extents → 0 < x.pointer d) (IsFirstEmpty S x) → MatchOption o ((e : ℕ) → Placed S x purpose k e → ⊥) (Placed S x purpose k)
+place_empty S x ok purpose k some fits gt enough None full = let none : empties x.pointer S.extents ≡ 0 = none_empty x.pointer S.extents full in absurd (omega (arith, none, enough))
+place_empty S x ok purpose k some fits gt enough (Some e) first = inr (no_room S x ok k some gt, first, fits, enough)
 
 pub begun_of : (s : State) → IsWhole s → IsBegun (shape s) (extents_of s)
 begun_of s whole = record { inside = whole.open_inside; begun = whole.open_begun }

@@ -6,7 +6,7 @@ pub mod Given
 pub mod Joined
 pub mod Noting
 pub mod Placing
+pub mod Planning
 pub mod Sections
 pub mod Staged
-pub mod Thought
 pub mod Worn

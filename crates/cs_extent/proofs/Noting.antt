@@ -1,12 +1,12 @@
 -- What is noted of extents, and what changes of lists do to it.
-use Rattle.std.proofs.Common.{◌≡◌, ◌≢◌, ◌∙◌, ℕ, suc, ◌+◌, ◌<◌, ◌≤◌, Bool, true, false, List, length, set, get_or, Option, Some, None, refl, sym, ap, subst, arith}
-use Rattle.std.specs.Prelude.{◌==◌, ◌||◌, if◌then◌else◌}
+use Rattle.std.proofs.Common.{◌≡◌, ◌≢◌, ◌∙◌, ℕ, suc, ◌+◌, ◌<◌, ◌≤◌, Bool, true, false, List, length, set, get_or, Option, Some, None, refl, sym, ap, subst, arith, length-set}
+use Rattle.std.specs.Prelude.{◌==◌, if◌then◌else◌}
 use Rattle.std.proofs.lemmas.Bool.Decides.{nat_tests}
 use Rattle.std.proofs.lemmas.Option.{same_Some}
 use Rattle.law_machine.specs.Device.{Shape}
-use Rattle.law_machine.specs.Extents.{Extents, ForMerge, ForMove, ForPut, ForRun, Purpose as Reason, emptied, forgotten, marked, noted_by, of_runs_by, open_after, other_than, taken_by}
+use Rattle.law_machine.specs.Extents.{Extents, ForMerge, ForMove, ForPut, ForRun, Purpose as Reason, emptied, forgotten, marked, noted_by, open_after, other_than, taken_by}
 use Rattle.law_machine.specs.Lists.{with}
-use Rattle.cs_extent.specs.Notes.{fresh_noted, is_of_run, last_noted, noted_in, open_noted}
+use Rattle.cs_extent.specs.Notes.{noted_in}
 use Rattle.cs_extent.specs.State.{IsWhole, State, extents_of, shape}
 use Rattle.cs_extent.proofs.Changes.{reset_extents, written_at}
 use Rattle.cs_extent.proofs.Fitting.{with_same}
@@ -28,63 +28,37 @@ pub flag_set : (s : State) (e : ℕ) (b : Bool) → e < length s.of_runs → (d 
     → get_or (set s.of_runs e b) d false ≡ (if d == e then b else (extents_of s).of_runs d)
 flag_set s e b lt d = written_at s.of_runs e b false lt d
 
-or_no : (b : Bool) → (b || false) ≡ b
-or_no true = refl
-or_no false = refl
+-- a run went to e
+run_noted : (s : State) (S : Shape) (x : Extents) (e k : ℕ) → e < length s.of_runs → s.open_extent ≡ x.open_extent
+    → extents_of (record s { of_runs = set s.of_runs e true }) ≡ noted_by S true ForRun x e k (extents_of s)
+run_noted s S x e k lt before = λ i. record {
+  pointer = (extents_of s).pointer;
+  generation = (extents_of s).generation;
+  reset = (extents_of s).reset;
+  open_extent = before i;
+  swept = (extents_of s).swept;
+  of_runs = λ d. flag_set s e true lt d i;
+  found = (extents_of s).found;
+  fresh = s.fresh;
+  last = s.last;
+}
 
--- which extents hold runs once a frame went to e
-pub runs_noted : (s : State) (S : Shape) (r : Reason) (e : ℕ) → e < length s.of_runs → (d : ℕ)
-    → get_or (set s.of_runs e (get_or s.of_runs e false || is_of_run r)) d false ≡ of_runs_by S true r e (extents_of s).of_runs d
-runs_noted s S r e lt d = flag_set s e (get_or s.of_runs e false || is_of_run r) lt d ∙ by r
-  where
-    still : (b : Bool) → (d == e) ≡ b → (a : Bool) → a ≡ false → (if b then get_or s.of_runs e false || a else get_or s.of_runs d false) ≡ get_or s.of_runs d false
-    still true is a off =
-        let same : d ≡ e = grind (arith, nat_tests) in
-        ap (λ (c : Bool). get_or s.of_runs e false || c) off ∙ or_no (get_or s.of_runs e false) ∙ ap (λ (n : ℕ). get_or s.of_runs n false) (sym same)
-    still false is a off = refl
-
-    held : (b : Bool) → (if d == e then (b || true) else get_or s.of_runs d false) ≡ (if d == e then true else get_or s.of_runs d false)
-    held true = refl
-    held false = refl
-
-    by : (r : Reason) → (if d == e then get_or s.of_runs e false || is_of_run r else get_or s.of_runs d false) ≡ of_runs_by S true r e (extents_of s).of_runs d
-    by ForPut = still (d == e) refl false refl
-    by ForRun = held (get_or s.of_runs e false)
-    by ForMove = still (d == e) refl false refl
-    by ForMerge = held (get_or s.of_runs e false)
+-- what is noted isn't of the device
+pub noted_shape : (r : Reason) (e given : ℕ) (s : State) → shape (noted_in r e given s) ≡ shape s
+noted_shape ForPut e given s = refl
+noted_shape ForRun e given s = refl
+noted_shape ForMove e given s = refl
+noted_shape ForMerge e given s = refl
 
 -- what is noted of the extents, where they were x before
 pub noted_extents : (s : State) (S : Shape) (x : Extents) (r : Reason) (e k given : ℕ) → e < length s.of_runs → given ≡ x.pointer e → s.open_extent ≡ x.open_extent
     → extents_of (noted_in r e given s) ≡ noted_by S true r x e k (extents_of s)
-noted_extents s S x r e k given lt is before = λ i. record {
-  pointer = (extents_of s).pointer;
-  generation = (extents_of s).generation;
-  reset = (extents_of s).reset;
-  open_extent = open_is r i;
-  swept = (extents_of s).swept;
-  of_runs = λ d. runs_noted s S r e lt d i;
-  found = (extents_of s).found;
-  fresh = fresh_is r i;
-  last = last_is r i;
-}
-  where
-    open_is : (r : Reason) → open_noted r e s.open_extent ≡ (noted_by S true r x e k (extents_of s)).open_extent
-    open_is ForPut = refl
-    open_is ForRun = before
-    open_is ForMove = before
-    open_is ForMerge = before
-
-    fresh_is : (r : Reason) → fresh_noted r e given s.fresh ≡ (noted_by S true r x e k (extents_of s)).fresh
-    fresh_is ForPut = refl
-    fresh_is ForRun = refl
-    fresh_is ForMove = ap (λ (n : ℕ). if n == 0 then Some e else s.fresh) is
-    fresh_is ForMerge = refl
-
-    last_is : (r : Reason) → last_noted r e s.last ≡ (noted_by S true r x e k (extents_of s)).last
-    last_is ForPut = refl
-    last_is ForRun = refl
-    last_is ForMove = refl
-    last_is ForMerge = refl
+noted_extents s S x ForPut e k given lt is before = refl
+noted_extents s S x ForRun e k given lt is before = run_noted s S x e k lt before
+noted_extents s S x ForMove e k given lt is before =
+    ap (λ (o : Option ℕ). record (extents_of s) { open_extent = o; fresh = if given == 0 then Some e else s.fresh; last = Some e }) before
+    ∙ ap (λ (n : ℕ). record (extents_of s) { open_extent = x.open_extent; fresh = if n == 0 then Some e else s.fresh; last = Some e }) is
+noted_extents s S x ForMerge e k given lt is before = run_noted s S x e k lt before
 
 -- an extent is emptied, and nothing is noted of it
 pub reset_noted : (s : State) (e root g : ℕ) (o l : Option ℕ) → e < length s.written → e < length s.resets → e < length s.of_runs → e < length s.found
@@ -159,17 +133,10 @@ mark_set s e b lt = λ i. record {
 
 -- extents keep what they do, whatever is noted
 module _ (s : State) (whole : IsWhole s) (e : ℕ) (there : e < length s.written) (some : 0 < (extents_of s).pointer e) where
-  each : (r : Reason) (o : Option ℕ) → o ≡ open_noted r e s.open_extent → (d : ℕ) → o ≡ Some d → (d < length s.written) × (0 < (extents_of s).pointer d)
-  each ForPut o is d at =
-      let same : e ≡ d = same_Some e d (sym is ∙ at) in
-      (subst (λ (n : ℕ). n < length s.written) same there, subst (λ (n : ℕ). 0 < (extents_of s).pointer n) same some)
-  each ForRun o is d at = (whole.open_inside d (sym is ∙ at), whole.open_begun d (sym is ∙ at))
-  each ForMove o is d at = (whole.open_inside d (sym is ∙ at), whole.open_begun d (sym is ∙ at))
-  each ForMerge o is d at = (whole.open_inside d (sym is ∙ at), whole.open_begun d (sym is ∙ at))
-
-  pub noted_whole : (r : Reason) (o fresh last : Option ℕ) (kinds : List Bool) → o ≡ open_noted r e s.open_extent → length kinds ≡ length s.of_runs
+  kept : (o fresh last : Option ℕ) (kinds : List Bool) → length kinds ≡ length s.of_runs
+      → ((d : ℕ) → o ≡ Some d → (d < length s.written) × (0 < (extents_of s).pointer d))
       → IsWhole (record s { open_extent = o; of_runs = kinds; fresh = fresh; last = last })
-  noted_whole r o fresh last kinds is same = record {
+  kept o fresh last kinds same opened = record {
     geometry = whole.geometry;
     all_resets = whole.all_resets;
     all_swept = whole.all_swept;
@@ -179,9 +146,20 @@ module _ (s : State) (whole : IsWhole s) (e : ℕ) (there : e < length s.written
     found_pages = whole.found_pages;
     found_given = whole.found_given;
     roots = whole.roots;
-    open_inside = λ d at. (each r o is d at).0;
-    open_begun = λ d at. (each r o is d at).1;
+    open_inside = λ d at. (opened d at).0;
+    open_begun = λ d at. (opened d at).1;
   }
+
+  as_before : (d : ℕ) → s.open_extent ≡ Some d → (d < length s.written) × (0 < (extents_of s).pointer d)
+  as_before d at = (whole.open_inside d at, whole.open_begun d at)
+
+  pub noted_whole : (r : Reason) (given : ℕ) → IsWhole (noted_in r e given s)
+  noted_whole ForPut given = kept (Some e) s.fresh s.last s.of_runs refl (λ d at.
+      let same : e ≡ d = same_Some e d at in
+      (subst (λ (n : ℕ). n < length s.written) same there, subst (λ (n : ℕ). 0 < (extents_of s).pointer n) same some))
+  noted_whole ForRun given = kept s.open_extent s.fresh s.last (set s.of_runs e true) (length-set s.of_runs e true) as_before
+  noted_whole ForMove given = kept s.open_extent (if given == 0 then Some e else s.fresh) (Some e) s.of_runs refl as_before
+  noted_whole ForMerge given = kept s.open_extent s.fresh s.last (set s.of_runs e true) (length-set s.of_runs e true) as_before
 
 -- ---- a frame is given pages
 

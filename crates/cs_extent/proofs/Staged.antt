@@ -19,16 +19,15 @@ pub names_versions : (d : Named) (family version : ℕ) → ((n : ℕ) → Names
 names_versions d family version plain versions (Plain n) = ((λ h. plain n h), (λ h. absurd h))
 names_versions d family version plain versions (Version f v) = versions f v
 
-pub names_section : (a b d : Named) (first last version : ℕ) → ((n : ℕ) → Names a (Plain n) ↔ ((first ≤ n) × (n ≤ last))) → ((f v : ℕ) → Names a (Version f v) → ⊥)
-    → ((x : Element) → Names b x ↔ IsVersionUpTo root_family version x) → ((x : Element) → Names d x ↔ (Names a x ⊎ Names b x))
-    → (x : Element) → Names d x ↔ IsSectionNeed first last version x
-names_section a b d first last version plain none versions both (Plain n) = (
-  (λ h. ⊎_elim (λ (l : Names a (Plain n)). (plain n).0 l) (λ (r : Names b (Plain n)). absurd ((versions (Plain n)).0 r)) ((both (Plain n)).0 h)),
+pub names_section : (a d : Named) (first last version : ℕ) → ((n : ℕ) → Names a (Plain n) ↔ ((first ≤ n) × (n ≤ last))) → ((f v : ℕ) → Names a (Version f v) → ⊥)
+    → ((x : Element) → Names d x ↔ (Names a x ⊎ IsVersionUpTo root_family version x)) → (x : Element) → Names d x ↔ IsSectionNeed first last version x
+names_section a d first last version plain none both (Plain n) = (
+  (λ h. ⊎_elim (λ (l : Names a (Plain n)). (plain n).0 l) (λ (r : IsVersionUpTo root_family version (Plain n)). absurd r) ((both (Plain n)).0 h)),
   (λ h. (both (Plain n)).1 (inl ((plain n).1 h))),
 )
-names_section a b d first last version plain none versions both (Version f v) = (
-  (λ h. ⊎_elim (λ (l : Names a (Version f v)). absurd (none f v l)) (λ (r : Names b (Version f v)). (versions (Version f v)).0 r) ((both (Version f v)).0 h)),
-  (λ h. (both (Version f v)).1 (inr ((versions (Version f v)).1 h))),
+names_section a d first last version plain none both (Version f v) = (
+  (λ h. ⊎_elim (λ (l : Names a (Version f v)). absurd (none f v l)) (λ (r : IsVersionUpTo root_family version (Version f v)). r) ((both (Version f v)).0 h)),
+  (λ h. (both (Version f v)).1 (inr h)),
 )
 
 pub section_within : (d : Named) (first last version : ℕ) (latest : List ℕ) → 1 ≤ first → ((x : Element) → Names d x ↔ IsSectionNeed first last version x) → version ≤ get_or latest root_family 0 → IsWithin d last latest
@@ -36,18 +35,6 @@ section_within d first last version latest some names le (Plain n) h = let r = (
 section_within d first last version latest some names le (Version f v) h =
     let r = (names (Version f v)).0 h in
     subst (λ g. v ≤ get_or latest g 0) (sym r.0) (omega (arith, r.2, le))
-
-pub names_root : (a b d : Named) (pages : ℕ) (latest : List ℕ) → ((n : ℕ) → Names a (Plain n) ↔ ((1 ≤ n) × (n ≤ pages))) → ((f v : ℕ) → Names a (Version f v) → ⊥)
-    → ((x : Element) → Names b x ↔ IsSectionVersionUpTo latest x) → ((x : Element) → Names d x ↔ (Names a x ⊎ Names b x))
-    → (x : Element) → Names d x ↔ IsRootNeed pages latest x
-names_root a b d pages latest plain none versions both (Plain n) = (
-  (λ h. ⊎_elim (λ (l : Names a (Plain n)). (plain n).0 l) (λ (r : Names b (Plain n)). absurd ((versions (Plain n)).0 r)) ((both (Plain n)).0 h)),
-  (λ h. (both (Plain n)).1 (inl ((plain n).1 h))),
-)
-names_root a b d pages latest plain none versions both (Version f v) = (
-  (λ h. ⊎_elim (λ (l : Names a (Version f v)). absurd (none f v l)) (λ (r : Names b (Version f v)). (versions (Version f v)).0 r) ((both (Version f v)).0 h)),
-  (λ h. (both (Version f v)).1 (inr ((versions (Version f v)).1 h))),
-)
 
 -- a section's family isn't the root's
 pub not_root : (j : ℕ) → family_of j ≢ root_family
@@ -68,18 +55,19 @@ family_small (suc j) = omega arith
 
 -- what a root needs of its own, family by family
 
-abbrev pub IsBelow : (families : ℕ) → (latest : List ℕ) → Element → Type 0
-IsBelow families latest (Plain n) = ⊥
-IsBelow families latest (Version f v) = (f < families) × IsSectionVersionUpTo latest (Version f v)
+abbrev pub IsBelow : (pages families : ℕ) → (latest : List ℕ) → Element → Type 0
+IsBelow pages families latest (Plain n) = (1 ≤ n) × (n ≤ pages)
+IsBelow pages families latest (Version f v) = (f < families) × IsSectionVersionUpTo latest (Version f v)
 
-pub none_below : (d : Named) (latest : List ℕ) → ((x : Element) → Names d x → ⊥) → (x : Element) → Names d x ↔ IsBelow 0 latest x
-none_below d latest none (Plain n) = ((λ h. none (Plain n) h), (λ h. absurd h))
-none_below d latest none (Version f v) = ((λ h. absurd (none (Version f v) h)), (λ h. absurd (omega (arith, h.0))))
+pub none_below : (d : Named) (pages : ℕ) (latest : List ℕ) → ((n : ℕ) → Names d (Plain n) ↔ ((1 ≤ n) × (n ≤ pages))) → ((f v : ℕ) → Names d (Version f v) → ⊥)
+    → (x : Element) → Names d x ↔ IsBelow pages 0 latest x
+none_below d pages latest plain none (Plain n) = plain n
+none_below d pages latest plain none (Version f v) = ((λ h. absurd (none f v h)), (λ h. absurd (omega (arith, h.0))))
 
 -- the root's family is passed over
-pub below_root : (d : Named) (latest : List ℕ) (k : ℕ) → k ≡ root_family → ((x : Element) → Names d x ↔ IsBelow k latest x) → (x : Element) → Names d x ↔ IsBelow (k + 1) latest x
-below_root d latest k is was (Plain n) = was (Plain n)
-below_root d latest k is was (Version f v) = (
+pub below_root : (d : Named) (pages : ℕ) (latest : List ℕ) (k : ℕ) → k ≡ root_family → ((x : Element) → Names d x ↔ IsBelow pages k latest x) → (x : Element) → Names d x ↔ IsBelow pages (k + 1) latest x
+below_root d pages latest k is was (Plain n) = was (Plain n)
+below_root d pages latest k is was (Version f v) = (
   (λ h. let r = (was (Version f v)).0 h in (omega (arith, r.0), r.1)),
   (λ h.
       let lower : f < k = less f k (omega (arith, h.0)) (λ same. h.1.0 (same ∙ is)) in
@@ -90,13 +78,13 @@ below_root d latest k is was (Version f v) = (
     less f k le other = omega (arith, le, other)
 
 -- and of each other one its versions are named
-pub below_more : (d e : Named) (latest : List ℕ) (k version : ℕ) → k ≢ root_family → version ≡ get_or latest k 0 → ((x : Element) → Names d x ↔ IsBelow k latest x)
-    → ((x : Element) → Names e x ↔ (Names d x ⊎ IsVersionUpTo k version x)) → (x : Element) → Names e x ↔ IsBelow (k + 1) latest x
-below_more d e latest k version other is was both (Plain n) = (
-  (λ h. ⊎_elim (λ (l : Names d (Plain n)). (was (Plain n)).0 l) (λ (r : IsVersionUpTo k version (Plain n)). r) ((both (Plain n)).0 h)),
-  (λ h. absurd h),
+pub below_more : (d e : Named) (pages : ℕ) (latest : List ℕ) (k version : ℕ) → k ≢ root_family → version ≡ get_or latest k 0 → ((x : Element) → Names d x ↔ IsBelow pages k latest x)
+    → ((x : Element) → Names e x ↔ (Names d x ⊎ IsVersionUpTo k version x)) → (x : Element) → Names e x ↔ IsBelow pages (k + 1) latest x
+below_more d e pages latest k version other is was both (Plain n) = (
+  (λ h. ⊎_elim (λ (l : Names d (Plain n)). (was (Plain n)).0 l) (λ (r : IsVersionUpTo k version (Plain n)). absurd r) ((both (Plain n)).0 h)),
+  (λ h. (both (Plain n)).1 (inl ((was (Plain n)).1 h))),
 )
-below_more d e latest k version other is was both (Version f v) = (
+below_more d e pages latest k version other is was both (Version f v) = (
   (λ h. ⊎_elim
       (λ (l : Names d (Version f v)). let r = (was (Version f v)).0 l in (omega (arith, r.0), r.1))
       (λ (r : IsVersionUpTo k version (Version f v)).
@@ -111,26 +99,26 @@ below_more d e latest k version other is was both (Version f v) = (
       (cases_lt f k))),
 )
 
-pub below_step : (d e : Named) (latest : List ℕ) (k version : ℕ) → (k ≡ root_family → version ≡ 0) → (k ≢ root_family → version ≡ get_or latest k 0)
-    → ((x : Element) → Names d x ↔ IsBelow k latest x) → ((x : Element) → Names e x ↔ (Names d x ⊎ IsVersionUpTo k version x)) → (x : Element) → Names e x ↔ IsBelow (k + 1) latest x
-below_step d e latest k version none last was both = ⊎_elim
-    (λ (is : k ≡ root_family). below_root e latest k is (λ x. same x (none is)))
-    (λ (other : k ≢ root_family). below_more d e latest k version other (last other) was both)
+pub below_step : (d e : Named) (pages : ℕ) (latest : List ℕ) (k version : ℕ) → (k ≡ root_family → version ≡ 0) → (k ≢ root_family → version ≡ get_or latest k 0)
+    → ((x : Element) → Names d x ↔ IsBelow pages k latest x) → ((x : Element) → Names e x ↔ (Names d x ⊎ IsVersionUpTo k version x)) → (x : Element) → Names e x ↔ IsBelow pages (k + 1) latest x
+below_step d e pages latest k version none last was both = ⊎_elim
+    (λ (is : k ≡ root_family). below_root e pages latest k is (λ x. same x (none is)))
+    (λ (other : k ≢ root_family). below_more d e pages latest k version other (last other) was both)
     (cases_eq k root_family)
   where
     nothing : (x : Element) → version ≡ 0 → IsVersionUpTo k version x → ⊥
     nothing (Plain n) is h = h
     nothing (Version f v) is h = absurd (omega (arith, h.1, h.2, is))
 
-    same : (x : Element) → version ≡ 0 → Names e x ↔ IsBelow k latest x
+    same : (x : Element) → version ≡ 0 → Names e x ↔ IsBelow pages k latest x
     same x is = (
       (λ h. ⊎_elim (λ (l : Names d x). (was x).0 l) (λ (r : IsVersionUpTo k version x). absurd (nothing x is r)) ((both x).0 h)),
       (λ h. (both x).1 (inl ((was x).1 h))),
     )
 
-pub all_below : (d : Named) (latest : List ℕ) (k : ℕ) → length latest ≤ k → ((x : Element) → Names d x ↔ IsBelow k latest x) → (x : Element) → Names d x ↔ IsSectionVersionUpTo latest x
-all_below d latest k le was (Plain n) = was (Plain n)
-all_below d latest k le was (Version f v) = (
+pub all_below : (d : Named) (pages : ℕ) (latest : List ℕ) (k : ℕ) → length latest ≤ k → ((x : Element) → Names d x ↔ IsBelow pages k latest x) → (x : Element) → Names d x ↔ IsRootNeed pages latest x
+all_below d pages latest k le was (Plain n) = was (Plain n)
+all_below d pages latest k le was (Version f v) = (
   (λ h. ((was (Version f v)).0 h).1),
   (λ h. (was (Version f v)).1 (inside f (λ past. omega (arith, h.1, h.2, past_end latest f past)), h)),
 )

@@ -1,5 +1,7 @@
 -- Where frames go that are to be appended, and how many versions of each section they take.
-use Rattle.std.proofs.Common.{◌≡◌, ◌≢◌, ◌∙◌, ◌↔◌, ℕ, zero, suc, ◌+◌, ◌-◌, ◌^◌, ◌<◌, ◌≤◌, ◌==◌, min, Bool, true, false, cond, List, [], ◌∷◌, length, drop, get_or, set, replicate, sum, Option, Some, None, refl, sym, ap, subst, inr, ⊎_elim, arith, length-set}
+use Rattle.std.proofs.Common.{◌≡◌, ◌≢◌, ◌∙◌, ◌↔◌, ℕ, zero, suc, ◌+◌, ◌-◌, ◌^◌, ◌<◌, ◌≤◌, ◌==◌, min, Bool, true, false, cond, List, [], ◌∷◌, length, drop, get_or, set, replicate, sum, Option, Some, None, refl, sym, ap, subst, inl, inr, ⊎_elim, arith, length-set, true≢false}
+use Rattle.std.specs.Option.{is_some}
+use Rattle.std.specs.Prelude.{◌⊎◌, MatchOption}
 use Rattle.std.proofs.lemmas.Bool.{cases_eq, cases_lt}
 use Rattle.std.proofs.lemmas.Bool.Decides.{nat_tests}
 use Rattle.std.proofs.lemmas.List.{drop_all, get_or-set_other, get_or-set_same}
@@ -16,7 +18,7 @@ use Rattle.cs_extent.specs.declared.places_v2.Way.{Way}
 use Rattle.cs_extent.specs.Frames.{family_of}
 use Rattle.cs_extent.specs.Places.{room_at}
 use Rattle.cs_extent.specs.State.{IsWhole, State, extents_of, shape}
-use Rattle.cs_extent.specs.Worn.{AreCounted, AreCountedBy, ArePlaced, ArePlacedBy, AreWornBy, IsEmptyFrom, in_section}
+use Rattle.cs_extent.specs.Worn.{AreCountedBy, ArePlacedBy, AreWornBy, IsEmptyFrom, in_section}
 use Rattle.cs_extent.proofs.Changes.{zeros_at}
 use Rattle.cs_extent.proofs.Staged.{family_inside}
 use Rattle.cs_extent.proofs.Fitting.{IsBegun, begun_of, placed_inside, pointer_grows, room_behind, room_is, taken_begun, with_other, with_same}
@@ -52,7 +54,7 @@ places_once_by S apart x r [] [] (e ∷ es) a b = absurd b
 places_once_by S apart x r (k ∷ ks) [] es a b = absurd a
 places_once_by S apart x r (k ∷ ks) (d ∷ ds) [] a b = absurd b
 
-pub places_once : (S : Shape) (x : Extents) (r : Reason) (ks ds es : List ℕ) → ArePlaced S x r ks ds → ArePlaced S x r ks es → ds ≡ es
+pub places_once : (S : Shape) (x : Extents) (r : Reason) (ks ds es : List ℕ) → ArePlacedBy S false x r ks ds → ArePlacedBy S false x r ks es → ds ≡ es
 places_once S x r ks ds es a b = places_once_by S false x r ks ds es a b
 
 -- frames that fit have places
@@ -61,6 +63,12 @@ places_there S apart x r [] fits = ([], tt)
 places_there S apart x r (k ∷ ks) fits =
     let rest = places_there S apart (taken_by S apart r x fits.0 k) r ks fits.2 in
     (fits.0 ∷ rest.0, (fits.1, rest.1))
+
+-- frames that have places fit
+pub placed_fit : (S : Shape) (apart : Bool) (x : Extents) (r : Reason) (ks es : List ℕ) → ArePlacedBy S apart x r ks es → FitsBy S apart x r ks
+placed_fit S apart x r [] es placed = tt
+placed_fit S apart x r (k ∷ ks) (e ∷ es) placed = (e, placed.0, placed_fit S apart (taken_by S apart r x e k) r ks es placed.1)
+placed_fit S apart x r (k ∷ ks) [] placed = absurd placed
 
 -- each section has a family of its own
 pub family_one : (i j : ℕ) → family_of i ≡ family_of j → i ≡ j
@@ -218,6 +226,30 @@ module _ (S : Shape) (x y : Extents) (w : Way) (begun : IsBegun S y) (on : IsOnW
 
 -- ---- counts
 
+-- a number that is raised, unless it is great already
+raised : (c n m : ℕ) → m ≡ min (c + 1) (2 ^ 64 - 1) → (a : ℕ) → (2 ^ 63 ≤ a + (c + suc n)) ↔ (2 ^ 63 ≤ a + (m + n))
+raised c n m is a = ((λ h. omega (arith, h, is)), (λ h. omega (arith, h, is)))
+
+-- one version more of a section is counted, which the frame's extent is of
+pub count_more : (S : Shape) (counts more : List ℕ) (section e : ℕ) → section ≡ S.section e → section < length counts
+    → more ≡ set counts section (min (get_or counts section 0 + 1) (2 ^ 64 - 1)) → (later : List ℕ) (j a : ℕ)
+    → (2 ^ 63 ≤ a + (get_or counts j 0 + in_section S j (e ∷ later))) ↔ (2 ^ 63 ≤ a + (get_or more j 0 + in_section S j later))
+count_more S counts more section e is lt same later j a = ⊎_elim
+    (λ (here : j ≡ section).
+    let count : in_section S j (e ∷ later) ≡ suc (in_section S j later) = in_section_here S j e later (sym is ∙ sym here) in
+    let read : get_or more j 0 ≡ min (get_or counts j 0 + 1) (2 ^ 64 - 1) =
+    ap (λ (ns : List ℕ). get_or ns j 0) same
+    ∙ ap (λ (i : ℕ). get_or (set counts section (min (get_or counts section 0 + 1) (2 ^ 64 - 1))) i 0) here
+    ∙ get_or-set_same counts section (min (get_or counts section 0 + 1) (2 ^ 64 - 1)) 0 lt
+    ∙ ap (λ (i : ℕ). min (get_or counts i 0 + 1) (2 ^ 64 - 1)) (sym here) in
+    let law = raised (get_or counts j 0) (in_section S j later) (get_or more j 0) read a in
+    ((λ h. law.0 (omega (arith, h, count))), (λ h. let up = law.1 h in omega (arith, up, count))))
+    (λ (other : j ≢ section).
+    let count : in_section S j (e ∷ later) ≡ in_section S j later = in_section_other S j e later (λ at. other (sym at ∙ sym is)) in
+    let read : get_or more j 0 ≡ get_or counts j 0 = ap (λ (ns : List ℕ). get_or ns j 0) same ∙ get_or-set_other counts section j (min (get_or counts section 0 + 1) (2 ^ 64 - 1)) 0 other in
+    ((λ h. omega (arith, h, count, read)), (λ h. omega (arith, h, count, read))))
+    (cases_eq j section)
+
 -- So many of the frames have been counted; this is where the next goes, and wherever those that are left go, the counts with theirs are
 -- those of all.
 pub record IsCounted (S : Shape) (x : Extents) (r : Reason) (frames : List ℕ) (n : ℕ) (w : Way) (counts : List ℕ) : Type 0 where
@@ -226,8 +258,8 @@ pub record IsCounted (S : Shape) (x : Extents) (r : Reason) (frames : List ℕ) 
   pub way : IsOnWay S x extents w
   pub left : Fits S extents r (drop n frames)
   pub size : length counts ≡ 15
-  pub all : (later : List ℕ) → ArePlaced S extents r (drop n frames) later
-      → (places : List ℕ) × ArePlaced S x r frames places
+  pub all : (later : List ℕ) → ArePlacedBy S false extents r (drop n frames) later
+      → (places : List ℕ) × ArePlacedBy S false x r frames places
       × ((j a : ℕ) → j < 15 → (2 ^ 63 ≤ a + in_section S j places) ↔ (2 ^ 63 ≤ a + (get_or counts j 0 + in_section S j later)))
 
 pub counted_none : (s : State) → IsWhole s → (r : Reason) (frames : List ℕ) → Fits (shape s) (extents_of s) r frames → (w : Way)
@@ -241,10 +273,6 @@ counted_none s whole r frames fits w room last first = record {
   size = refl;
   all = λ later placed. (later, placed, (λ j a lt. let none : get_or {A = ℕ} (replicate 15 0) j 0 ≡ 0 = zeros_at 15 j in ((λ h. omega (arith, h, none)), (λ h. omega (arith, h, none)))));
 }
-
--- a number that is raised, unless it is great already
-raised : (c n m : ℕ) → m ≡ min (c + 1) (2 ^ 64 - 1) → (a : ℕ) → (2 ^ 63 ≤ a + (c + suc n)) ↔ (2 ^ 63 ≤ a + (m + n))
-raised c n m is a = ((λ h. omega (arith, h, is)), (λ h. omega (arith, h, is)))
 
 module _ (S : Shape) (x : Extents) (r : Reason) (frames : List ℕ) (n : ℕ) (w : Way) (counts : List ℕ) (was : IsCounted S x r frames n w counts) (lt : n < length frames) (some : 1 ≤ get_or frames n 0) where
   next_frame : drop n frames ≡ get_or frames n 0 ∷ drop (suc n) frames
@@ -273,21 +301,7 @@ module _ (S : Shape) (x : Extents) (r : Reason) (frames : List ℕ) (n : ℕ) (w
       of_place = ap S.section (sym on_now.0) ∙ sym is
 
       each_more : (later : List ℕ) (j a : ℕ) → (2 ^ 63 ≤ a + (get_or counts j 0 + in_section S j (next_fits.0 ∷ later))) ↔ (2 ^ 63 ≤ a + (get_or more j 0 + in_section S j later))
-      each_more later j a = ⊎_elim
-          (λ (here : j ≡ section).
-          let count : in_section S j (next_fits.0 ∷ later) ≡ suc (in_section S j later) = in_section_here S j next_fits.0 later (of_place ∙ sym here) in
-          let read : get_or more j 0 ≡ min (get_or counts j 0 + 1) (2 ^ 64 - 1) =
-          ap (λ (ns : List ℕ). get_or ns j 0) same
-          ∙ ap (λ (i : ℕ). get_or (set counts section (min (get_or counts section 0 + 1) (2 ^ 64 - 1))) i 0) here
-          ∙ get_or-set_same counts section (min (get_or counts section 0 + 1) (2 ^ 64 - 1)) 0 (omega (arith, small, was.size))
-          ∙ ap (λ (i : ℕ). min (get_or counts i 0 + 1) (2 ^ 64 - 1)) (sym here) in
-          let law = raised (get_or counts j 0) (in_section S j later) (get_or more j 0) read a in
-          ((λ h. law.0 (omega (arith, h, count))), (λ h. let up = law.1 h in omega (arith, up, count))))
-          (λ (other : j ≢ section).
-          let count : in_section S j (next_fits.0 ∷ later) ≡ in_section S j later = in_section_other S j next_fits.0 later (λ at. other (sym at ∙ of_place)) in
-          let read : get_or more j 0 ≡ get_or counts j 0 = ap (λ (ns : List ℕ). get_or ns j 0) same ∙ get_or-set_other counts section j (min (get_or counts section 0 + 1) (2 ^ 64 - 1)) 0 other in
-          ((λ h. omega (arith, h, count, read)), (λ h. omega (arith, h, count, read))))
-          (cases_eq j section)
+      each_more later j a = count_more S counts more section next_fits.0 (sym of_place) (omega (arith, small, was.size)) same later j a
 
       pub counted_more : IsCounted S x r frames (suc n) v more
       counted_more = record {
@@ -297,14 +311,14 @@ module _ (S : Shape) (x : Extents) (r : Reason) (frames : List ℕ) (n : ℕ) (w
         left = next_fits.2;
         size = ap length same ∙ length-set counts section (min (get_or counts section 0 + 1) (2 ^ 64 - 1)) ∙ was.size;
         all = λ later placed.
-            let rest = was.all (next_fits.0 ∷ later) (subst (λ (ks : List ℕ). ArePlaced S was.extents r ks (next_fits.0 ∷ later)) (sym next_frame) (next_fits.1, placed)) in
+            let rest = was.all (next_fits.0 ∷ later) (subst (λ (ks : List ℕ). ArePlacedBy S false was.extents r ks (next_fits.0 ∷ later)) (sym next_frame) (next_fits.1, placed)) in
             (rest.0, rest.1, (λ j a lt8. let before = rest.2 j a lt8 in let law = each_more later j a in ((λ h. law.0 (before.0 h)), (λ h. before.1 (law.1 h)))));
       }
 
-pub counted_all : (S : Shape) (x : Extents) (r : Reason) (frames : List ℕ) (n : ℕ) (w : Way) (counts : List ℕ) → IsCounted S x r frames n w counts → length frames ≤ n → AreCounted S x r frames counts
+pub counted_all : (S : Shape) (x : Extents) (r : Reason) (frames : List ℕ) (n : ℕ) (w : Way) (counts : List ℕ) → IsCounted S x r frames n w counts → length frames ≤ n → AreCountedBy S false x r frames counts
 counted_all S x r frames n w counts was le =
     let none : drop n frames ≡ [] = drop_all n frames le in
-    let rest = was.all [] (subst (λ (ks : List ℕ). ArePlaced S was.extents r ks []) (sym none) tt) in (
+    let rest = was.all [] (subst (λ (ks : List ℕ). ArePlacedBy S false was.extents r ks []) (sym none) tt) in (
       rest.0,
       rest.1,
       (λ j a lt.
@@ -313,26 +327,41 @@ counted_all S x r frames n w counts was le =
           ((λ h. let up = law.0 h in omega (arith, up, nothing)), (λ h. law.1 (omega (arith, h, nothing))))),
     )
 
--- with the counts it is found out
-pub worn_by : (apart : Bool) (x : State) (s : Staging) (r : Reason) (pages counts : List ℕ) (sections : ℕ) (b : Bool) → IsWhole x → (2 ^ 63 ≤ s.staged + sum pages → ⊥) → AreCountedBy (shape x) apart (extents_of x) r pages counts
-    → sections ≡ x.sections → (b ≡ true) ↔ ((j : ℕ) × (j < sections) × (2 ^ 63 ≤ get_or s.latest (family_of j) 0 + get_or counts j 0)) → (b ≡ true) ↔ AreWornBy apart x s r pages
-worn_by apart x s r pages counts sections b whole not counted all is = (
-  (λ t.
-      let w = is.0 t in
+-- frames whose versions are counted fit
+pub counted_fit : (S : Shape) (apart : Bool) (x : Extents) (r : Reason) (pages counts : List ℕ) → AreCountedBy S apart x r pages counts → FitsBy S apart x r pages
+counted_fit S apart x r pages counts counted = placed_fit S apart x r pages counted.0 counted.1
+
+pub fits_where : (S : Shape) (apart : Bool) (x : Extents) (r : Reason) (pages : List ℕ) (o : Option (List ℕ)) (b : Bool) → b ≡ is_some o
+    → MatchOption o (FitsBy S apart x r pages → ⊥) (AreCountedBy S apart x r pages) → (b ≡ true) ↔ FitsBy S apart x r pages
+fits_where S apart x r pages None b is none = ((λ t. absurd (true≢false (sym t ∙ is))), (λ fits. absurd (none fits)))
+fits_where S apart x r pages (Some counts) b is counted = ((λ t. counted_fit S apart x r pages counts counted), (λ fits. is))
+
+module _ (apart : Bool) (x : State) (s : Staging) (r : Reason) (pages counts : List ℕ) (sections : ℕ) (whole : IsWhole x)
+    (counted : AreCountedBy (shape x) apart (extents_of x) r pages counts) (all : sections ≡ x.sections) where
+  -- the number of a plain write is past the greatest, or with the counts that of a section's version
+  abbrev ArePast : Type 0
+  ArePast = (2 ^ 63 ≤ s.staged + sum pages) ⊎ ((j : ℕ) × (j < sections) × (2 ^ 63 ≤ get_or s.latest (family_of j) 0 + get_or counts j 0))
+
+  few : (j : ℕ) → j < x.sections → j < 15
+  few j lt = omega (arith, lt, (bounds _ _ _ _ whole.geometry).most_sections)
+
+  worn_then : ArePast → AreWornBy apart x s r pages
+  worn_then (inl writes) = inl writes
+  worn_then (inr w) =
       let inside : w.0 < x.sections = omega (arith, w.1, all) in
-      inr (counted.0, counted.1, w.0, inside, (counted.2 w.0 (get_or s.latest (family_of w.0) 0) (few w.0 inside)).1 w.2)),
-  (λ h. ⊎_elim
-      (λ (n : 2 ^ 63 ≤ s.staged + sum pages). absurd (not n))
-      (λ (w : (places : List ℕ) × ArePlacedBy (shape x) apart (extents_of x) r pages places × (j : ℕ) × (j < x.sections) × (2 ^ 63 ≤ get_or s.latest (family_of j) 0 + in_section (shape x) j places)).
+      inr (counted.0, counted.1, w.0, inside, (counted.2 w.0 (get_or s.latest (family_of w.0) 0) (few w.0 inside)).1 w.2)
+
+  past_then : AreWornBy apart x s r pages → ArePast
+  past_then (inl writes) = inl writes
+  past_then (inr w) =
       let same : w.0 ≡ counted.0 = places_once_by (shape x) apart (extents_of x) r pages w.0 counted.0 w.1 counted.1 in
-      is.1 (
+      inr (
         w.2,
         omega (arith, w.3, all),
         (counted.2 w.2 (get_or s.latest (family_of w.2) 0) (few w.2 w.3)).0
             (subst (λ (ps : List ℕ). 2 ^ 63 ≤ get_or s.latest (family_of w.2) 0 + in_section (shape x) w.2 ps) same w.4),
-      ))
-      h),
-)
-  where
-    few : (j : ℕ) → j < x.sections → j < 15
-    few j lt = omega (arith, lt, (bounds _ _ _ _ whole.geometry).most_sections)
+      )
+
+  -- with the counts it is found out
+  pub worn_by : (b : Bool) → (b ≡ true) ↔ ArePast → (b ≡ true) ↔ AreWornBy apart x s r pages
+  worn_by b is = ((λ t. worn_then (is.0 t)), (λ w. is.1 (past_then w)))

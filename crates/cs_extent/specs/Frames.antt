@@ -52,6 +52,10 @@ IsRootNeed pages latest (Version f v) = IsSectionVersionUpTo latest (Version f v
 abbrev pub next_section : Staging → (j : ℕ) → Element
 next_section s j = Version (family_of j) (slice_index s.latest (family_of j) + 1)
 
+-- these needs name the next version of section j and all before it
+abbrev pub NamesNextSection : Staging → (j : ℕ) → Named → Type 0
+NamesNextSection s j needs = (x : Element) → Names needs x ↔ IsVersionUpTo (family_of j) (slice_index s.latest (family_of j) + 1) x
+
 -- what a section's version that is staged then records in a format: the version of the root that is persistent
 abbrev pub root_recorded : (format : ℕ) → Staging → ℕ
 root_recorded format s = record_in format (slice_index s.pending.persistent root_family)

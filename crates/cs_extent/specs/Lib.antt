@@ -4,8 +4,8 @@ pub mod Frames
 pub mod Kinds
 pub mod Notes
 pub mod Places
+pub mod Planned
 pub mod Purposes
-pub mod Puts
 pub mod Sections
 pub mod State
 pub mod Worn

@@ -1,6 +1,6 @@
 -- Where frames go that are to be appended one after another, how many versions of each section they take, and whether a number
 -- would pass its greatest.
-use Rattle.std.specs.Prelude.{◌≡◌, ◌⊎◌, ◌↔◌, ◌+◌, ◌^◌, ◌<◌, ◌≤◌, ◌==◌, ℕ, Bool, false, List, [], ◌∷◌, count_by, slice_index, sum}
+use Rattle.std.specs.Prelude.{◌≡◌, ◌⊎◌, ◌↔◌, ◌+◌, ◌^◌, ◌<◌, ◌≤◌, ◌==◌, ℕ, Bool, List, [], ◌∷◌, count_by, slice_index, sum}
 use Rattle.cs_deps.specs.Staging.{Staging}
 use Rattle.law_machine.specs.Device.{Shape}
 use Rattle.law_machine.specs.Extents.{Extents, Goes, Purpose as Reason, taken_by}
@@ -13,8 +13,9 @@ abbrev pub IsFrameWornBy : (apart : Bool) → State → Reason → Staging → (
 IsFrameWornBy apart x reason s pages =
     (e : ℕ) × Goes (shape x) apart (extents_of x) reason pages e × IsWorn s ((shape x).section e) pages
 
+-- so by the extents' own rule
 abbrev pub IsFrameWorn : State → Reason → Staging → (pages : ℕ) → Type 0
-IsFrameWorn x reason s pages = IsFrameWornBy false x reason s pages
+IsFrameWorn x reason s pages = IsFrameWornBy (shape x).apart x reason s pages
 
 -- frames of these numbers of pages go to these extents, one after another
 abbrev pub ArePlacedBy : Shape → (apart : Bool) → Extents → Reason → (pages places : List ℕ) → Type 0
@@ -23,9 +24,6 @@ ArePlacedBy S apart x reason (k ∷ ks) (e ∷ es) =
     Goes S apart x reason k e × ArePlacedBy S apart (taken_by S apart reason x e k) reason ks es
 ArePlacedBy S apart x reason [] (e ∷ es) = ⊥
 ArePlacedBy S apart x reason (k ∷ ks) [] = ⊥
-
-abbrev pub ArePlaced : Shape → Extents → Reason → (pages places : List ℕ) → Type 0
-ArePlaced S x reason pages places = ArePlacedBy S false x reason pages places
 
 -- how many of these places are extents of section j
 abbrev pub in_section : Shape → (j : ℕ) → (places : List ℕ) → ℕ
@@ -37,8 +35,9 @@ AreWornBy apart x s reason pages = (2 ^ 63 ≤ s.staged + sum pages)
     ⊎ ((places : List ℕ) × ArePlacedBy (shape x) apart (extents_of x) reason pages places
     × (j : ℕ) × (j < x.sections) × (2 ^ 63 ≤ slice_index s.latest (family_of j) + in_section (shape x) j places))
 
+-- so by the extents' own rule
 abbrev pub AreWorn : State → Staging → Reason → (pages : List ℕ) → Type 0
-AreWorn x s reason pages = AreWornBy false x s reason pages
+AreWorn x s reason pages = AreWornBy (shape x).apart x s reason pages
 
 -- e is the first empty extent of those from this one on
 pub record IsEmptyFrom (extents : ℕ) (pointer : ℕ → ℕ) (start e : ℕ) : Type 0 where
@@ -53,5 +52,6 @@ abbrev pub AreCountedBy : Shape → (apart : Bool) → Extents → Reason → (p
 AreCountedBy S apart x reason pages counts = (places : List ℕ) × ArePlacedBy S apart x reason pages places
     × ((j a : ℕ) → j < 15 → (2 ^ 63 ≤ a + in_section S j places) ↔ (2 ^ 63 ≤ a + slice_index counts j))
 
-abbrev pub AreCounted : Shape → Extents → Reason → (pages counts : List ℕ) → Type 0
-AreCounted S x reason pages counts = AreCountedBy S false x reason pages counts
+-- so by the extents' own rule
+abbrev pub AreCounted : State → Reason → (pages counts : List ℕ) → Type 0
+AreCounted x reason pages counts = AreCountedBy (shape x) (shape x).apart (extents_of x) reason pages counts

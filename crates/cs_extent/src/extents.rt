@@ -1,21 +1,19 @@
 //! The extents of a store.
 ghost use Rattle.std.specs.Prelude.{◌≡◌, ℕ, ◌+◌, ◌-◌, ◌*◌, ◌<◌, ◌≤◌, ◌^◌, ◌↔◌, ◌⊎◌, ◌==◌, if◌then◌else◌, false, true, IfOk, IfErr, OnOk, OnErr, IsOk, IsTrue, List, count_by, Some, None, length, replicate, slice_index};
-ghost use Rattle.cs_deps.specs.declared.elements.Element.{Element as Item};
-ghost use Rattle.cs_deps.specs.Named.{Names};
-ghost use Rattle.cs_deps.specs.State.{write_of};
 ghost use Rattle.law_machine.specs.Device.{mark_of};
-ghost use Rattle.law_machine.specs.Extents.{Goes, emptied, empties, forgotten, marked, taken_by};
+ghost use Rattle.law_machine.specs.Extents.{emptied, empties, forgotten, marked, taken_by};
 ghost use Rattle.law_machine.specs.Lists.{with};
 ghost use Rattle.cs_frame.specs.Superblocks.{FitsRecord};
-ghost use Rattle.cs_extent.specs.Appended.{IsAppendedBy};
-ghost use Rattle.cs_extent.specs.Frames.{AreResetsStaged, AreWritten, IsFrameStaged, IsOfFrame, IsVersionUpTo, IsWorn, AddsOnlyOf, family_of, greatest, next_place, next_section, root_family, root_recorded};
+ghost use Rattle.cs_extent.specs.Appended.{IsAppended, IsReady};
+ghost use Rattle.cs_extent.specs.Frames.{IsWorn, NamesNextSection, greatest, next_place, root_family, root_recorded};
+ghost use Rattle.cs_extent.specs.Places.{GoesIn};
 ghost use Rattle.cs_extent.specs.Purposes.{reason_of};
 ghost use Rattle.cs_extent.specs.Sections.{AreSections, format_of, pages_of, rows_of};
 ghost use Rattle.cs_extent.specs.State.{IsWhole, SpellsExtents, extents_of, need_of, extents_at, shape};
-ghost use Rattle.cs_extent.specs.Worn.{IsFrameWornBy};
+ghost use Rattle.cs_extent.specs.Worn.{IsFrameWorn};
 
 use crate::notes::{found_at, other_than};
-use crate::places::is_worn;
+use crate::numbers::is_worn;
 use crate::purposes::Purpose;
 use crate::recorded_extents::{geometry_of, joined};
 use crate::staged_frames::{FramePlace, ROOT, on_versions, section_family, stage_frame};
@@ -365,24 +363,17 @@ impl Extents {
         extent: usize,
         purpose: Purpose,
     ) -> (Locator, Dependency)
+        requires goes { GoesIn self.old (reason_of purpose) (length frame.now) extent }
         requires exists { extent < (shape self.old).extents }
         requires some { 1 ≤ length frame.now }
         requires fits { (extents_of self.old).pointer extent + length frame.now ≤ (shape self.old).pages }
-        requires families { length graph.old.staging.latest ≡ 1 + (shape self.old).sections }
-        requires resets { AreResetsStaged (extents_of self.old) graph.old.staging }
+        requires ready { IsReady self.old graph.old.staging }
         requires numbers { ¬ IsWorn graph.old.staging ((shape self.old).section extent) (length frame.now) }
         requires room { length frame.now + 1 ≤ graph.old.room }
-        ensures locator { result.0 ≡ next_place (extents_of self.old) extent (mark_of (shape self.old) frame.now) }
-        ensures extents { extents_of self.new ≡ taken_by (shape self.old) (shape self.old).apart (reason_of purpose) (extents_of self.old) extent (length frame.now) }
-        ensures shape { shape self.new ≡ shape self.old }
-        ensures staged { IsFrameStaged graph.old.staging graph.new.staging (shape self.old).pages_first (shape self.old).sections ((shape self.old).section extent) (length frame.now) ((extents_of self.old).reset extent) (need_of self.old ((shape self.old).section extent)) }
-        ensures pages { AreWritten graph.new graph.old.staging.staged (length frame.now) (λ i. (shape self.old).address extent ((extents_of self.old).pointer extent + i)) frame.now }
-        ensures section { (page : List ℕ) × (write_of graph.new (next_section graph.old.staging ((shape self.old).section extent)) ≡ Some ((shape self.old).section_page ((shape self.old).section extent), page)) × SpellsExtents self.new ((shape self.old).section extent) (slice_index graph.old.staging.latest (family_of ((shape self.old).section extent)) + 1) (root_recorded (shape self.old).format graph.old.staging) page }
-        ensures others { AddsOnlyOf graph.old graph.new (IsOfFrame graph.old.staging ((shape self.old).section extent) (length frame.now)) }
-        ensures round { graph.new.round ≡ graph.old.round }
-        ensures dependency { (x : Item) → Names result.1 x ↔ IsVersionUpTo (family_of ((shape self.old).section extent)) (slice_index graph.old.staging.latest (family_of ((shape self.old).section extent)) + 1) x }
-        ensures resets { AreResetsStaged (extents_of self.new) graph.new.staging }
-        ensures families { length graph.new.staging.latest ≡ length graph.old.staging.latest }
+        ensures appended { IsAppended self.old graph.old (reason_of purpose) frame.now result.0 self.new graph.new }
+        ensures dependency { NamesNextSection graph.old.staging ((shape self.old).section extent) result.1 }
+        ensures place { result.0.extent ≡ extent }
+        ensures ready { IsReady self.new graph.new.staging }
         ensures left { graph.old.room ≤ graph.new.room + (length frame.now + 1) }
     {
         let alloc = *self.resets.allocator();
@@ -417,21 +408,19 @@ impl Extents {
         purpose: Purpose,
     ) -> Result<(Locator, Dependency), Refusal>
         requires pages { (1 ≤ length frame.now) × (length frame.now ≤ (shape self.old).pages) }
-        requires families { length graph.old.staging.latest ≡ 1 + (shape self.old).sections }
-        requires resets { AreResetsStaged (extents_of self.old) graph.old.staging }
+        requires ready { IsReady self.old graph.old.staging }
 
         // The frame lies behind the pointer of the extent that takes it, and all of it is staged.
-        ensures appended { IfOk result (λ r. IsAppendedBy (shape self.old).apart self.old graph.old (reason_of purpose) frame.now r.0 self.new graph.new) }
+        ensures appended { IfOk result (λ r. IsAppended self.old graph.old (reason_of purpose) frame.now r.0 self.new graph.new) }
         ensures shape { shape self.new ≡ shape self.old }
-        ensures dependency { IfOk result (λ r. (x : Item) → Names r.1 x ↔ IsVersionUpTo (family_of ((shape self.old).section r.0.extent)) (slice_index graph.old.staging.latest (family_of ((shape self.old).section r.0.extent)) + 1) x) }
+        ensures dependency { IfOk result (λ r. NamesNextSection graph.old.staging ((shape self.old).section r.0.extent) r.1) }
         ensures round { graph.new.round ≡ graph.old.round }
 
         // Whatever the answer, the next append may be made.
-        ensures resets { AreResetsStaged (extents_of self.new) graph.new.staging }
-        ensures families { length graph.new.staging.latest ≡ length graph.old.staging.latest }
+        ensures ready { IsReady self.new graph.new.staging }
 
-        ensures full { (result ≡ Err Refusal.Full) ↔ ((e : ℕ) → ¬ Goes (shape self.old) (shape self.old).apart (extents_of self.old) (reason_of purpose) (length frame.now) e) }
-        ensures worn { (result ≡ Err Refusal.WornOut) ↔ IsFrameWornBy (shape self.old).apart self.old (reason_of purpose) graph.old.staging (length frame.now) }
+        ensures full { (result ≡ Err Refusal.Full) ↔ ((e : ℕ) → ¬ GoesIn self.old (reason_of purpose) (length frame.now) e) }
+        ensures worn { (result ≡ Err Refusal.WornOut) ↔ IsFrameWorn self.old (reason_of purpose) graph.old.staging (length frame.now) }
         ensures refusals { IfErr result (λ r. (r ≡ Refusal.Full) ⊎ (r ≡ Refusal.WornOut) ⊎ (r ≡ Refusal.OutOfMemory)) }
         ensures refused { OnErr result (self.new ≡ self.old) }
         ensures unstaged { OnErr result (graph.new ≡ record graph.old { room = graph.new.room }) }

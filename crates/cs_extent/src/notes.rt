@@ -3,7 +3,7 @@ ghost use Rattle.std.specs.Prelude.{◌≡◌, ◌↔◌, ◌<◌, ◌≤◌, �
 ghost use Rattle.law_machine.specs.Extents.{emptied, forgotten, other_than, reach};
 ghost use Rattle.law_machine.specs.Geometry.{apart_in, fills_in};
 ghost use Rattle.cs_extent.specs.Kinds.{is_of_runs};
-ghost use Rattle.cs_extent.specs.Notes.{fresh_noted, is_of_run, last_noted, noted_in, open_noted};
+ghost use Rattle.cs_extent.specs.Notes.{noted_in};
 ghost use Rattle.cs_extent.specs.Purposes.{reason_of};
 ghost use Rattle.cs_extent.specs.State.{IsWhole, extents_of, found_at, shape};
 
@@ -116,54 +116,22 @@ impl Extents {
         ensures notes { self.new ≡ noted_in (reason_of purpose) extent given self.old }
         ensures there { extent < length self.old.of_runs }
     {
-        let runs = self.of_runs[extent] || purpose.is_of_run();
-        self.of_runs[extent] = runs;
-        self.open_extent = purpose.open_noted(extent, self.open_extent);
-        self.fresh = purpose.fresh_noted(extent, given, self.fresh);
-        self.last = purpose.last_noted(extent, self.last);
+        match purpose {
+            Purpose::Put => self.open_extent = Some(extent),
+            Purpose::Run | Purpose::Merge => self.of_runs[extent] = true,
+            Purpose::Move => {
+                self.fresh = fresh_after(extent, given, self.fresh);
+                self.last = Some(extent);
+            }
+        }
     }
 }
 
-impl Purpose {
-    /// Whether such a frame is a run.
-    fn is_of_run(self) -> bool
-        ensures { result ≡ is_of_run (reason_of self) }
-    {
-        match self {
-            Purpose::Put | Purpose::Move => false,
-            Purpose::Run | Purpose::Merge => true,
-        }
-    }
-
-    /// The open extent once a frame went to this one, where another was open before.
-    fn open_noted(self, extent: usize, before: Option<usize>) -> Option<usize>
-        ensures { result ≡ open_noted (reason_of self) extent before }
-    {
-        match self {
-            Purpose::Put => Some(extent),
-            Purpose::Run | Purpose::Move | Purpose::Merge => before,
-        }
-    }
-
-    /// The extent that the sweep opened, once a frame went to this one, of which so many pages were given before.
-    fn fresh_noted(self, extent: usize, given: usize, before: Option<usize>) -> Option<usize>
-        ensures { result ≡ fresh_noted (reason_of self) extent given before }
-    {
-        match self {
-            Purpose::Move => { if given == 0 { Some(extent) } else { before } }
-            Purpose::Put | Purpose::Run | Purpose::Merge => before,
-        }
-    }
-
-    /// The extent to which the last copy went, once a frame went to this one.
-    fn last_noted(self, extent: usize, before: Option<usize>) -> Option<usize>
-        ensures { result ≡ last_noted (reason_of self) extent before }
-    {
-        match self {
-            Purpose::Move => Some(extent),
-            Purpose::Put | Purpose::Run | Purpose::Merge => before,
-        }
-    }
+/// The extent that the sweep opened, once a copy went to this one, of which so many pages were given before.
+fn fresh_after(extent: usize, given: usize, fresh: Option<usize>) -> Option<usize>
+    ensures { result ≡ (if given == 0 then Some extent else fresh) }
+{
+    if given == 0 { Some(extent) } else { fresh }
 }
 
 /// The extent, but none if it is this one.

@@ -1,14 +1,14 @@
 //! Where frames go in the older formats, in which chunks and runs may lie on one extent: to the open extent, else to an
 //! empty one.
-ghost use Rattle.std.specs.Prelude.{◌≡◌, ◌↔◌, ◌+◌, ◌-◌, ◌<◌, ◌≤◌, ◌^◌, ◌==◌, if◌then◌else◌, ℕ, IsTrue, MatchOption, All, Some, None, length};
-ghost use Rattle.law_machine.specs.Extents.{Fits, IsFirstEmpty, Placed, empties, open_after, spare};
-ghost use Rattle.cs_extent.specs.Places.{left_after, room_at};
+ghost use Rattle.std.specs.Prelude.{◌≡◌, ◌↔◌, ◌+◌, ◌-◌, ◌<◌, ◌≤◌, ◌^◌, ◌==◌, if◌then◌else◌, ℕ, false, IsTrue, MatchOption, Some, None, length};
+ghost use Rattle.law_machine.specs.Extents.{Fits, Placed, open_after, spare};
+ghost use Rattle.cs_extent.specs.Places.{AreFrameSizes, left_after, room_at};
 ghost use Rattle.cs_extent.specs.Purposes.{reason_of};
 ghost use Rattle.cs_extent.specs.State.{IsWhole, extents_of, shape};
-ghost use Rattle.cs_extent.specs.Worn.{AreCounted, IsEmptyFrom};
+ghost use Rattle.cs_extent.specs.Worn.{AreCountedBy, IsEmptyFrom};
 
 use crate::extents::Extents;
-use crate::places::count;
+use crate::numbers::count;
 use crate::purposes::Purpose;
 
 /// How many pages of the open extent are left, and how many extents are empty. Empty extents are alike, so these two
@@ -78,18 +78,6 @@ impl Extents {
         }
     }
 
-    /// The first empty extent.
-    fn first_empty(&self) -> Option<usize>
-        ensures { MatchOption result (empties (extents_of self.now).pointer (shape self.now).extents ≡ 0) (IsFirstEmpty (shape self.now) (extents_of self.now)) }
-    {
-        for e in 0..self.written.len() {
-            if self.written[e].0 == 0 {
-                return Some(e);
-            }
-        }
-        None
-    }
-
     /// Where a frame of so many pages goes.
     pub(crate) fn place_v2(&self, pages: usize, purpose: Purpose) -> Option<usize>
         requires { (1 ≤ pages) × (pages ≤ (shape self.now).pages) }
@@ -99,14 +87,14 @@ impl Extents {
             return self.open_extent;
         }
         if purpose.spare() < self.empty_count() {
-            return self.first_empty();
+            return self.first_empty_after(&[]);
         }
         None
     }
 
     /// Whether frames of these numbers of pages, appended one after another, all find a place.
     pub(crate) fn fits_v2(&self, frame_pages: &[usize], purpose: Purpose) -> bool
-        requires { All (λ pages. (1 ≤ pages) × (pages ≤ (shape self.now).pages)) frame_pages.now }
+        requires { AreFrameSizes (shape self.now) frame_pages.now }
         ensures { IsTrue result ↔ Fits (shape self.now) (extents_of self.now) (reason_of purpose) frame_pages.now }
     {
         let mut supply = Supply {
@@ -124,9 +112,9 @@ impl Extents {
 
     /// How many versions of each section frames of these numbers of pages take, which all find a place.
     pub(crate) fn count_versions_v2(&self, frame_pages: &[usize], purpose: Purpose) -> [u64; 15]
-        requires pages { All (λ pages. (1 ≤ pages) × (pages ≤ (shape self.now).pages)) frame_pages.now }
+        requires pages { AreFrameSizes (shape self.now) frame_pages.now }
         requires fits { Fits (shape self.now) (extents_of self.now) (reason_of purpose) frame_pages.now }
-        ensures { AreCounted (shape self.now) (extents_of self.now) (reason_of purpose) frame_pages.now result }
+        ensures { AreCountedBy (shape self.now) false (extents_of self.now) (reason_of purpose) frame_pages.now result }
     {
         let mut way = Way {
             extent: self.last_extent(),

@@ -5,7 +5,7 @@ ghost use Rattle.cs_deps.specs.Named.{Named, Names, IsSmall, ListsNone};
 ghost use Rattle.cs_deps.specs.Staging.{staged_after};
 ghost use Rattle.cs_deps.specs.State.{AddsOnly, write_of};
 ghost use Rattle.law_machine.specs.Geometry.{pages_first_in};
-ghost use Rattle.cs_extent.specs.Frames.{ArePagesStaged, AreWritten, IsFrameStaged, IsNextPlain, IsOfFrame, IsSectionStaged, IsVersionUpTo, AddsOnlyOf, family_of, next_section, own_first, root_family, IsRootNeed, IsSectionNeed, IsSectionVersionUpTo, root_pages};
+ghost use Rattle.cs_extent.specs.Frames.{ArePagesStaged, AreWritten, IsFrameStaged, IsNextPlain, IsOfFrame, IsSectionStaged, IsVersionUpTo, AddsOnlyOf, family_of, next_section, own_first, root_family, IsRootNeed, IsSectionNeed, root_pages};
 
 use cs_deps::{Dependency, Element, Graph};
 use cs_frame::Geometry;
@@ -170,11 +170,7 @@ pub fn section_needs(alloc: Global, first: u64, last: u64, root: u64) -> Depende
     requires { 1 ≤ first }
     ensures { (x : Item) → Names result x ↔ IsSectionNeed first last root x }
 {
-    let writes = writes_from(alloc, first, last);
-    match writes.and(&on_versions(alloc, ROOT, root)) {
-        Ok(needs) => needs,
-        Err(_) => unreachable!(),
-    }
+    with_versions(&writes_from(alloc, first, last), alloc, ROOT, root)
 }
 
 /// Names the plain writes from `first` to `last`. If there are none it lists no span.
@@ -200,11 +196,11 @@ pub fn root_needs(alloc: Global, graph: &Graph, pages_first: bool) -> Dependency
     ensures names { (x : Item) → Names result x ↔ IsRootNeed (root_pages pages_first graph.now.staging.staged) graph.now.staging.latest x }
     ensures small { IsSmall result }
 {
-    let writes = Dependency::through(alloc, last_needed(graph, pages_first));
-    match writes.and(&on_sections(alloc, graph)) {
-        Ok(needs) => needs,
-        Err(_) => unreachable!(),
+    let mut needs = Dependency::through(alloc, last_needed(graph, pages_first));
+    for family in 0..graph.families() {
+        needs = with_versions(&needs, alloc, family, section_version(graph, family));
     }
+    needs
 }
 
 /// The last plain write that a root needs of its own, 0 if it needs none.
@@ -212,19 +208,6 @@ fn last_needed(graph: &Graph, pages_first: bool) -> u64
     ensures { result ≡ root_pages pages_first graph.now.staging.staged }
 {
     if pages_first { 0 } else { graph.last_plain() }
-}
-
-/// Names of each section the versions that were staged.
-fn on_sections(alloc: Global, graph: &Graph) -> Dependency
-    requires { length graph.now.staging.latest ≤ 16 }
-    ensures names { (x : Item) → Names result x ↔ IsSectionVersionUpTo graph.now.staging.latest x }
-    ensures small { IsSmall result }
-{
-    let mut needs = Dependency::none(alloc);
-    for family in 0..graph.families() {
-        needs = with_versions(&needs, alloc, family, section_version(graph, family));
-    }
-    needs
 }
 
 /// The last version of a section's family, and 0 for the root's.

@@ -13,7 +13,7 @@ use Rattle.law_machine.specs.Extents.{ForRun, Purpose as Reason}
 use Rattle.law_machine.specs.Index.{IsMergedRun, IsTableRun, entries_of, if_live, live, lookup}
 use Rattle.law_machine.specs.Merges.{IsRunOf}
 use Rattle.cs_index.specs.Merges.{deletions_go, part, reached, stage_takes}
-use Rattle.cs_index.specs.Staged.{IsMergeAppended, IsMergeStaged, IsNewestStaged, IsPartAppended, IsPartStaged, IsRootStaged, IsTableStaged, WritesMerged, WritesPart, WritesRun}
+use Rattle.cs_index.specs.Staged.{IsMergeAppended, IsMergeStaged, IsNewestStaged, IsPartAppendedBy, IsPartStagedBy, IsRootStaged, IsTableStaged, WritesMerged, WritesPart, WritesRun}
 use Rattle.cs_index.specs.State.{State, index_of}
 use Rattle.cs_index.proofs.Parts.{goes_where_none}
 use Rattle.cs_index.proofs.Sizes.{takes_reached}
@@ -39,7 +39,7 @@ dead (Some []) is = refl
 dead (Some (l ∷ ls)) is = absurd (let e : l ∷ ls ≡ [] = is in cc)
 
 module _ (s : State) (x : ExtentsState) (g : GraphState) (reason : Reason) (v commands : ℕ) (t : State) (y : ExtentsState) (h : GraphState) where
-  pub all_merged : (k : ℕ) → k ≡ length s.runs → IsPartStaged true k s x g reason v commands t y h → IsMergeStaged s x g reason v commands t y h
+  pub all_merged : (k : ℕ) → k ≡ length s.runs → IsPartStagedBy false true k s x g reason v commands t y h → IsMergeStaged s x g reason v commands t y h
   all_merged k all staged = record {
     between = staged.between;
     appended = by staged.appended;
@@ -49,11 +49,11 @@ module _ (s : State) (x : ExtentsState) (g : GraphState) (reason : Reason) (v co
     limit = staged.limit;
   }
     where
-      by : IsPartAppended true s k x g reason t.runs y staged.between → IsMergeAppended (index_of s) x g reason t.runs y staged.between
+      by : IsPartAppendedBy false true s k x g reason t.runs y staged.between → IsMergeAppended (index_of s) x g reason t.runs y staged.between
       by (inl m) = inl (m.0, m.1, m.2, all_run s k all m.0 m.3, m.4, m.5 ∙ ap (λ (rs : List Run). record { place = m.1; entries = m.0 } ∷ rs) (none_behind s k all))
       by (inr m) = inr ((λ id. let run : IsMergedRun (index_of s) [] = all_run s k all [] m.0 in none_live (lookup id (index_of s)) (run.1 id)), m.1, m.2, m.3 ∙ none_behind s k all)
 
-  pub merged_all : (k : ℕ) → k ≡ length s.runs → IsMergeStaged s x g reason v commands t y h → IsPartStaged true k s x g reason v commands t y h
+  pub merged_all : (k : ℕ) → k ≡ length s.runs → IsMergeStaged s x g reason v commands t y h → IsPartStagedBy false true k s x g reason v commands t y h
   merged_all k all staged = record {
     between = staged.between;
     appended = by staged.appended;
@@ -63,7 +63,7 @@ module _ (s : State) (x : ExtentsState) (g : GraphState) (reason : Reason) (v co
     limit = staged.limit;
   }
     where
-      by : IsMergeAppended (index_of s) x g reason t.runs y staged.between → IsPartAppended true s k x g reason t.runs y staged.between
+      by : IsMergeAppended (index_of s) x g reason t.runs y staged.between → IsPartAppendedBy false true s k x g reason t.runs y staged.between
       by (inl m) = inl (m.0, m.1, m.2, run_all s k all m.0 m.3, m.4, m.5 ∙ ap (λ (rs : List Run). record { place = m.1; entries = m.0 } ∷ rs) (sym (none_behind s k all)))
       by (inr m) = inr (run_all s k all [] (tt, λ id. dead (lookup id (index_of s)) (m.0 id)), m.1, m.2, m.3 ∙ sym (none_behind s k all))
 
@@ -89,7 +89,7 @@ module _ (s : State) where
   table_of_run es run = (run.0, λ id. run.1 id ∙ ap (lookup id) (append-nil s.table))
 
   module _ (some : s.table ≢ []) (x : ExtentsState) (g : GraphState) (v commands : ℕ) (t : State) (y : ExtentsState) (h : GraphState) where
-    table_part : IsTableStaged s x g v commands t y h → IsPartStaged false 0 s x g ForRun v commands t y h
+    table_part : IsTableStaged s x g v commands t y h → IsPartStagedBy false false 0 s x g ForRun v commands t y h
     table_part staged = record {
       between = staged.staged.0;
       appended = inl (staged.entries, staged.place, some_entries s.table staged.entries some staged.run, run_of_table staged.entries staged.run, staged.staged.1, staged.runs);
@@ -99,10 +99,10 @@ module _ (s : State) where
       limit = staged.limit;
     }
 
-    part_table : IsPartStaged false 0 s x g ForRun v commands t y h → IsTableStaged s x g v commands t y h
+    part_table : IsPartStagedBy false false 0 s x g ForRun v commands t y h → IsTableStaged s x g v commands t y h
     part_table staged = by staged.appended
       where
-        by : IsPartAppended false s 0 x g ForRun t.runs y staged.between → IsTableStaged s x g v commands t y h
+        by : IsPartAppendedBy false false s 0 x g ForRun t.runs y staged.between → IsTableStaged s x g v commands t y h
         by (inl m) = record {
           entries = m.0;
           place = m.1;
@@ -163,21 +163,21 @@ module _ (S : Shape) (s : State) (before : S.by_size ≡ false) where
 
 module _ (s : State) (x : ExtentsState) (g : GraphState) (v commands : ℕ) (t : State) (y : ExtentsState) (h : GraphState) (before : (shape x).by_size ≡ false) where
   -- so much is merged: the table alone, or all
-  newest_none : length s.runs < 4 → IsNewestStaged (stage_takes (shape x) s) s x g v commands t y h → IsPartStaged false 0 s x g ForRun v commands t y h
-  newest_none few staged = subst (λ (b : Bool). IsPartStaged b 0 s x g ForRun v commands t y h) (deletions_stay (shape x) s before)
+  newest_none : length s.runs < 4 → IsNewestStaged (stage_takes (shape x) s) s x g v commands t y h → IsPartStagedBy false false 0 s x g ForRun v commands t y h
+  newest_none few staged = subst (λ (b : Bool). IsPartStagedBy false b 0 s x g ForRun v commands t y h) (deletions_stay (shape x) s before)
       (subst (λ (n : ℕ). IsNewestStaged n s x g v commands t y h) (takes_none (shape x) s before few) staged)
 
-  none_newest : length s.runs < 4 → IsPartStaged false 0 s x g ForRun v commands t y h → IsNewestStaged (stage_takes (shape x) s) s x g v commands t y h
+  none_newest : length s.runs < 4 → IsPartStagedBy false false 0 s x g ForRun v commands t y h → IsNewestStaged (stage_takes (shape x) s) s x g v commands t y h
   none_newest few staged = subst (λ (n : ℕ). IsNewestStaged n s x g v commands t y h) (sym (takes_none (shape x) s before few))
-      (subst (λ (b : Bool). IsPartStaged b 0 s x g ForRun v commands t y h) (sym (deletions_stay (shape x) s before)) staged)
+      (subst (λ (b : Bool). IsPartStagedBy false b 0 s x g ForRun v commands t y h) (sym (deletions_stay (shape x) s before)) staged)
 
-  newest_all : 4 ≤ length s.runs → IsNewestStaged (stage_takes (shape x) s) s x g v commands t y h → IsPartStaged true (length s.runs) s x g ForRun v commands t y h
-  newest_all many staged = subst (λ (b : Bool). IsPartStaged b (length s.runs) s x g ForRun v commands t y h) (all_go (shape x) s before many)
+  newest_all : 4 ≤ length s.runs → IsNewestStaged (stage_takes (shape x) s) s x g v commands t y h → IsPartStagedBy false true (length s.runs) s x g ForRun v commands t y h
+  newest_all many staged = subst (λ (b : Bool). IsPartStagedBy false b (length s.runs) s x g ForRun v commands t y h) (all_go (shape x) s before many)
       (subst (λ (n : ℕ). IsNewestStaged n s x g v commands t y h) (takes_all (shape x) s before many) staged)
 
-  all_newest : 4 ≤ length s.runs → IsPartStaged true (length s.runs) s x g ForRun v commands t y h → IsNewestStaged (stage_takes (shape x) s) s x g v commands t y h
+  all_newest : 4 ≤ length s.runs → IsPartStagedBy false true (length s.runs) s x g ForRun v commands t y h → IsNewestStaged (stage_takes (shape x) s) s x g v commands t y h
   all_newest many staged = subst (λ (n : ℕ). IsNewestStaged n s x g v commands t y h) (sym (takes_all (shape x) s before many))
-      (subst (λ (b : Bool). IsPartStaged b (length s.runs) s x g ForRun v commands t y h) (sym (all_go (shape x) s before many)) staged)
+      (subst (λ (b : Bool). IsPartStagedBy false b (length s.runs) s x g ForRun v commands t y h) (sym (all_go (shape x) s before many)) staged)
 
   pub table_exactly : s.table ≢ [] → length s.runs < 4 → IsNewestStaged (stage_takes (shape x) s) s x g v commands t y h ↔ IsTableStaged s x g v commands t y h
   table_exactly some few = (
@@ -214,10 +214,10 @@ module _ (s : State) (x : ExtentsState) (g : GraphState) (v commands : ℕ) (t :
   abbrev k : ℕ
   k = reached (shape x) s
 
-  pub reached_exactly : IsNewestStaged (stage_takes (shape x) s) s x g v commands t y h ↔ IsPartStaged (nat_le (length s.runs) k) k s x g ForRun v commands t y h
+  pub reached_exactly : IsNewestStaged (stage_takes (shape x) s) s x g v commands t y h ↔ IsPartStagedBy false (nat_le (length s.runs) k) k s x g ForRun v commands t y h
   reached_exactly = (
-    (λ staged. subst (λ (b : Bool). IsPartStaged b k s x g ForRun v commands t y h) (goes_with_all (shape x) s sized k)
+    (λ staged. subst (λ (b : Bool). IsPartStagedBy false b k s x g ForRun v commands t y h) (goes_with_all (shape x) s sized k)
         (subst (λ (n : ℕ). IsNewestStaged n s x g v commands t y h) (takes_reached (shape x) s sized) staged)),
     (λ staged. subst (λ (n : ℕ). IsNewestStaged n s x g v commands t y h) (sym (takes_reached (shape x) s sized))
-        (subst (λ (b : Bool). IsPartStaged b k s x g ForRun v commands t y h) (sym (goes_with_all (shape x) s sized k)) staged)),
+        (subst (λ (b : Bool). IsPartStagedBy false b k s x g ForRun v commands t y h) (sym (goes_with_all (shape x) s sized k)) staged)),
   )

@@ -1,6 +1,6 @@
 -- The run that a Stage writes where chunks and runs lie apart.
 use Rattle.std.proofs.Common.{◌≡◌, ◌≢◌, ◌⊎◌, inl, inr, ⊎_elim, ℕ, ◌<◌, ◌≤◌, Bool, true, false, List, [], ◌∷◌, ◌++◌, drop, length, Option, Some, None, nat_lt, refl, sym, ap, subst, ◌∙◌, arith, if◌then◌else◌}
-use Rattle.std.specs.Prelude.{IfOk, MatchBool, MatchOption, OnErr, Result, Ok, Err, is_some}
+use Rattle.std.specs.Prelude.{IfOk, OnErr, Result, Ok, Err}
 use Rattle.std.proofs.lemmas.Bool.Decides.{nat_tests}
 use Rattle.cs_refusal.specs.declared.refusals.Refusal.{Refusal}
 use Rattle.cs_refusal.specs.declared.refusals.Refusal.TheVariants.{Full, OutOfMemory, WornOut}
@@ -11,7 +11,7 @@ use Rattle.law_machine.proofs.Counting.{lookup_here}
 use Rattle.law_machine.specs.Apart.{is_none}
 use Rattle.law_machine.specs.Device.{Shape}
 use Rattle.law_machine.specs.Element.{Entry, Locator as Place}
-use Rattle.law_machine.specs.Extents.{ForMerge, ForRun, GoesApart, Purpose as Reason}
+use Rattle.law_machine.specs.Extents.{ForMerge, ForRun, Goes, GoesApart, Purpose as Reason}
 use Rattle.law_machine.specs.Index.{if_live, lookup, names}
 use Rattle.law_machine.specs.Merges.{IsRunOf, reaching, sizes}
 use Rattle.cs_index.specs.Apart.{IsFullApart, IsNewestStagedApart, IsRunWornApart, IsStageFullApart, IsStageWornApart, IsStagedApart, WritesNewest, takes_apart}
@@ -117,7 +117,7 @@ IsChosen s x reason k = ((reason ≡ ForRun) × (k ≡ takes_apart (shape x) s))
 
 -- so it is refused exactly where neither run goes anywhere, and where a number would pass its greatest
 pub chosen_why : {T : Type 0} (apart : Bool) → apart ≡ true → (s : State) (x : ExtentsState) (g : Staging) (r : Result T Refusal) (E : List Entry) (k : ℕ) (go : Bool) (reason : Reason) → IsChosen s x reason k → go ≡ deletions_go (shape x) s k
-    → IsRunOf go (part s k) E → (E ≡ []) ⊎ ((e : ℕ) × GoesApart (shape x) (extents_of x) reason (length (run_frame x E)) e)
+    → IsRunOf go (part s k) E → (E ≡ []) ⊎ ((e : ℕ) × Goes (shape x) apart (extents_of x) reason (length (run_frame x E)) e)
     → IsExact r ⊥ (IsRootWorn g ⊎ IsRunWornBy apart (WritesPart go s k) x reason g) → IsExact r (IsStageFullApart s x) (IsStageWornApart s x g)
 chosen_why false is s x g r E k go reason chosen goes = absurd (let wrong : false ≡ true = is in cc)
 chosen_why true is s x g r E k go reason chosen goes = ⊎_elim
@@ -148,9 +148,10 @@ chosen_keeps s x k go reason chosen goes keeps not = ⊎_elim
     chosen
 
 -- where a run was chosen not both are full
-pub chosen_fits : (s : State) (x : ExtentsState) (E : List Entry) (k : ℕ) (go : Bool) (reason : Reason) → IsChosen s x reason k → go ≡ deletions_go (shape x) s k
-    → IsRunOf go (part s k) E → (E ≡ []) ⊎ ((e : ℕ) × GoesApart (shape x) (extents_of x) reason (length (run_frame x E)) e) → IsStageFullApart s x → ⊥
-chosen_fits s x E k go reason chosen goes run placed full =
+pub chosen_fits : (apart : Bool) → apart ≡ true → (s : State) (x : ExtentsState) (E : List Entry) (k : ℕ) (go : Bool) (reason : Reason) → IsChosen s x reason k → go ≡ deletions_go (shape x) s k
+    → IsRunOf go (part s k) E → (E ≡ []) ⊎ ((e : ℕ) × Goes (shape x) apart (extents_of x) reason (length (run_frame x E)) e) → IsStageFullApart s x → ⊥
+chosen_fits false is s x E k go reason chosen goes run placed full = absurd (let wrong : false ≡ true = is in cc)
+chosen_fits true is s x E k go reason chosen goes run placed full =
     let so : IsRunOf (deletions_go (shape x) s k) (part s k) E = subst (λ (b : Bool). IsRunOf b (part s k) E) goes run in
     let not : IsFullApart (WritesNewest (shape x) s k) x reason → ⊥ = not_full s x k reason E so placed in
     ⊎_elim
@@ -177,9 +178,10 @@ module _ (F W L : Type 0) where
 
 -- ---- the run that goes nowhere
 
-pub full_run : (s : State) (x : ExtentsState) (k : ℕ) (go : Bool) (reason : Reason) (E : List Entry) → go ≡ deletions_go (shape x) s k → IsRunOf go (part s k) E → E ≢ []
-    → ((e : ℕ) → GoesApart (shape x) (extents_of x) reason (length (run_frame x E)) e → ⊥) → IsFullApart (WritesNewest (shape x) s k) x reason
-full_run s x k go reason E goes run some none = (E, (subst (λ (b : Bool). IsRunOf b (part s k) E) goes run, some), none)
+pub full_run : (apart : Bool) → apart ≡ true → (s : State) (x : ExtentsState) (k : ℕ) (go : Bool) (reason : Reason) (E : List Entry) → go ≡ deletions_go (shape x) s k → IsRunOf go (part s k) E → E ≢ []
+    → ((e : ℕ) → Goes (shape x) apart (extents_of x) reason (length (run_frame x E)) e → ⊥) → IsFullApart (WritesNewest (shape x) s k) x reason
+full_run false is s x k go reason E goes run some none = absurd (let wrong : false ≡ true = is in cc)
+full_run true is s x k go reason E goes run some none = (E, (subst (λ (b : Bool). IsRunOf b (part s k) E) goes run, some), none)
 
 -- ---- where the table is empty
 
@@ -252,14 +254,3 @@ refused_why f F W refused = ⊎_elim
 -- where deletions go no run is left
 pub alone : (s : State) (x : ExtentsState) (k : ℕ) (go : Bool) → go ≡ deletions_go (shape x) s k → go ≡ true → drop k s.runs ≡ []
 alone s x k go goes is = goes_all (shape x) s k (sym goes ∙ is)
-
--- whether a run has no entry or goes somewhere, by where it goes
-pub goes_where : (P : ℕ → ℕ → Type 0) (E : List Entry) (o : Option ℕ) (pages frame : ℕ) (b : Bool) → b ≡ is_some o → pages ≡ frame → E ≢ [] → MatchOption o ((e : ℕ) → P pages e → ⊥) (P pages)
-    → MatchBool b ((E ≡ []) ⊎ ((e : ℕ) × P frame e)) ((E ≢ []) × ((e : ℕ) → P frame e → ⊥))
-goes_where P E o pages frame b is same some there =
-    subst (λ (k : ℕ). MatchBool b ((E ≡ []) ⊎ ((e : ℕ) × P k e)) ((E ≢ []) × ((e : ℕ) → P k e → ⊥))) same
-    (subst (λ (t : Bool). MatchBool t ((E ≡ []) ⊎ ((e : ℕ) × P pages e)) ((E ≢ []) × ((e : ℕ) → P pages e → ⊥))) (sym is) (by o there))
-  where
-    by : (p : Option ℕ) → MatchOption p ((e : ℕ) → P pages e → ⊥) (P pages) → MatchBool (is_some p) ((E ≡ []) ⊎ ((e : ℕ) × P pages e)) ((E ≢ []) × ((e : ℕ) → P pages e → ⊥))
-    by None none = (some, none)
-    by (Some e) goes = inr (e, goes)

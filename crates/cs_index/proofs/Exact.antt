@@ -1,21 +1,20 @@
 -- When staging is refused, and what it gives.
 use Rattle.std.proofs.Common.{◌≡◌, ◌≢◌, ◌⊎◌, inl, inr, ⊎_elim, ℕ, List, [], ◌∷◌, drop, length, map, append-nil, refl, sym, ap, subst, ◌∙◌, arith}
 use Rattle.std.specs.Prelude.{◌↔◌, Bool, MatchBool, Result, Ok, Err, false, true}
-use Rattle.std.proofs.lemmas.Bool.{false≢true}
 use Rattle.cs_refusal.specs.declared.refusals.Refusal.{Refusal}
 use Rattle.cs_refusal.specs.declared.refusals.Refusal.TheVariants.{Full, OutOfMemory, WornOut}
 use Rattle.cs_deps.specs.Staging.{Staging}
 use Rattle.cs_deps.specs.State.{State as GraphState}
 use Rattle.cs_extent.specs.State.{State as ExtentsState, extents_of, shape}
-use Rattle.cs_extent.specs.Worn.{IsFrameWorn, IsFrameWornBy}
+use Rattle.cs_extent.specs.Worn.{IsFrameWornBy}
 use Rattle.law_machine.specs.Device.{Shape}
 use Rattle.law_machine.specs.Element.{Entry, Locator as Place}
-use Rattle.law_machine.specs.Extents.{FitsBy, ForRun, Goes, NoPlace, Placed, Purpose as Reason}
+use Rattle.law_machine.specs.Extents.{ForRun, Goes, Placed, Purpose as Reason}
 use Rattle.law_machine.specs.Geometry.{pages_first_in}
 use Rattle.law_machine.specs.Index.{Ascending, IsMergedRun, lookup}
 use Rattle.law_machine.specs.Merges.{IsRunOf}
 use Rattle.cs_index.specs.Merges.{deletions_go, part, stage_takes}
-use Rattle.cs_index.specs.Staged.{IsExact, IsFull, IsNewestStaged, IsPartStaged, IsPartStagedBy, IsRootOver, IsRootWorn, IsRunStagedBy, IsRunWornBy, IsStageWorn, IsWhy, WritesMerged, WritesPart, WritesRun, run_frame}
+use Rattle.cs_index.specs.Staged.{IsExact, IsFull, IsNewestStaged, IsPartStagedBy, IsRootOver, IsRootWorn, IsRunStagedBy, IsRunWornBy, IsStageWorn, IsWhy, WritesMerged, WritesPart, WritesRun, run_frame}
 use Rattle.cs_index.specs.State.{State, index_of}
 use Rattle.cs_index.proofs.Merged.{merged_one, run_one}
 
@@ -51,50 +50,44 @@ exact_unwritten apart Writes x reason s none r h =
     (λ worn. ⊎_elim (λ (root : IsRootWorn s). root) (λ (run : IsRunWornBy apart Writes x reason s). absurd (none run.0 run.1)) worn)
     h
 
--- where chunks and runs may lie on one extent, and the run has no entry or goes somewhere
+-- in the older formats, where the run has no entry or goes somewhere
 module _ (Writes : List Entry → Type 0) (x : ExtentsState) (reason : Reason) (E : List Entry) (one : (es : List Entry) → Writes es → (es ≡ E) × (es ≢ [])) where
-  abbrev Somewhere : Type 0
-  Somewhere = (e : ℕ) × Placed (shape x) (extents_of x) reason (length (run_frame x E)) e
+  abbrev GoesBy : (apart : Bool) → Type 0
+  GoesBy apart = (e : ℕ) × Goes (shape x) apart (extents_of x) reason (length (run_frame x E)) e
 
-  pub placed_fits : (E ≡ []) ⊎ ((e : ℕ) × Placed (shape x) (extents_of x) reason (length (run_frame x E)) e) → IsFull Writes x reason → ⊥
+  placed_fits : (E ≡ []) ⊎ GoesBy false → IsFull Writes x reason → ⊥
   placed_fits placed full =
       let same : full.0 ≡ E = (one full.0 full.1).0 in
       ⊎_elim
       (λ (none : E ≡ []). (one full.0 full.1).1 (same ∙ none))
-      (λ (goes : Somewhere). full.2 goes.0 (subst (λ (es : List Entry). Placed (shape x) (extents_of x) reason (length (run_frame x es)) goes.0) (sym same) goes.1))
+      (λ (goes : GoesBy false). full.2 goes.0 (subst (λ (es : List Entry). Placed (shape x) (extents_of x) reason (length (run_frame x es)) goes.0) (sym same) goes.1))
       placed
 
-  pub fits_one : (b : Bool) → (E ≢ [] → Writes E) → MatchBool b ((E ≡ []) ⊎ ((e : ℕ) × Placed (shape x) (extents_of x) reason (length (run_frame x E)) e)) ((E ≢ []) × NoPlace (shape x) (extents_of x) reason (length (run_frame x E)))
-      → MatchBool b (IsFull Writes x reason → ⊥) (IsFull Writes x reason)
-  fits_one true writes there = placed_fits there
-  fits_one false writes none = (E, writes none.0, none.1)
+  pub full_one : (apart : Bool) → apart ≡ false → Writes E → ((e : ℕ) → Goes (shape x) apart (extents_of x) reason (length (run_frame x E)) e → ⊥) → IsFull Writes x reason
+  full_one true is writes none = absurd (let wrong : true ≡ false = is in cc)
+  full_one false is writes none = (E, writes, none)
 
-  pub exact_placed : {T : Type 0} (apart : Bool) (g : Staging) (r : Result T Refusal) → apart ≡ false → (E ≡ []) ⊎ ((e : ℕ) × Placed (shape x) (extents_of x) reason (length (run_frame x E)) e)
+  pub fits_one : (apart b : Bool) → apart ≡ false → (E ≢ [] → Writes E) → MatchBool b ((E ≡ []) ⊎ GoesBy apart) ((E ≢ []) × ((e : ℕ) → Goes (shape x) apart (extents_of x) reason (length (run_frame x E)) e → ⊥))
+      → MatchBool b (IsFull Writes x reason → ⊥) (IsFull Writes x reason)
+  fits_one true b is writes there = absurd (let wrong : true ≡ false = is in cc)
+  fits_one false true is writes there = placed_fits there
+  fits_one false false is writes none = (E, writes none.0, none.1)
+
+  pub exact_placed : {T : Type 0} (apart : Bool) (g : Staging) (r : Result T Refusal) → apart ≡ false → (E ≡ []) ⊎ GoesBy apart
       → IsExact r ⊥ (IsRootWorn g ⊎ IsRunWornBy apart Writes x reason g) → IsExact r (IsFull Writes x reason) (IsStageWorn Writes x reason g)
   exact_placed true g r is placed h = absurd (let wrong : true ≡ false = is in cc)
   exact_placed false g r is placed h =
       exact_same r ⊥ (IsFull Writes x reason) (IsRootWorn g ⊎ IsRunWornBy false Writes x reason g) (IsStageWorn Writes x reason g) (λ n. absurd n) (placed_fits placed) (λ worn. worn) (λ worn. worn) h
 
--- whether a frame of so many pages finds a place, by whether it alone fits
-pub fits_alone : (x : ExtentsState) (reason : Reason) (pages : ℕ) (apart b : Bool) → apart ≡ false → (b ≡ true) ↔ FitsBy (shape x) apart (extents_of x) reason (pages ∷ [])
-    → MatchBool b ((e : ℕ) × Placed (shape x) (extents_of x) reason pages e) (NoPlace (shape x) (extents_of x) reason pages)
-fits_alone x reason pages true b is fits = absurd (let wrong : true ≡ false = is in cc)
-fits_alone x reason pages false true is fits = let one = fits.0 refl in (one.0, one.1)
-fits_alone x reason pages false false is fits = λ e placed. false≢true (fits.1 (e, placed, tt))
+-- what has some entry or goes somewhere goes somewhere, if it has some
+pub goes_some : (P : Type 0) (E : List Entry) → E ≢ [] → (E ≡ []) ⊎ P → P
+goes_some P E some placed = ⊎_elim (λ (none : E ≡ []). absurd (some none)) (λ (there : P). there) placed
 
--- a run with some entry that needs a place goes somewhere
-pub goes_some : (x : ExtentsState) (reason : Reason) (E : List Entry) (apart : Bool) → apart ≡ false → E ≢ []
-    → (E ≡ []) ⊎ ((e : ℕ) × Placed (shape x) (extents_of x) reason (length (run_frame x E)) e) → (e : ℕ) × Goes (shape x) apart (extents_of x) reason (length (run_frame x E)) e
-goes_some x reason E true is some placed = absurd (let wrong : true ≡ false = is in cc)
-goes_some x reason E false is some placed =
-    ⊎_elim (λ (none : E ≡ []). absurd (some none)) (λ (there : (e : ℕ) × Placed (shape x) (extents_of x) reason (length (run_frame x E)) e). there) placed
-
--- whether a run with some entry finds a place, by its number of pages
-pub fits_some : (x : ExtentsState) (reason : Reason) (E : List Entry) (pages : ℕ) (b : Bool) → E ≢ [] → pages ≡ length (run_frame x E)
-    → MatchBool b ((e : ℕ) × Placed (shape x) (extents_of x) reason pages e) (NoPlace (shape x) (extents_of x) reason pages)
-    → MatchBool b ((E ≡ []) ⊎ ((e : ℕ) × Placed (shape x) (extents_of x) reason (length (run_frame x E)) e)) ((E ≢ []) × NoPlace (shape x) (extents_of x) reason (length (run_frame x E)))
-fits_some x reason E pages true some are there = inr (subst (λ (k : ℕ). (e : ℕ) × Placed (shape x) (extents_of x) reason k e) are there)
-fits_some x reason E pages false some are none = (some, subst (λ (k : ℕ). NoPlace (shape x) (extents_of x) reason k) are none)
+-- whether a run with some entry goes somewhere, by its number of pages
+pub fits_some : (P : ℕ → ℕ → Type 0) (E : List Entry) (pages frame : ℕ) (b : Bool) → E ≢ [] → pages ≡ frame → MatchBool b ((e : ℕ) × P pages e) ((e : ℕ) → P pages e → ⊥)
+    → MatchBool b ((E ≡ []) ⊎ ((e : ℕ) × P frame e)) ((E ≢ []) × ((e : ℕ) → P frame e → ⊥))
+fits_some P E pages frame true some are there = inr (subst (λ (k : ℕ). (e : ℕ) × P k e) are there)
+fits_some P E pages frame false some are none = (some, subst (λ (k : ℕ). (e : ℕ) → P k e → ⊥) are none)
 
 -- ---- the run of a part
 
@@ -142,8 +135,8 @@ exact_writes V W x reason g r to back h =
     exact_same r (IsFull V x reason) (IsFull W x reason) (IsStageWorn V x reason g) (IsStageWorn W x reason g)
     (λ full. (full.0, to full.0 full.1, full.2))
     (λ full. (full.0, back full.0 full.1, full.2))
-    (λ worn. ⊎_elim (λ (root : IsRootWorn g). inl root) (λ (run : (es : List Entry) × V es × IsFrameWorn x reason g (length (run_frame x es))). inr (run.0, to run.0 run.1, run.2)) worn)
-    (λ worn. ⊎_elim (λ (root : IsRootWorn g). inl root) (λ (run : (es : List Entry) × W es × IsFrameWorn x reason g (length (run_frame x es))). inr (run.0, back run.0 run.1, run.2)) worn)
+    (λ worn. ⊎_elim (λ (root : IsRootWorn g). inl root) (λ (run : (es : List Entry) × V es × IsFrameWornBy false x reason g (length (run_frame x es))). inr (run.0, to run.0 run.1, run.2)) worn)
+    (λ worn. ⊎_elim (λ (root : IsRootWorn g). inl root) (λ (run : (es : List Entry) × W es × IsFrameWornBy false x reason g (length (run_frame x es))). inr (run.0, back run.0 run.1, run.2)) worn)
     h
 
 -- where the table isn't empty, and so much is merged as a Stage merges
@@ -165,16 +158,16 @@ exact_stage S s k go x g r takes goes some h =
     exact_writes (WritesPart go s k) (WritesRun S s) x ForRun g r (writes_to S s k go takes goes some) (writes_back S s k go takes goes) h
 
 pub newest_staged : (s : State) (x : ExtentsState) (k : ℕ) (go : Bool) → k ≡ stage_takes (shape x) s → go ≡ deletions_go (shape x) s k → (g : GraphState) (v commands : ℕ) (t : State) (y : ExtentsState) (h : GraphState)
-    → IsPartStaged go k s x g ForRun v commands t y h → IsNewestStaged (stage_takes (shape x) s) s x g v commands t y h
+    → IsPartStagedBy false go k s x g ForRun v commands t y h → IsNewestStaged (stage_takes (shape x) s) s x g v commands t y h
 newest_staged s x k go takes goes g v commands t y h staged =
-    subst (λ (n : ℕ). IsNewestStaged n s x g v commands t y h) takes (subst (λ (b : Bool). IsPartStaged b k s x g ForRun v commands t y h) goes staged)
+    subst (λ (n : ℕ). IsNewestStaged n s x g v commands t y h) takes (subst (λ (b : Bool). IsPartStagedBy false b k s x g ForRun v commands t y h) goes staged)
 
 -- the table itself is the run of the table alone
 pub table_run : (s : State) → Ascending s.table → IsRunOf false (part s 0) s.table
 table_run s order = (order, λ id. ap (lookup id) (sym (append-nil s.table)))
 
 pub exact_table : {T : Type 0} (apart : Bool) (s : State) (x : ExtentsState) (g : Staging) (r : Result T Refusal) → apart ≡ false → Ascending s.table → s.table ≢ []
-    → (s.table ≡ []) ⊎ ((e : ℕ) × Placed (shape x) (extents_of x) ForRun (length (run_frame x s.table)) e)
+    → (s.table ≡ []) ⊎ ((e : ℕ) × Goes (shape x) apart (extents_of x) ForRun (length (run_frame x s.table)) e)
     → IsExact r ⊥ (IsRootWorn g ⊎ IsFrameWornBy apart x ForRun g (length (run_frame x s.table)))
     → IsExact r (IsFull (WritesPart false s 0) x ForRun) (IsStageWorn (WritesPart false s 0) x ForRun g)
 exact_table apart s x g r is order some placed h =

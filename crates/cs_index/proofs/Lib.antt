@@ -18,5 +18,6 @@ pub mod Cases
 pub mod Sizes
 pub mod Next
 pub mod Chosen
+pub mod StagedV2
 pub mod Tallies
 pub mod Settled

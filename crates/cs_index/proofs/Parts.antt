@@ -1,7 +1,7 @@
 -- The table and the newest runs as one run, in front of the others.
 use Rattle.std.proofs.Common.{◌≡◌, ◌≢◌, ◌⊎◌, inl, inr, ⊎_elim, ℕ, zero, suc, ◌+◌, ◌-◌, ◌<◌, ◌≤◌, Bool, true, false, List, [], ◌∷◌, ◌++◌, length, length-drop, take, drop, map, Option, Some, None, if◌then◌else◌, refl, sym, ap, subst, ◌∙◌, arith, append_assoc, append-nil, take-append-drop, le_trans}
 use Rattle.std.proofs.Math.Seq.{take-length}
-use Rattle.std.specs.Prelude.{is_some}
+use Rattle.std.specs.Prelude.{Err, IfOk, Ok, Result, is_some}
 use Rattle.std.specs.List.{AllByRecursion}
 use Rattle.std.proofs.lemmas.List.{length-map}
 use Rattle.cs_deps.specs.State.{State as GraphState}
@@ -43,6 +43,11 @@ take_front (x ∷ a) b = ap (λ (rs : List Run). x ∷ rs) (take_front a b)
 drop_front : (a b : List Run) → drop (length a) (a ++ b) ≡ b
 drop_front [] b = refl
 drop_front (x ∷ a) b = drop_front a b
+
+-- three facts of a result give a fourth
+pub all_three : {T E : Type 0} (r : Result T E) (A B C D : T → Type 0) → ((v : T) → A v → B v → C v → D v) → IfOk r A → IfOk r B → IfOk r C → IfOk r D
+all_three (Ok v) A B C D from a b c = from v a b c
+all_three (Err e) A B C D from a b c = tt
 
 -- what is behind a place, as code takes it
 pub behind_place : (n : ℕ) (xs : List StoredRun) → take (length xs - n) (drop n xs) ≡ drop n xs

@@ -166,7 +166,7 @@ pub counts_as : (on : List ℕ) (old new : List Entry) → ((id : ℕ) → live_
 counts_as on old new same was = (was.0, λ e lt. was.1 e lt ∙ sym (lives_same e new old same))
 
 -- with the places of a list more, or without
-pub counts_with : (before on : List ℕ) (index : List Entry) (x : Entry) → length on ≡ length before
+counts_with : (before on : List ℕ) (index : List Entry) (x : Entry) → length on ≡ length before
     → ((e : ℕ) → e < length before → get_or on e 0 ≡ get_or before e 0 + places_on e x.locators)
     → ((e : ℕ) → e < 7680 → get_or before e 0 ≡ lives_on e index - places_on e (live_at index x.id)) → length before ≡ 7680 → AreCounts on (x ∷ index)
 counts_with before on index x size each was many = (
@@ -232,7 +232,7 @@ short_index table runs short stored id = by (lookup id (table ++ entries_of runs
     by (Some ls) is = short_in (table ++ entries_of runs) id ls (all_append IsShort table (entries_of runs) short (short_runs runs stored)) is
 
 -- with another entry in front too, so each count has room
-pub recount_room : (x : Entry) (index : List Entry) → ((id : ℕ) → length (live_at index id) ≤ 8) → length x.locators ≤ 8 → names (x ∷ index) < 2 ^ 29
+recount_room : (x : Entry) (index : List Entry) → ((id : ℕ) → length (live_at index id) ≤ 8) → length x.locators ≤ 8 → names (x ∷ index) < 2 ^ 29
     → (e : ℕ) → (lives_on e index - places_on e (live_at index x.id)) + places_on e x.locators < 2 ^ 32
 recount_room x index short few small e =
     let all : lives_on e (x ∷ index) ≤ 8 * names (x ∷ index) = lives_few e (x ∷ index) each in
@@ -244,6 +244,23 @@ recount_room x index short few small e =
       | inl is ↦ subst (λ (ls : List Place). length ls ≤ 8) (sym (ap live (lookup_here x index id is))) few
       | inr not ↦ subst (λ (ls : List Place). length ls ≤ 8) (sym (ap live (lookup_there x index id not))) (short id)
     ]
+
+-- what an identifier had last is counted
+pub last_counted : (on : List ℕ) (index : List Entry) (id : ℕ) (o : Option (List Place)) → AreCounts on index → o ≡ lookup id index → (e : ℕ) → e < length on → places_on e (live o) ≤ get_or on e 0
+last_counted on index id o counted last e lt =
+    omega (arith, counted.1 e (omega (arith, lt, counted.0)), lives_at_least e index id, ap (λ (p : Option (List Place)). places_on e (live p)) last)
+
+-- once that is counted no more there is room for an entry in front, and with it that is what is counted
+module _ (on between : List ℕ) (index : List Entry) (x : Entry) (o : Option (List Place)) (counted : AreCounts on index) (last : o ≡ lookup x.id index) (size : length between ≡ length on)
+    (taken : (e : ℕ) → e < length on → get_or between e 0 + places_on e (live o) ≡ get_or on e 0) where
+  without : (e : ℕ) → e < 7680 → get_or between e 0 ≡ lives_on e index - places_on e (live_at index x.id)
+  without e lt = omega (arith, counted.1 e lt, taken e (omega (arith, lt, counted.0)), ap (λ (p : Option (List Place)). places_on e (live p)) last)
+
+  pub room_in_front : ((id : ℕ) → length (live_at index id) ≤ 8) → length x.locators ≤ 8 → names (x ∷ index) < 2 ^ 29 → (e : ℕ) → e < length between → get_or between e 0 + places_on e x.locators < 2 ^ 32
+  room_in_front short few small e lt = omega (arith, recount_room x index short few small e, without e (omega (arith, lt, size, counted.0)))
+
+  pub counts_in_front : (now : List ℕ) → length now ≡ length between → ((e : ℕ) → e < length between → get_or now e 0 ≡ get_or between e 0 + places_on e x.locators) → AreCounts now (x ∷ index)
+  counts_in_front now same each = counts_with between now index x same each without (size ∙ counted.0)
 
 -- so while entries are counted one after another
 pub count_room : (e n limit : ℕ) (xs : List Entry) (id : ℕ) (ls : List Place) → AllByRecursion IsShort (xs ++ live_entry id ls) → Ascending (xs ++ live_entry id ls) → n ≡ lives_on e xs
@@ -277,5 +294,9 @@ front : (a b : List ℕ) → take (length a) (a ++ b) ≡ a
 front [] b = refl
 front (x ∷ a) b = ap (λ (xs : List ℕ). x ∷ xs) (front a b)
 
+-- a list of that length that was written back is what it was
+pub back_is : (n : ℕ) (new rest : List ℕ) → length new ≡ n → take n (new ++ rest) ≡ new
+back_is n new rest size = ap (λ (m : ℕ). take m (new ++ rest)) (sym size) ∙ front new rest
+
 pub counts_back : (n : ℕ) (new rest : List ℕ) (index : List Entry) → length new ≡ n → AreCounts new index → AreCounts (take n (new ++ rest)) index
-counts_back n new rest index size was = subst (λ (on : List ℕ). AreCounts on index) (sym (ap (λ (m : ℕ). take m (new ++ rest)) (sym size) ∙ front new rest)) was
+counts_back n new rest index size was = subst (λ (on : List ℕ). AreCounts on index) (sym (back_is n new rest size)) was

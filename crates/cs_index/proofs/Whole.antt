@@ -14,6 +14,7 @@ use Rattle.law_machine.specs.Element.{Entry, Locator as Place, Run}
 use Rattle.law_machine.specs.Geometry.{weigh_in}
 use Rattle.law_machine.specs.Index.{Ascending, entries_of, live, live_at, lookup, named_weight, names, weight_with}
 use Rattle.law_machine.specs.Tally.{shards}
+use Rattle.cs_index.specs.Read.{IsReadable}
 use Rattle.cs_index.specs.Sorted.{IsPut}
 use Rattle.cs_frame.specs.Formats.{place_of}
 use Rattle.cs_frame.specs.Locators.{KeepFormat}
@@ -51,9 +52,6 @@ pub short_found_in : (table : List Entry) (runs : List Run) (id : ℕ) (ls : Lis
 short_found_in table runs id ls short stored is =
     let few : length (map place_of ls) ≤ 8 = short_in (table ++ entries_of runs) id (map place_of ls) (all_append IsShort table (entries_of runs) short (short_runs runs stored)) is in
     omega (arith, length-map ls place_of)
-
-pub short_lookup : (s : State) (id : ℕ) (ls : List Locator) → IsWhole s → Some (map place_of ls) ≡ lookup id (index_of s) → length ls ≤ 8
-short_lookup s id ls whole is = short_found_in s.table s.runs id ls whole.short whole.runs (sym is)
 
 -- ---- places
 
@@ -181,13 +179,17 @@ module _ (xs ys : Entries) (runs : List StoredRun) (format limit room left : ℕ
 
 -- ---- what is looked up in the table and then in the runs
 
-pub index_first : (s : State) (xs : Entries) (id : ℕ) (ls : List Place) → map named_entry xs ≡ s.table → Some ls ≡ lookup id (map named_entry xs) → Some ls ≡ lookup id (index_of s)
-index_first s xs id ls same is = sym (lookup_first id s.table (entries_of s.runs) ls (ap (lookup id) (sym same) ∙ sym is))
+module _ (xs ys : Entries) (rs ss : List StoredRun) (same : xs ≡ ys) (same' : rs ≡ ss) where
+  pub last_in : (id : ℕ) (o : Option (List Place)) → o ≡ lookup id (map named_entry xs ++ entries_of (newest_first rs)) → o ≡ lookup id (map named_entry ys ++ entries_of (newest_first ss))
+  last_in id o is = is ∙ ap₂ (λ (es : Entries) (runs : List StoredRun). lookup id (map named_entry es ++ entries_of (newest_first runs))) same same'
 
-pub index_second : (s : State) (xs : Entries) (runs : List StoredRun) (id : ℕ) (o : Option (List Place)) → map named_entry xs ≡ s.table → newest_first runs ≡ s.runs → None ≡ lookup id (map named_entry xs)
-    → o ≡ lookup id (entries_of (newest_first runs)) → o ≡ lookup id (index_of s)
-index_second s xs runs id o same same' not is =
-    is ∙ ap (λ (rs : List Run). lookup id (entries_of rs)) same' ∙ sym (lookup_second id s.table (entries_of s.runs) (ap (lookup id) (sym same) ∙ sym not))
+  pub readable : (format limit room : ℕ) → IsWhole (state_of ys ss format limit room) → IsReadable xs rs
+  readable format limit room whole = subst (λ (es : Entries). IsReadable es rs) (sym same) (subst (λ (runs : List StoredRun). IsReadable ys runs) (sym same') (record {
+    ascending = whole.ascending;
+    short = whole.short;
+    stored = whole.runs;
+    few = omega (arith, whole.few, length-newest ss);
+  }))
 
 pub empty_whole : (runs : List StoredRun) (format limit named weight : ℕ) (xs : Entries) → xs ≡ [] → AllByRecursion IsStored (newest_first runs) → length runs ≤ 24 → named ≡ names (entries_of (newest_first runs))
     → weight ≡ named_weight (weigh_in format) (entries_of (newest_first runs)) → weight ≤ limit
@@ -216,15 +218,16 @@ same_locators found other o false is decides = λ same.
     let places : map place_of found ≡ map place_of other = cc in
     true≢false (sym (decides.1 (one_places found other places)))
 
-pub short_found : (s : State) (id : ℕ) (o : Option (Bor (List Locator))) → IsWhole s → option_map (map place_of) (option_copied o) ≡ lookup id (index_of s) → IfSome o (λ ls. length ls.now ≤ 8)
-short_found s id None whole is = tt
-short_found s id (Some ls) whole is = short_lookup s id ls.now whole is
+pub short_some : (table : List Entry) (runs : List Run) (id : ℕ) (o : Option (Bor (List Locator))) → AllByRecursion IsShort table → AllByRecursion IsStored runs
+    → option_map (map place_of) (option_copied o) ≡ lookup id (table ++ entries_of runs) → IfSome o (λ ls. length ls.now ≤ 8)
+short_some table runs id None short stored is = tt
+short_some table runs id (Some ls) short stored is = short_found_in table runs id ls.now short stored (sym is)
 
 pub no_ids : (xs : Entries) → xs ≡ [] → AllByRecursion (λ entry. IsId entry.0) xs
 no_ids xs is = subst (λ (ys : Entries). AllByRecursion (λ entry. IsId entry.0) ys) (sym is) tt
 
 -- what is looked up keeps to the format
-pub marks_lookup : (s : State) (id : ℕ) (ls : List Locator) → IsWhole s → Some (map place_of ls) ≡ lookup id (index_of s) → KeepFormat s.format ls
+marks_lookup : (s : State) (id : ℕ) (ls : List Locator) → IsWhole s → Some (map place_of ls) ≡ lookup id (index_of s) → KeepFormat s.format ls
 marks_lookup s id ls whole is = keep_locators s.format ls (subst (λ (o : Option (List Place)). KeepTo s.format (live o)) (sym is) (whole.marks id))
 
 pub marks_found : (s : State) (id : ℕ) (o : Option (Bor (List Locator))) → IsWhole s → option_map (map place_of) (option_copied o) ≡ lookup id (index_of s) → IfSome o (λ ls. KeepFormat s.format ls.now)

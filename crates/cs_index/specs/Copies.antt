@@ -1,9 +1,14 @@
 -- What a sweep copied of an index, and what lives on an extent behind a chunk.
-use Rattle.std.specs.Prelude.{◌≡◌, ◌⊎◌, ◌<◌, ◌≤◌, ◌∷◌, ◌++◌, ℕ, List, Option, Some, None, [], if◌then◌else◌}
+use Rattle.std.specs.Prelude.{◌≡◌, ◌⊎◌, ◌<◌, ◌≤◌, ◌∷◌, ◌++◌, ℕ, Bool, true, List, Option, Some, None, [], IfOk, Result, if◌then◌else◌}
+use Rattle.cs_deps.specs.State.{State as GraphState}
+use Rattle.cs_extent.specs.State.{State as ExtentsState}
 use Rattle.cs_frame.specs.declared.identifiers.ShardId.{ShardId}
 use Rattle.cs_frame.specs.Formats.{place_of}
+use Rattle.cs_index.specs.Apart.{IsStageFullApart, IsStageWornApart, IsStagedApart}
 use Rattle.cs_index.specs.declared.counted_copies.ChunkCopy.{ChunkCopy}
+use Rattle.cs_index.specs.Staged.{IsExact}
 use Rattle.cs_index.specs.State.{State, id_number, index_of}
+use Rattle.cs_refusal.specs.declared.refusals.Refusal.{Refusal}
 use Rattle.law_machine.specs.Apart.{is_place}
 use Rattle.law_machine.specs.Element.{Copy, Entry, Locator as Place}
 use Rattle.law_machine.specs.Index.{entries_of, live_at, lookup}
@@ -35,6 +40,13 @@ pub record IsSettled (old : State) (copies : List Copy) (new : State) : Type 0 w
   pub runs : new.runs ≡ old.runs
   pub format : new.format ≡ old.format
   pub limit : new.limit ≡ old.limit
+
+-- Once these copies count a Stage does what it does of the index then, and what lives is what lives then; it is refused where that is, and
+-- where the generation of the caller's extent is worn.
+abbrev pub IsStagedSettled : State → List Copy → ExtentsState → GraphState → (commands : ℕ) → (generation_worn : Bool) → Result ℕ Refusal → State → ExtentsState → GraphState → Type 0
+IsStagedSettled s copies x g commands generation_worn r t y h = (counted : State) × IsSettled s copies counted
+    × IfOk r (λ v. IsStagedApart counted x g v commands t y h × ((id : ℕ) → live_at (index_of t) id ≡ live_at (index_of counted) id))
+    × IsExact r (IsStageFullApart counted x) (IsStageWornApart counted x g.staging ⊎ (generation_worn ≡ true))
 
 -- the number of a shard and of a chunk
 abbrev pub numbered : ShardId × ℕ → ℕ × ℕ

@@ -9,8 +9,9 @@ use Rattle.cs_deps.specs.Staging.{IsVersionStaged, Staging}
 use Rattle.cs_deps.specs.State.{AddsOnly, State as GraphState, write_of}
 use Rattle.cs_extent.specs.Appended.{IsAppendedBy}
 use Rattle.cs_extent.specs.Frames.{IsRootNeed, root_family, root_pages}
+use Rattle.cs_extent.specs.Places.{GoesIn}
 use Rattle.cs_extent.specs.State.{State as ExtentsState, extents_of, shape}
-use Rattle.cs_extent.specs.Worn.{IsFrameWorn, IsFrameWornBy}
+use Rattle.cs_extent.specs.Worn.{IsFrameWornBy}
 use Rattle.cs_frame.specs.declared.locators.Locator.{Locator}
 use Rattle.cs_frame.specs.Formats.{as_locator, formats_of}
 use Rattle.cs_frame.specs.Roots.{SpellsRoot}
@@ -28,12 +29,21 @@ use Rattle.cs_index.specs.State.{State, index_of}
 unfoldable pub run_frame : ExtentsState → List Entry → List (List ℕ)
 run_frame x entries = (formats_of (shape x)).frame RunFrame ((formats_of (shape x)).run entries)
 
+-- an extent takes the frame of a run
+abbrev pub HasPlace : ExtentsState → Reason → List Entry → Type 0
+HasPlace x reason entries = (e : ℕ) × GoesIn x reason (length (run_frame x entries)) e
+
+-- a run has no entry, so it needs no place, or an extent takes its frame
+abbrev pub Fits : ExtentsState → Reason → List Entry → Type 0
+Fits x reason entries = (entries ≡ []) ⊎ HasPlace x reason entries
+
+-- a run has some entry, and no extent takes its frame
+abbrev pub FitsNowhere : ExtentsState → Reason → List Entry → Type 0
+FitsNowhere x reason entries = (entries ≢ []) × ((e : ℕ) → ¬ GoesIn x reason (length (run_frame x entries)) e)
+
 -- the frame of a run was appended at a place, where chunks and runs lie apart or not
 abbrev pub IsRunAppendedBy : (apart : Bool) → ExtentsState → GraphState → Reason → List Entry → Place → ExtentsState → GraphState → Type 0
 IsRunAppendedBy apart x g reason entries place y h = IsAppendedBy apart x g reason (run_frame x entries) (as_locator place) y h
-
-abbrev pub IsRunAppended : ExtentsState → GraphState → Reason → List Entry → Place → ExtentsState → GraphState → Type 0
-IsRunAppended x g reason entries place y h = IsRunAppendedBy false x g reason entries place y h
 
 -- The next version of the root was staged to page 1: its page spells, in this format, so many commands and the runs at
 -- these places, oldest first. It needs all versions of each section so far, where page writes don't come first all plain writes so far,
@@ -56,14 +66,14 @@ IsRunStagedBy apart x g reason entries older place v commands y h = (between : G
     × IsRunAppendedBy apart x g reason entries place y between × IsRootStaged x.format between h v commands (record { place = place; entries = entries } ∷ older)
 
 abbrev pub IsRunStaged : ExtentsState → GraphState → Reason → List Entry → (older : List Run) → Place → (v commands : ℕ) → ExtentsState → GraphState → Type 0
-IsRunStaged x g reason entries older place v commands y h = IsRunStagedBy false x g reason entries older place v commands y h
+IsRunStaged x g reason entries older place v commands y h = IsRunStagedBy (shape x).apart x g reason entries older place v commands y h
 
 -- The table became a run over those before, and the root over all of them was staged.
 pub record IsTableStaged (s : State) (x : ExtentsState) (g : GraphState) (v commands : ℕ) (t : State) (y : ExtentsState) (h : GraphState) : Type 0 where
   pub entries : List Entry
   pub place : Place
   pub run : IsTableRun s.table entries
-  pub staged : IsRunStaged x g ForRun entries s.runs place v commands y h
+  pub staged : IsRunStagedBy false x g ForRun entries s.runs place v commands y h
   pub table : t.table ≡ []
   pub runs : t.runs ≡ record { place = place; entries = entries } ∷ s.runs
   pub format : t.format ≡ s.format
@@ -72,7 +82,7 @@ pub record IsTableStaged (s : State) (x : ExtentsState) (g : GraphState) (v comm
 -- one run of all that is live was appended, or none where nothing is
 abbrev pub IsMergeAppended : List Entry → ExtentsState → GraphState → Reason → List Run → ExtentsState → GraphState → Type 0
 IsMergeAppended index x g reason runs y h =
-    ((entries : List Entry) × (place : Place) × (entries ≢ []) × IsMergedRun index entries × IsRunAppended x g reason entries place y h
+    ((entries : List Entry) × (place : Place) × (entries ≢ []) × IsMergedRun index entries × IsRunAppendedBy false x g reason entries place y h
     × (runs ≡ record { place = place; entries = entries } ∷ []))
     ⊎ (((id : ℕ) → live_at index id ≡ []) × (y ≡ x) × (h ≡ g) × (runs ≡ []))
 
@@ -92,9 +102,6 @@ IsPartAppendedBy apart go s k x g reason runs y h =
     × (runs ≡ record { place = place; entries = entries } ∷ drop k s.runs))
     ⊎ (IsRunOf go (part s k) [] × (y ≡ x) × (h ≡ g) × (runs ≡ drop k s.runs))
 
-abbrev pub IsPartAppended : (go : Bool) → State → ℕ → ExtentsState → GraphState → Reason → List Run → ExtentsState → GraphState → Type 0
-IsPartAppended go s k x g reason runs y h = IsPartAppendedBy false go s k x g reason runs y h
-
 -- The table and the newest k runs became one run in front of the others, with their deletions or without them, or none where it
 -- would have no entry, and the root over all that stand then was staged. Chunks and runs lie apart or not.
 pub record IsPartStagedBy (apart go : Bool) (k : ℕ) (s : State) (x : ExtentsState) (g : GraphState) (reason : Reason) (v commands : ℕ) (t : State) (y : ExtentsState) (h : GraphState) : Type 0 where
@@ -106,11 +113,11 @@ pub record IsPartStagedBy (apart go : Bool) (k : ℕ) (s : State) (x : ExtentsSt
   pub limit : t.limit ≡ s.limit
 
 abbrev pub IsPartStaged : (go : Bool) → (k : ℕ) → State → ExtentsState → GraphState → Reason → (v commands : ℕ) → State → ExtentsState → GraphState → Type 0
-IsPartStaged go k s x g reason v commands t y h = IsPartStagedBy false go k s x g reason v commands t y h
+IsPartStaged go k s x g reason v commands t y h = IsPartStagedBy (shape x).apart go k s x g reason v commands t y h
 
 -- a Stage merged the table and the newest k runs
 abbrev pub IsNewestStaged : (k : ℕ) → State → ExtentsState → GraphState → (v commands : ℕ) → State → ExtentsState → GraphState → Type 0
-IsNewestStaged k s x g v commands t y h = IsPartStaged (deletions_go (shape x) s k) k s x g ForRun v commands t y h
+IsNewestStaged k s x g v commands t y h = IsPartStagedBy false (deletions_go (shape x) s k) k s x g ForRun v commands t y h
 
 -- the run of all that is live, if anything is
 abbrev pub WritesMerged : State → List Entry → Type 0
@@ -132,13 +139,16 @@ IsFull Writes x reason = (entries : List Entry) × Writes entries × NoPlace (sh
 abbrev pub IsRunWornBy : (apart : Bool) → (List Entry → Type 0) → ExtentsState → Reason → Staging → Type 0
 IsRunWornBy apart Writes x reason s = (entries : List Entry) × Writes entries × IsFrameWornBy apart x reason s (length (run_frame x entries))
 
+abbrev pub IsRunWorn : (List Entry → Type 0) → ExtentsState → Reason → Staging → Type 0
+IsRunWorn Writes x reason s = IsRunWornBy (shape x).apart Writes x reason s
+
 -- the root's number would pass 2^63 - 1
 abbrev pub IsRootWorn : Staging → Type 0
 IsRootWorn s = 2 ^ 63 ≤ slice_index s.latest root_family + 1
 
 -- the root's number would pass 2^63 - 1, or a run is to be written and a number of its frame would
 abbrev pub IsStageWorn : (List Entry → Type 0) → ExtentsState → Reason → Staging → Type 0
-IsStageWorn Writes x reason s = IsRootWorn s ⊎ ((entries : List Entry) × Writes entries × IsFrameWorn x reason s (length (run_frame x entries)))
+IsStageWorn Writes x reason s = IsRootWorn s ⊎ ((entries : List Entry) × Writes entries × IsFrameWornBy false x reason s (length (run_frame x entries)))
 
 -- why a call was refused: 30 where there was no place, 35 where there was one and a number would pass its greatest,
 -- and 9 whenever memory ran out

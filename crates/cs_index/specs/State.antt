@@ -3,6 +3,7 @@ use Rattle.std.specs.Prelude.{◌≡◌, ◌≢◌, false, ℕ, ◌<◌, ◌≤�
 use Rattle.std.specs.List.{AllByRecursion}
 use Rattle.cs_frame.specs.Bytes.{IsBytes}
 use Rattle.cs_frame.specs.declared.identifiers.ShardId.{ShardId}
+use Rattle.cs_frame.specs.declared.run_frames.Run.{Run as SpelledRun}
 use Rattle.cs_frame.specs.Formats.{place_of}
 pub use Rattle.cs_frame.specs.Identifiers.{id_number}
 use Rattle.cs_frame.specs.Places.{Listed}
@@ -19,6 +20,10 @@ pub record IsId (id : ShardId) : Type 0 where
 -- an entry as the machine has it
 abbrev pub named_entry : ShardId × Listed → Entry
 named_entry entry = record { id = id_number entry.0; locators = map place_of entry.1.items }
+
+-- the entries of a run that is to be spelled, as the machine has them
+abbrev pub named_entries : SpelledRun → List Entry
+named_entries run = map named_entry run.entries.items
 
 -- a run as the machine has it
 abbrev pub run_of : StoredRun → Run

@@ -1,18 +1,16 @@
 //! Copies that a sweep wrote of chunks, and an index once they count.
-ghost use Rattle.std.specs.Prelude.{◌≡◌, ◌⊎◌, ℕ, ◌+◌, ◌∷◌, ◌<◌, ◌≤◌, ◌^◌, [], IfOk, MatchOption, OnErr, OnOk, false, length, map, true};
-ghost use Rattle.cs_extent.specs.Frames.{AreResetsStaged};
-ghost use Rattle.cs_extent.specs.State.{extents_of, shape};
+ghost use Rattle.std.specs.Prelude.{◌≡◌, ◌∷◌, ◌<◌, ◌≤◌, ◌^◌, [], IfOk, MatchOption, OnErr, OnOk, false, length, map, true};
+ghost use Rattle.cs_extent.specs.Appended.{IsReady};
+ghost use Rattle.cs_extent.specs.State.{shape};
 ghost use Rattle.cs_frame.specs.Formats.{place_of};
 ghost use Rattle.law_machine.specs.Apart.{is_place};
 ghost use Rattle.law_machine.specs.Geometry.{marks_in};
 ghost use Rattle.law_machine.specs.Index.{live_at};
 ghost use Rattle.law_machine.specs.Lists.{nth, replaced};
-ghost use Rattle.cs_index.specs.Apart.{IsStageFullApart, IsStageWornApart, IsStagedApart};
-ghost use Rattle.cs_index.specs.Copies.{IsSettled, copy_of, newest_copies};
-ghost use Rattle.cs_index.specs.Staged.{IsExact};
+ghost use Rattle.cs_index.specs.Copies.{IsSettled, copy_of, newest_copies, IsStagedSettled};
 ghost use Rattle.cs_index.specs.Held.{AreCounts};
 ghost use Rattle.cs_index.specs.Merges.{part};
-ghost use Rattle.cs_index.specs.State.{IsId, State, id_number, index_of, named_entry, newest_first};
+ghost use Rattle.cs_index.specs.State.{IsId, id_number, index_of, newest_first, named_entries};
 ghost use Rattle.law_machine.specs.Merges.{IsRunOf};
 ghost use Rattle.std.specs.List.{AllByRecursion};
 
@@ -69,95 +67,46 @@ struct Copied {
     on: Vec<u32>,
 }
 
-/// What is merged with the table where it is copied alone.
+/// What is merged with the table if it is copied alone.
 const TABLE_ALONE: Portion = Portion {
     newest: 0,
     without_deletions: false,
 };
 
 impl Index {
-    /// As `stage_root`, but first each of these copies, oldest first, counts: where its chunk still lies where it was copied from, it lies
-    /// where the copy is. Answers the version of the root. Where `last` says that a number of the caller's would pass its greatest, nothing
-    /// is staged.
+    /// As `stage_root`, but first each of these copies, oldest first, counts: if its chunk still lies where it was copied from, it lies
+    /// where the copy is. Returns the version of the root. `generation_worn` says that the generation of the extent that the caller is to
+    /// empty would pass its greatest: then nothing is staged.
     ///
-    /// 30 `Full` and 35 `WornOut` as `stage_root` once the copies count, and 35 where `last` holds; 9 `OutOfMemory` may come instead of either. After a refusal
-    /// nothing has changed but the graph's room, and no copy counts. Takes memory for the table and the run, and time for its entries.
+    /// 30 `Full` and 35 `WornOut` as `stage_root` once the copies count, and 35 if `generation_worn`; 9 `OutOfMemory` may come instead of
+    /// either. After a refusal nothing has changed but the graph's room, and no copy counts. Takes memory for the table and the run, and
+    /// time for its entries.
     pub fn stage_settled(
         &mut self,
         extents: &mut Extents,
         graph: &mut Graph,
         commands: u64,
         copies: &[ChunkCopy],
-        last: bool,
+        generation_worn: bool,
     ) -> Result<u64, Refusal>
         requires apart { (shape extents.old).apart ≡ true }
         requires format { self.old.format ≡ (shape extents.old).format }
         requires limit { self.old.limit ≡ (shape extents.old).most_weight }
         requires runs { length self.old.runs ≤ (shape extents.old).most_runs }
-        requires families { length graph.old.staging.latest ≡ 1 + (shape extents.old).sections }
-        requires resets { AreResetsStaged (extents_of extents.old) graph.old.staging }
+        requires ready { IsReady extents.old graph.old.staging }
         requires commands { commands < 2 ^ 63 }
 
         // What is staged, and when it is refused, of the index once the copies count.
-        ensures settled { (mid : State) × IsSettled self.old (newest_copies copies.now) mid
-            × IfOk result (λ v. IsStagedApart mid extents.old graph.old v commands self.new extents.new graph.new × ((id : ℕ) → live_at (index_of self.new) id ≡ live_at (index_of mid) id))
-            × IsExact result (IsStageFullApart mid extents.old) (IsStageWornApart mid extents.old graph.old.staging ⊎ (last ≡ true)) }
+        ensures settled { IsStagedSettled self.old (newest_copies copies.now) extents.old graph.old commands generation_worn result self.new extents.new graph.new }
 
         // Whatever the answer, the next append may be made.
-        ensures resets { AreResetsStaged (extents_of extents.new) graph.new.staging }
-        ensures families { length graph.new.staging.latest ≡ length graph.old.staging.latest }
+        ensures ready { IsReady extents.new graph.new.staging }
 
         ensures refused { OnErr result (self.new ≡ self.old) }
         ensures unwritten { OnErr result (extents.new ≡ extents.old) }
         ensures unstaged { OnErr result (graph.new ≡ record graph.old { room = graph.new.room }) }
     {
-        match self.copied() {
-            Ok(copied) => self.stage_copied(extents, graph, commands, copies, copied, last),
-            Err(_) => Err(Refusal::OutOfMemory),
-        }
-    }
-
-    /// Copies of the table and of the counts by extent.
-    fn copied(&self) -> Result<Copied, AllocError>
-        ensures copy { IfOk result (λ made. IsRunOf false (part self.now 0) (map named_entry made.table.entries.items)) }
-        ensures ids { IfOk result (λ made. AllByRecursion (λ entry. IsId entry.0) made.table.entries.items) }
-        ensures counts { IfOk result (λ made. AreCounts made.on.items (index_of self.now)) }
-    {
-        let alloc = *self.table.entries.allocator();
-        let table = self.merged_newest(alloc, TABLE_ALONE)?;
-        let on = Vec::from_slice(alloc, &self.on)?;
-        Ok(Copied { table, on })
-    }
-
-    /// The same with a copy of the table, in which the copies count: it takes the table's place only once a root was staged.
-    fn stage_copied(
-        &mut self,
-        extents: &mut Extents,
-        graph: &mut Graph,
-        commands: u64,
-        copies: &[ChunkCopy],
-        copied: Copied,
-        last: bool,
-    ) -> Result<u64, Refusal>
-        requires counts { AreCounts copied.on.items (index_of self.old) }
-        requires copy { IsRunOf false (part self.old 0) (map named_entry copied.table.entries.items) }
-        requires ids { AllByRecursion (λ entry. IsId entry.0) copied.table.entries.items }
-        requires apart { (shape extents.old).apart ≡ true }
-        requires format { self.old.format ≡ (shape extents.old).format }
-        requires limit { self.old.limit ≡ (shape extents.old).most_weight }
-        requires runs { length self.old.runs ≤ (shape extents.old).most_runs }
-        requires families { length graph.old.staging.latest ≡ 1 + (shape extents.old).sections }
-        requires resets { AreResetsStaged (extents_of extents.old) graph.old.staging }
-        requires commands { commands < 2 ^ 63 }
-        ensures settled { (mid : State) × IsSettled self.old (newest_copies copies.now) mid
-            × IfOk result (λ v. IsStagedApart mid extents.old graph.old v commands self.new extents.new graph.new × ((id : ℕ) → live_at (index_of self.new) id ≡ live_at (index_of mid) id))
-            × IsExact result (IsStageFullApart mid extents.old) (IsStageWornApart mid extents.old graph.old.staging ⊎ (last ≡ true)) }
-        ensures resets { AreResetsStaged (extents_of extents.new) graph.new.staging }
-        ensures families { length graph.new.staging.latest ≡ length graph.old.staging.latest }
-        ensures refused { OnErr result (self.new ≡ self.old) }
-        ensures unwritten { OnErr result (extents.new ≡ extents.old) }
-        ensures unstaged { OnErr result (graph.new ≡ record graph.old { room = graph.new.room }) }
-    {
+        let copied = self.copied()?;
         let alloc = *self.table.entries.allocator();
         let runs = replace(&mut self.runs, Vec::new(alloc));
         let mut settled = Index {
@@ -172,7 +121,7 @@ impl Index {
             room: 0,
             cleared: NONE_KNOWN,
         };
-        match settled.settle_and_stage(extents, graph, commands, copies, last) {
+        match settled.settle_and_stage(extents, graph, commands, copies, generation_worn) {
             Ok(version) => {
                 *self = settled;
                 Ok(version)
@@ -182,6 +131,18 @@ impl Index {
                 Err(refusal)
             }
         }
+    }
+
+    /// Copies of the table and of the counts by extent.
+    fn copied(&self) -> Result<Copied, AllocError>
+        ensures copy { IfOk result (λ made. IsRunOf false (part self.now 0) (named_entries made.table)) }
+        ensures ids { IfOk result (λ made. AllByRecursion (λ entry. IsId entry.0) made.table.entries.items) }
+        ensures counts { IfOk result (λ made. AreCounts made.on.items (index_of self.now)) }
+    {
+        let alloc = *self.table.entries.allocator();
+        let table = self.merged_newest(alloc, TABLE_ALONE)?;
+        let on = Vec::from_slice(alloc, &self.on)?;
+        Ok(Copied { table, on })
     }
 
     /// The runs, oldest first.
@@ -198,31 +159,31 @@ impl Index {
         graph: &mut Graph,
         commands: u64,
         copies: &[ChunkCopy],
-        last: bool,
+        generation_worn: bool,
     ) -> Result<u64, Refusal>
         requires apart { (shape extents.old).apart ≡ true }
         requires format { self.old.format ≡ (shape extents.old).format }
         requires limit { self.old.limit ≡ (shape extents.old).most_weight }
         requires runs { length self.old.runs ≤ (shape extents.old).most_runs }
-        requires families { length graph.old.staging.latest ≡ 1 + (shape extents.old).sections }
-        requires resets { AreResetsStaged (extents_of extents.old) graph.old.staging }
+        requires ready { IsReady extents.old graph.old.staging }
         requires commands { commands < 2 ^ 63 }
-        ensures settled { (mid : State) × IsSettled self.old (newest_copies copies.now) mid
-            × IfOk result (λ v. IsStagedApart mid extents.old graph.old v commands self.new extents.new graph.new × ((id : ℕ) → live_at (index_of self.new) id ≡ live_at (index_of mid) id))
-            × IsExact result (IsStageFullApart mid extents.old) (IsStageWornApart mid extents.old graph.old.staging ⊎ (last ≡ true)) }
-        ensures resets { AreResetsStaged (extents_of extents.new) graph.new.staging }
-        ensures families { length graph.new.staging.latest ≡ length graph.old.staging.latest }
+        ensures settled { IsStagedSettled self.old (newest_copies copies.now) extents.old graph.old commands generation_worn result self.new extents.new graph.new }
+        ensures ready { IsReady extents.new graph.new.staging }
         ensures runs { OnErr result (self.new.runs ≡ self.old.runs) }
         ensures unwritten { OnErr result (extents.new ≡ extents.old) }
         ensures unstaged { OnErr result (graph.new ≡ record graph.old { room = graph.new.room }) }
     {
         match self.settle(copies) {
-            Ok(()) => self.stage_unless(extents, graph, commands, last),
-            Err(_) => Err(Refusal::OutOfMemory),
+            Ok(()) => {}
+            Err(_) => return Err(Refusal::OutOfMemory),
         }
+        if generation_worn {
+            return Err(self.why_not(extents));
+        }
+        self.stage_root(extents, graph, commands)
     }
 
-    /// Lets these copies count, the oldest first. Where memory is refused some count.
+    /// Lets these copies count, the oldest first. If memory is refused some count.
     fn settle(&mut self, copies: &[ChunkCopy]) -> Result<(), AllocError>
         requires { marks_in self.old.format ≡ true }
         ensures settled { OnOk result (IsSettled self.old (newest_copies copies.now) self.new) }
@@ -234,7 +195,7 @@ impl Index {
         Ok(())
     }
 
-    /// Lets a copy count, where its chunk still lies where it was copied from.
+    /// Lets a copy count, if its chunk still lies where it was copied from.
     fn settle_one(&mut self, copy: ChunkCopy) -> Result<(), AllocError>
         requires { marks_in self.old.format ≡ true }
         ensures settled { OnOk result (IsSettled self.old (copy_of copy ∷ []) self.new) }
@@ -248,7 +209,7 @@ impl Index {
         }
     }
 
-    /// The locators of a shard once a copy counts, where its chunk still lies where it was copied from.
+    /// The locators of a shard once a copy counts, if its chunk still lies where it was copied from.
     fn locators_then(&self, copy: ChunkCopy) -> Result<Option<Places>, AllocError>
         ensures { IfOk result (λ locators. MatchOption locators
             (is_place (nth (live_at (index_of self.now) (id_number copy.id)) copy.chunk) (place_of copy.from) ≡ false)

@@ -1,25 +1,54 @@
 //! How many identifiers are named and live, what their entries weigh, and how many chunks of them are on each extent.
-ghost use Rattle.std.specs.Prelude.{◌≡◌, ℕ, ◌+◌, ◌-◌, ◌^◌, ◌<◌, ◌≤◌, ◌∷◌, ◌++◌, length, map, option_copied, option_map, replicate, slice_index};
+ghost use Rattle.std.specs.Prelude.{◌≡◌, ◌≢◌, ℕ, ◌+◌, ◌-◌, ◌^◌, ◌<◌, ◌≤◌, ◌++◌, IfSome, MatchBool, None, length, map, option_copied, option_map, replicate, slice_index};
 ghost use Rattle.cs_frame.specs.Formats.{place_of};
 ghost use Rattle.cs_index.specs.Read.{IsReadable};
 ghost use Rattle.cs_index.specs.Held.{AreCounts, one_on};
-ghost use Rattle.cs_index.specs.State.{id_number, named_entry, newest_first};
+ghost use Rattle.cs_index.specs.State.{named_entry, newest_first};
 ghost use Rattle.law_machine.specs.Geometry.{weigh_in};
-ghost use Rattle.law_machine.specs.Index.{entries_of, live_at, lookup, named_weight, names};
-ghost use Rattle.law_machine.specs.Tally.{lives_on, one_if_some, places_on, shards};
+ghost use Rattle.law_machine.specs.Index.{entries_of, live, named_weight, names, weight};
+ghost use Rattle.law_machine.specs.Tally.{one_if_some, places_on, shards};
 
-use crate::entries::entries_from;
-use crate::stored_runs::{StoredRun, find, find_in_runs};
+use crate::stored_runs::{StoredRun, entries_from};
 use cs_frame::{Format, Locator, Places, ShardId, entry_weight};
 
-/// 1 where there is a locator, 0 where there is none.
-pub fn one_if_living(locators: &[Locator]) -> usize
+/// 1 if there is a locator, else 0.
+fn one_if_living(locators: &[Locator]) -> usize
     ensures { result ≡ one_if_some (map place_of locators.now) }
 {
     if locators.is_empty() { 0 } else { 1 }
 }
 
-/// What all identifiers come to once one comes to so much, which came to so much before.
+/// What an identifier comes to in the counts of an index: whether it has an entry, 1 if that has locators, else 0, and what it weighs, 0 if
+/// there is none.
+#[derive(Clone, Copy, Debug)]
+pub struct Standing {
+    pub known: bool,
+    pub living: usize,
+    pub weight: usize,
+}
+
+/// What an identifier comes to whose last entry has these locators.
+pub fn standing_of(format: Format, last: Option<&[Locator]>) -> Standing
+    requires { IfSome last (λ locators. length locators.now ≤ 8) }
+    ensures known { MatchBool result.known (option_map (map place_of) (option_copied last.entry) ≢ None) (option_map (map place_of) (option_copied last.entry) ≡ None) }
+    ensures lives { result.living ≡ one_if_some (live (option_map (map place_of) (option_copied last.entry))) }
+    ensures weighs { result.weight ≡ weight (weigh_in format) (option_map (map place_of) (option_copied last.entry)) }
+{
+    match last {
+        Some(locators) => Standing {
+            known: true,
+            living: one_if_living(locators),
+            weight: entry_weight(format, locators.len()),
+        },
+        None => Standing {
+            known: false,
+            living: 0,
+            weight: 0,
+        },
+    }
+}
+
+/// What all identifiers come to if one comes to so much, which came to so much before.
 pub fn sum_after(sum: usize, before: usize, now: usize) -> usize
     requires less { before ≤ sum }
     requires fits { (sum - before) + now < 2 ^ 64 }
@@ -31,7 +60,7 @@ pub fn sum_after(sum: usize, before: usize, now: usize) -> usize
 /// How many extents a store has at most.
 pub const MOST_EXTENTS: usize = 7680;
 
-/// Counts a chunk more on an extent, where it is one that is counted.
+/// Counts a chunk more on an extent, if that is one that is counted.
 fn add_one(on: &mut [u32], extent: usize)
     requires { extent < length on.old → slice_index on.old extent + 1 < 2 ^ 32 }
     ensures size { length on.new ≡ length on.old }
@@ -43,7 +72,7 @@ fn add_one(on: &mut [u32], extent: usize)
     on[extent] += 1;
 }
 
-/// Counts a chunk less on an extent, where it is one that is counted.
+/// Counts a chunk less on an extent, if that is one that is counted.
 fn take_one(on: &mut [u32], extent: usize)
     requires { extent < length on.old → 1 ≤ slice_index on.old extent }
     ensures size { length on.new ≡ length on.old }
@@ -56,7 +85,7 @@ fn take_one(on: &mut [u32], extent: usize)
 }
 
 /// Counts these places more.
-fn add_places(on: &mut [u32], places: &[Locator])
+pub fn add_places(on: &mut [u32], places: &[Locator])
     requires { (e : ℕ) → e < length on.old → slice_index on.old e + places_on e (map place_of places.now) < 2 ^ 32 }
     ensures size { length on.new ≡ length on.old }
     ensures each { (e : ℕ) → e < length on.old → slice_index on.new e ≡ slice_index on.old e + places_on e (map place_of places.now) }
@@ -77,49 +106,15 @@ fn take_places(on: &mut [u32], places: &[Locator])
     }
 }
 
-/// The locators of an identifier by its last entry.
-fn last_of<'a>(
-    table: &'a [(ShardId, Places)],
-    runs: &'a [StoredRun],
-    id: ShardId,
-) -> Option<&'a [Locator]>
-    requires { IsReadable table.now runs.now }
-    ensures { option_map (map place_of) (option_copied result) ≡ lookup (id_number id) (map named_entry table.now ++ entries_of (newest_first runs.now)) }
-{
-    match find(table, id) {
-        Some(locators) => Some(locators),
-        None => find_in_runs(runs, id),
-    }
-}
-
-/// Counts the chunks of an identifier no more.
-fn take_last(on: &mut [u32], table: &[(ShardId, Places)], runs: &[StoredRun], id: ShardId)
-    requires readable { IsReadable table.now runs.now }
-    requires counts { AreCounts on.old (map named_entry table.now ++ entries_of (newest_first runs.now)) }
+/// Counts the places that an identifier had last no more.
+pub fn take_last(on: &mut [u32], last: Option<&[Locator]>)
+    requires { (e : ℕ) → e < length on.old → places_on e (live (option_map (map place_of) (option_copied last))) ≤ slice_index on.old e }
     ensures size { length on.new ≡ length on.old }
-    ensures each { (e : ℕ) → e < 7680 → slice_index on.new e ≡ lives_on e (map named_entry table.now ++ entries_of (newest_first runs.now)) - places_on e (live_at (map named_entry table.now ++ entries_of (newest_first runs.now)) (id_number id)) }
+    ensures each { (e : ℕ) → e < length on.old → slice_index on.new e + places_on e (live (option_map (map place_of) (option_copied last.entry))) ≡ slice_index on.old e }
 {
-    if let Some(locators) = last_of(table, runs, id) {
+    if let Some(locators) = last {
         take_places(on, locators);
     }
-}
-
-/// Counts what lives on each extent once an identifier of a table and of runs, which are listed oldest first, has other locators.
-pub fn recount(
-    on: &mut [u32],
-    table: &[(ShardId, Places)],
-    runs: &[StoredRun],
-    id: ShardId,
-    locators: &[Locator],
-)
-    requires readable { IsReadable table.now runs.now }
-    requires counts { AreCounts on.old (map named_entry table.now ++ entries_of (newest_first runs.now)) }
-    requires short { length locators.now ≤ 8 }
-    requires few { names (record { id = id_number id; locators = map place_of locators.now } ∷ (map named_entry table.now ++ entries_of (newest_first runs.now))) < 2 ^ 29 }
-    ensures { AreCounts on.new (record { id = id_number id; locators = map place_of locators.now } ∷ (map named_entry table.now ++ entries_of (newest_first runs.now))) }
-{
-    take_last(on, table, runs, id);
-    add_places(on, locators);
 }
 
 /// How many identifiers are named, and what their newest entries weigh together.

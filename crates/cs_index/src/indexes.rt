@@ -1,18 +1,22 @@
 //! The index of a store.
-ghost use Rattle.std.specs.Prelude.{◌≡◌, ◌≢◌, ℕ, ◌+◌, ◌<◌, ◌≤◌, ◌^◌, ◌⊎◌, ◌↔◌, ◌==◌, [], IfErr, IfOk, IfSome, IsOk, IsTrue, MatchOption, OnErr, OnOk, None, Some, MatchBool, length, map, option_copied, option_map, true, false};
+ghost use Rattle.std.specs.Prelude.{◌≡◌, ◌≢◌, ◌+◌, ◌<◌, ◌≤◌, ◌^◌, ◌⊎◌, ◌↔◌, ◌==◌, [], IfErr, IfOk, IfSome, IsOk, IsTrue, MatchOption, OnErr, OnOk, None, Some, MatchBool, length, map, option_copied, option_map, true, false};
 ghost use Rattle.std.specs.List.{AllByRecursion};
 ghost use Rattle.cs_frame.specs.Locators.{KeepFormat};
 ghost use Rattle.cs_frame.specs.Runs.{IsRun};
+ghost use Rattle.law_machine.specs.Apart.{any_run_on};
 ghost use Rattle.law_machine.specs.Geometry.{weigh_in};
-ghost use Rattle.law_machine.specs.Index.{FirstLive, NothingLive, entries_of, live_at, lookup, named_weight, names, weight, weight_with};
-ghost use Rattle.law_machine.specs.Tally.{lives_on, one_if_some};
+ghost use Rattle.law_machine.specs.Index.{FirstLive, NothingLive, entries_of, live_at, lookup, named_weight, names, weight_with};
+ghost use Rattle.law_machine.specs.Tally.{lives_on, shards};
 ghost use Rattle.cs_frame.specs.Formats.{place_of};
 ghost use Rattle.cs_index.specs.State.{IsSet, IsWhole, id_number, index_of, newest_first};
 
-use crate::counts::{MOST_EXTENTS, count_living, count_newest, one_if_living, recount, sum_after};
-use crate::entries::{Entries, entries_after, entries_from};
+use crate::counts::{
+    MOST_EXTENTS, add_places, count_living, count_newest, standing_of, sum_after, take_last,
+};
 use crate::live::{Cleared, LiveChunk, NONE_KNOWN, known_up_to, search, still_cleared};
-use crate::stored_runs::{StoredRun, are_ids, count_after, find, find_in_runs, put};
+use crate::stored_runs::{
+    Entries, StoredRun, are_ids, count_after, entries_after, entries_from, last_of, lies_on, put,
+};
 use cs_frame::{Format, Locator, Places, Run, ShardId, entry_weight};
 use cs_refusal::Refusal;
 use std::alloc::{AllocError, Global};
@@ -55,19 +59,11 @@ impl Model for Index {
     ghost invariant = { λ x. IsHeld (state_of x.table.entries.items x.runs.items x.format x.limit x.room) x.table.entries.items x.named x.living x.weight x.on.items (vec_len x.table.entries) (vec_capacity x.table.entries) x.cleared };
 }
 
-/// What an identifier has: whether an entry, 1 where that has locators, else 0, and what it weighs, 0 where there is none.
-#[derive(Clone, Copy, Debug)]
-struct Standing {
-    known: bool,
-    living: usize,
-    weight: usize,
-}
-
 impl Index {
     /// The index of these runs, oldest first, with an empty table, in a store of this format. `limit` is what the newest entries of all
     /// identifiers may weigh together: as much as those of one run on one extent. An entry weighs `cs_frame::entry_weight`.
     ///
-    /// 43 `NotAStore` where they weigh more, then 9 `OutOfMemory`. Asks for the memory of a number for each extent that a store can
+    /// 43 `NotAStore` if they weigh more, then 9 `OutOfMemory`. Asks for the memory of a number for each extent that a store can
     /// have. Reads all entries in order twice.
     pub fn load(
         alloc: Global,
@@ -106,17 +102,14 @@ impl Index {
         })
     }
 
-    /// The locators of an identifier by its last entry, none of them where that is a deletion. Searches the table, and
-    /// then one run after another, the newest first.
+    /// The locators of an identifier by its last entry, none of them if that is a deletion. Searches the table, and then one run after
+    /// another, the newest first.
     pub fn lookup(&self, id: ShardId) -> Option<&[Locator]>
         ensures last { option_map (map place_of) (option_copied result) ≡ lookup (id_number id) (index_of self.now) }
         ensures short { IfSome result (λ locators. length locators.now ≤ 8) }
         ensures marks { IfSome result (λ locators. KeepFormat self.now.format locators.now) }
     {
-        match find(&self.table.entries, id) {
-            Some(locators) => Some(locators),
-            None => find_in_runs(&self.runs, id),
-        }
+        last_of(&self.table.entries, &self.runs, id)
     }
 
     /// The last entry of each identifier that has one, deletions included, by rising identifiers. All of them together
@@ -141,9 +134,9 @@ impl Index {
         &self.runs
     }
 
-    /// The first live chunk on an extent, by identifier and then by chunk. Where the last search was of
-    /// the same extent it reads on from there, unless a shard that it had passed was given a locator there since, or all
-    /// entries became one run: so searching an extent again and again, while its chunks are moved, reads each entry once.
+    /// The first live chunk on an extent, by identifier and then by chunk. If the last search was of the same extent it reads on from
+    /// there, unless a shard that it had passed was given a locator there since, or all entries became one run: so searching an extent
+    /// again and again, while its chunks are moved, reads each entry once.
     pub fn first_live(&mut self, extent: usize) -> Option<LiveChunk>
         ensures found { MatchOption result (NothingLive (index_of self.old) extent) (λ found. FirstLive (index_of self.old) extent (id_number found.id) found.chunk (place_of found.place)) }
         ensures same { self.new ≡ self.old }
@@ -161,6 +154,13 @@ impl Index {
         ensures limit { result ≤ self.now.limit }
     {
         self.named
+    }
+
+    /// How many identifiers have locators. It costs no search.
+    pub fn live_count(&self) -> usize
+        ensures { result ≡ shards (index_of self.now) }
+    {
+        self.living
     }
 
     /// What the newest entry of each identifier weighs, all together. It costs no search.
@@ -202,6 +202,13 @@ impl Index {
         self.on[extent] as usize
     }
 
+    /// Whether one of the runs lies on an extent.
+    pub fn has_run_on(&self, extent: usize) -> bool
+        ensures { result ≡ any_run_on self.now.runs extent }
+    {
+        lies_on(&self.runs, extent)
+    }
+
     /// Whether all entries are in runs.
     pub fn is_table_empty(&self) -> bool
         ensures { IsTrue result ↔ (self.now.table ≡ []) }
@@ -210,7 +217,7 @@ impl Index {
     }
 
     /// Makes room for so many entries in all: as many of the next calls of `set`, `erase` and `replace_if` ask for no
-    /// memory. Each of them takes at most one from the room. Where memory is refused the index stays as it is.
+    /// memory. Each of them takes at most one from the room. If memory is refused the index stays as it is.
     pub fn reserve(&mut self, identifiers: usize) -> Result<(), AllocError>
         ensures room { OnOk result (identifiers ≤ self.new.room) }
         ensures kept { self.old.room ≤ self.new.room }
@@ -222,38 +229,18 @@ impl Index {
         Ok(())
     }
 
-    /// What an identifier has.
-    fn standing(&self, id: ShardId) -> Standing
-        ensures known { MatchBool result.known (lookup (id_number id) (index_of self.now) ≢ None) (lookup (id_number id) (index_of self.now) ≡ None) }
-        ensures lives { result.living ≡ one_if_some (live_at (index_of self.now) (id_number id)) }
-        ensures weighs { result.weight ≡ weight (weigh_in self.now.format) (lookup (id_number id) (index_of self.now)) }
-    {
-        match self.lookup(id) {
-            Some(locators) => Standing {
-                known: true,
-                living: one_if_living(locators),
-                weight: entry_weight(self.format, locators.len()),
-            },
-            None => Standing {
-                known: false,
-                living: 0,
-                weight: 0,
-            },
-        }
-    }
-
     /// Whether the newest entries would weigh more than they may with one of so many chunks in place of what an identifier has. Searches for
     /// the identifier, and asks for no memory.
     pub fn is_full_for(&self, id: ShardId, chunks: usize) -> bool
         requires { chunks ≤ 8 }
         ensures { IsTrue result ↔ (self.now.limit < weight_with (weigh_in self.now.format) (index_of self.now) (id_number id) chunks) }
     {
-        let before = self.standing(id);
+        let before = standing_of(self.format, self.lookup(id));
         let now = entry_weight(self.format, chunks);
         self.limit < sum_after(self.weight, before.weight, now)
     }
 
-    /// Gives an identifier other locators in the table.
+    /// Gives an identifier other locators in the table. Searches for it once in all entries, and once more in the table.
     pub(crate) fn enter(&mut self, id: ShardId, locators: Places) -> Result<(), AllocError>
         requires short { length locators.items ≤ 8 }
         requires marks { KeepFormat self.old.format locators.items }
@@ -263,25 +250,20 @@ impl Index {
         ensures memory { 0 < self.old.room → IsOk result }
         ensures err { OnErr result (self.new ≡ self.old) }
     {
-        let before = self.standing(id);
-        let living = one_if_living(locators.as_slice());
-        let weight = entry_weight(self.format, locators.as_slice().len());
-        let cleared = still_cleared(self.cleared, id, locators.as_slice());
         self.table.entries.reserve(1)?;
-        recount(
-            &mut self.on,
-            &self.table.entries,
-            &self.runs,
-            id,
-            locators.as_slice(),
-        );
+        let last = last_of(&self.table.entries, &self.runs, id);
+        let before = standing_of(self.format, last);
+        let now = standing_of(self.format, Some(locators.as_slice()));
+        let cleared = still_cleared(self.cleared, id, locators.as_slice());
+        take_last(&mut self.on, last);
+        add_places(&mut self.on, locators.as_slice());
         match put(&mut self.table.entries, self.room.max(1), id, locators) {
             Ok(left) => {
                 self.room = left;
                 self.cleared = cleared;
                 self.named = count_after(self.named, before.known);
-                self.living = sum_after(self.living, before.living, living);
-                self.weight = sum_after(self.weight, before.weight, weight);
+                self.living = sum_after(self.living, before.living, now.living);
+                self.weight = sum_after(self.weight, before.weight, now.weight);
                 Ok(())
             }
             Err(_) => unreachable!(),
@@ -290,8 +272,8 @@ impl Index {
 
     /// Gives an identifier these locators, whatever it had before.
     ///
-    /// 32 `IndexFull` where the newest entries would weigh more than they may with these in place of those, then 9 `OutOfMemory`, only where
-    /// `reserve` left no room and memory is refused. Costs a search of the table and of each run.
+    /// 32 `IndexFull` if the newest entries would weigh more than they may with these in place of those, then 9 `OutOfMemory`, only if
+    /// `reserve` left no room and memory is refused. Costs two searches of the table and of each run.
     pub fn set(&mut self, id: ShardId, locators: Places) -> Result<(), Refusal>
         requires some { (1 ≤ length locators.items) × (length locators.items ≤ 8) }
         requires marks { KeepFormat self.old.format locators.items }
@@ -321,8 +303,8 @@ impl Index {
         }
     }
 
-    /// Deletes an identifier that has locators, and tells whether it had any. The deletion is an entry of its own, which
-    /// hides what the runs have. Where there were none, and where memory is refused, nothing changes.
+    /// Deletes an identifier that has locators, and returns whether it had any. The deletion is an entry of its own, which hides what the
+    /// runs have. If it had none, or memory is refused, nothing changes.
     pub fn erase(&mut self, id: ShardId) -> Result<bool, AllocError>
         ensures answer { IfOk result (λ erased. IsTrue erased ↔ (live_at (index_of self.old) (id_number id) ≢ [])) }
         ensures entered { result ≡ Ok true → IsSet self.old (id_number id) [] self.new }
@@ -350,8 +332,8 @@ impl Index {
         }
     }
 
-    /// Gives an identifier the new locators, no more than the old ones, where it has those, and tells whether it had. Where it has others,
-    /// and where memory is refused, nothing changes.
+    /// Gives an identifier the new locators, no more than the old ones, if it has those, and returns whether it had. If it has others, or
+    /// memory is refused, nothing changes.
     pub fn replace_if(
         &mut self,
         id: ShardId,

@@ -8,20 +8,16 @@
 
 mod counted_copies;
 mod counts;
-mod entries;
 mod index_laws;
 mod indexes;
 mod live;
 mod mergers;
-mod run_places;
 mod stages;
 mod stages_v2;
-mod stagings;
 mod stored_runs;
 
 pub use counted_copies::ChunkCopy;
-pub use entries::Entries;
 pub use index_laws::stages_without_sizes;
 pub use indexes::Index;
 pub use live::LiveChunk;
-pub use stored_runs::StoredRun;
+pub use stored_runs::{Entries, StoredRun};

@@ -5,11 +5,9 @@ ghost use Rattle.cs_index.specs.Live.{FirstAfter, IsFirstOn, IsFirstOnBehind, No
 ghost use Rattle.cs_index.specs.State.{IsAfter, IsId, id_number, index_of};
 ghost use Rattle.law_machine.specs.Index.{FirstLive, NothingLive, live_at};
 ghost use Rattle.cs_index.specs.Copies.{FirstBehind, NoneBehind, numbered};
-ghost use Rattle.law_machine.specs.Apart.{any_run_on};
 
-use crate::entries::Entries;
 use crate::indexes::Index;
-use crate::stored_runs::{is_before, lies_on};
+use crate::stored_runs::{Entries, is_before};
 use cs_frame::{Locator, ShardId};
 
 /// A chunk of a shard, and where its frame begins.
@@ -20,7 +18,7 @@ pub struct LiveChunk {
     pub place: Locator,
 }
 
-/// An extent, and up to which identifier nothing lives there; None where that isn't known of any.
+/// An extent, and up to which identifier nothing lives there; None if that isn't known of any.
 #[derive(Clone, Copy, Debug)]
 pub struct Cleared {
     pub extent: usize,
@@ -82,7 +80,7 @@ fn first_on(places: &[Locator], extent: usize) -> Option<usize>
     None
 }
 
-/// Tells clauses that the identifier, where there is one, has sixteen bytes. It has no effect.
+/// Tells clauses that the identifier, if there is one, has sixteen bytes. It has no effect.
 fn is_id(id: Option<ShardId>)
     ensures { IfSome id IsId }
 {
@@ -194,12 +192,5 @@ impl Index {
             Some(locators) => first_on_behind(locators, chunk, extent),
             None => None,
         }
-    }
-
-    /// Whether one of the runs lies on an extent.
-    pub fn has_run_on(&self, extent: usize) -> bool
-        ensures { result ≡ any_run_on self.now.runs extent }
-    {
-        lies_on(&self.runs, extent)
     }
 }

@@ -1,22 +1,21 @@
 //! What a Stage merges with the table: so many of the newest runs, with their deletions or without them, and the run of them.
-ghost use Rattle.std.specs.Prelude.{◌≡◌, ℕ, ◌≤◌, ◌∷◌, ◌++◌, [], IfOk, OnOk, drop, length, map, ◌+◌, ◌*◌, ◌^◌, ◌<◌, ◌&&◌, ◌||◌, if◌then◌else◌, nat_le, nat_lt, true};
+ghost use Rattle.std.specs.Prelude.{◌≡◌, ◌≤◌, ◌∷◌, ◌++◌, [], IfOk, OnOk, drop, length, map, ◌+◌, ◌*◌, ◌^◌, ◌<◌, ◌&&◌, ◌||◌, if◌then◌else◌, nat_le, nat_lt, true};
 ghost use Rattle.std.specs.List.{AllByRecursion};
 ghost use Rattle.cs_extent.specs.State.{shape};
 ghost use Rattle.cs_frame.specs.Formats.{place_of};
 ghost use Rattle.cs_frame.specs.Roots.{greatest_runs};
-ghost use Rattle.cs_index.specs.Merges.{deletions_go, part, reached, stage_takes};
+ghost use Rattle.cs_index.specs.Merges.{deletions_go, reached, stage_takes, IsRunOfPart};
 ghost use Rattle.cs_index.specs.Read.{IsReadable};
 ghost use Rattle.cs_index.specs.Sorted.{kept_entry, live_entry};
-ghost use Rattle.cs_index.specs.State.{IsId, IsShort, id_number, index_of, named_entry, newest_first};
+ghost use Rattle.cs_index.specs.State.{IsId, IsShort, id_number, index_of, named_entry, newest_first, named_entries};
 ghost use Rattle.law_machine.specs.Device.{Shape};
 ghost use Rattle.law_machine.specs.Geometry.{by_size_in, weigh_in};
-ghost use Rattle.law_machine.specs.Index.{entries_of, named_weight, run_weight};
+ghost use Rattle.law_machine.specs.Index.{entries_of, named_weight};
 ghost use Rattle.law_machine.specs.Merges.{IsRunOf, reaching, sizes};
 ghost use Rattle.law_machine.specs.Tally.{dead_weight, living_weight};
 
-use crate::entries::entries_from;
 use crate::indexes::Index;
-use crate::stored_runs::StoredRun;
+use crate::stored_runs::{StoredRun, entries_from};
 use cs_extent::{Extents, Purpose};
 use cs_frame::{Format, Locator, Places, Run, ShardId, entry_weight};
 use std::alloc::{AllocError, Global};
@@ -89,9 +88,9 @@ pub fn merged_part(
     without_deletions: bool,
 ) -> Result<Run, AllocError>
     requires { IsReadable table.now runs.now }
-    ensures merged { IfOk result (λ run. IsRunOf without_deletions (map named_entry table.now ++ entries_of (newest_first runs.now)) (map named_entry run.entries.items)) }
+    ensures merged { IfOk result (λ run. IsRunOf without_deletions (map named_entry table.now ++ entries_of (newest_first runs.now)) (named_entries run)) }
     ensures ids { IfOk result (λ run. AllByRecursion (λ entry. IsId entry.0) run.entries.items) }
-    ensures short { IfOk result (λ run. AllByRecursion IsShort (map named_entry run.entries.items)) }
+    ensures short { IfOk result (λ run. AllByRecursion IsShort (named_entries run)) }
 {
     let mut entries = Vec::new(alloc);
     let mut read = entries_from(table, runs);
@@ -130,7 +129,7 @@ pub fn newest_reached(runs: &[StoredRun], entries: usize, most: usize) -> usize
     runs.len()
 }
 
-/// Whether deletions go where so many of so many runs are merged: where all are, and some unless a Stage merges by size.
+/// Whether deletions go if so many of so many runs are merged: if all are, and some unless a Stage merges by size.
 pub fn lets_deletions_go(runs: usize, newest: usize, by_size: bool) -> bool
     ensures { result ≡ (nat_le runs newest && (by_size || nat_lt 0 newest)) }
 {
@@ -219,7 +218,7 @@ impl Index {
         }
     }
 
-    /// What a Stage merges where it merges all.
+    /// What a Stage merges if it merges all.
     pub(crate) fn whole_portion(&self, extents: &Extents) -> Portion
         ensures newest { result.newest ≡ length self.now.runs }
         ensures deletions { result.without_deletions ≡ deletions_go (shape extents.now) self.now result.newest }
@@ -235,10 +234,7 @@ impl Index {
     /// The table and so much more as one run. Takes memory for it, and time for these entries.
     pub(crate) fn merged_newest(&self, alloc: Global, portion: Portion) -> Result<Run, AllocError>
         requires { portion.newest ≤ length self.now.runs }
-        ensures merged { IfOk result (λ run. IsRunOf portion.without_deletions (part self.now portion.newest) (map named_entry run.entries.items)) }
-        ensures ids { IfOk result (λ run. AllByRecursion (λ entry. IsId entry.0) run.entries.items) }
-        ensures short { IfOk result (λ run. AllByRecursion IsShort (map named_entry run.entries.items)) }
-        ensures weight { IfOk result (λ run. run_weight (weigh_in self.now.format) (map named_entry run.entries.items) ≤ self.now.limit) }
+        ensures { IfOk result (IsRunOfPart self.now portion.without_deletions portion.newest) }
     {
         let left = self.runs.len() - portion.newest;
         merged_part(

@@ -1,59 +1,33 @@
 //! What staging the index does in the older formats, where chunks and runs may lie on one extent.
-ghost use Rattle.std.specs.Prelude.{◌≡◌, ◌≢◌, ℕ, ◌+◌, ◌^◌, ◌⊎◌, ◌<◌, ◌≤◌, [], IfOk, MatchBool, OnErr, drop, false, length, map, true};
-ghost use Rattle.std.specs.List.{AllByRecursion};
-ghost use Rattle.cs_extent.specs.Frames.{AreResetsStaged};
+ghost use Rattle.std.specs.Prelude.{◌≡◌, ◌≢◌, ℕ, ◌^◌, ◌⊎◌, ◌<◌, ◌≤◌, [], IfOk, MatchBool, OnErr, drop, false, length, true};
+ghost use Rattle.cs_extent.specs.Appended.{IsReady};
 ghost use Rattle.cs_extent.specs.Purposes.{reason_of};
-ghost use Rattle.cs_extent.specs.State.{extents_of, shape};
+ghost use Rattle.cs_extent.specs.State.{shape};
 ghost use Rattle.cs_frame.specs.Roots.{greatest_runs};
 ghost use Rattle.cs_index.specs.Merges.{deletions_go, stage_takes};
-ghost use Rattle.cs_index.specs.Staged.{IsExact, IsFull, IsMergeStaged, IsNewestStaged, IsPartStaged, IsStageWorn, WritesMerged, WritesPart, WritesRun, run_frame};
-ghost use Rattle.cs_index.specs.State.{IsShort, index_of, named_entry};
-ghost use Rattle.law_machine.specs.Extents.{ForRun, NoPlace, Placed};
-ghost use Rattle.law_machine.specs.Index.{live_at, lookup, run_weight};
+ghost use Rattle.cs_index.specs.Staged.{IsExact, IsFull, IsMergeStaged, IsNewestStaged, IsPartStagedBy, IsStageWorn, WritesMerged, WritesPart, WritesRun};
+ghost use Rattle.cs_index.specs.State.{index_of};
+ghost use Rattle.law_machine.specs.Extents.{ForRun};
+ghost use Rattle.law_machine.specs.Index.{live_at, lookup};
 
 use crate::indexes::Index;
 use crate::mergers::{Chosen, Portion};
-use crate::stagings::{run_pages, stage_run};
+use crate::stages::{run_fits, stage_run};
 use crate::stored_runs::StoredRun;
 use cs_deps::Graph;
 use cs_extent::{Extents, Purpose};
-use cs_frame::Run;
 use cs_refusal::Refusal;
 use std::alloc::AllocError;
 use std::mem::replace;
 
-/// Whether an extent takes a frame of so many pages.
-fn has_place(extents: &Extents, pages: usize, purpose: Purpose) -> bool
-    requires together { (shape extents.now).apart ≡ false }
-    requires pages { (1 ≤ pages) × (pages ≤ (shape extents.now).pages) }
-    ensures { MatchBool result ((e : ℕ) × Placed (shape extents.now) (extents_of extents.now) (reason_of purpose) pages e) (NoPlace (shape extents.now) (extents_of extents.now) (reason_of purpose) pages) }
-{
-    extents.fits(&[pages], purpose)
-}
-
-/// Whether a run needs no place, as it has no entry, or an extent takes its frame.
-fn run_fits(extents: &Extents, run: &Run, purpose: Purpose) -> bool
-    requires together { (shape extents.now).apart ≡ false }
-    requires short { AllByRecursion IsShort (map named_entry run.now.entries.items) }
-    requires weight { run_weight (shape extents.now).weigh (map named_entry run.now.entries.items) ≤ (shape extents.now).most_weight }
-    ensures { MatchBool result
-        ((map named_entry run.now.entries.items ≡ []) ⊎ ((e : ℕ) × Placed (shape extents.now) (extents_of extents.now) (reason_of purpose) (length (run_frame extents.now (map named_entry run.now.entries.items))) e))
-        ((map named_entry run.now.entries.items ≢ []) × NoPlace (shape extents.now) (extents_of extents.now) (reason_of purpose) (length (run_frame extents.now (map named_entry run.now.entries.items)))) }
-{
-    if run.entries.is_empty() {
-        return true;
-    }
-    has_place(extents, run_pages(extents, run), purpose)
-}
-
 impl Index {
     /// Stages the table, which isn't empty, and as many of the newest runs as a Stage merges as one run, with `Purpose::Run`, and the root
-    /// over it and the older runs, after which the table is empty. `commands` is how many puts and deletes the root includes.
-    /// Answers the version of the root.
+    /// over it and the older runs, after which the table is empty. The table alone is moved and not copied. `commands` is how many puts
+    /// and deletes the root includes. Returns the version of the root.
     ///
-    /// 30 `Full` where no extent takes the run, then 35 `WornOut` where a number would pass 2^63 - 1; 9 `OutOfMemory` may
-    /// come instead of either. After a refusal nothing has changed but the graph's room.
-    pub(crate) fn stage_v2(
+    /// 30 `Full` if no extent takes the run, then 35 `WornOut` if a number would pass 2^63 - 1; 9 `OutOfMemory` may come instead of
+    /// either. After a refusal nothing has changed but the graph's room.
+    pub fn stage_v2(
         &mut self,
         extents: &mut Extents,
         graph: &mut Graph,
@@ -63,54 +37,22 @@ impl Index {
         requires together { (shape extents.old).apart ≡ false }
         requires format { self.old.format ≡ (shape extents.old).format }
         requires limit { self.old.limit ≡ (shape extents.old).most_weight }
-        requires families { length graph.old.staging.latest ≡ 1 + (shape extents.old).sections }
-        requires resets { AreResetsStaged (extents_of extents.old) graph.old.staging }
+        requires ready { IsReady extents.old graph.old.staging }
         requires commands { commands < 2 ^ 63 }
         ensures staged { IfOk result (λ v. IsNewestStaged (stage_takes (shape extents.old) self.old) self.old extents.old graph.old v commands self.new extents.new graph.new) }
         ensures lookups { deletions_go (shape extents.old) self.old (stage_takes (shape extents.old) self.old) ≡ false → (id : ℕ) → lookup id (index_of self.new) ≡ lookup id (index_of self.old) }
         ensures map { (id : ℕ) → live_at (index_of self.new) id ≡ live_at (index_of self.old) id }
-        ensures resets { AreResetsStaged (extents_of extents.new) graph.new.staging }
-        ensures families { length graph.new.staging.latest ≡ length graph.old.staging.latest }
+        ensures ready { IsReady extents.new graph.new.staging }
         ensures why { IsExact result (IsFull (WritesRun (shape extents.old) self.old) extents.old ForRun) (IsStageWorn (WritesRun (shape extents.old) self.old) extents.old ForRun graph.old.staging) }
         ensures refused { OnErr result (self.new ≡ self.old) }
         ensures unwritten { OnErr result (extents.new ≡ extents.old) }
         ensures unstaged { OnErr result (graph.new ≡ record graph.old { room = graph.new.room }) }
     {
         let portion = self.newest_portion(extents);
-        self.stage_portion(extents, graph, commands, portion)
-    }
-
-    /// Stages the table, which isn't empty, and so much more as one run, with `Purpose::Run`. The table alone is moved and not copied.
-    fn stage_portion(
-        &mut self,
-        extents: &mut Extents,
-        graph: &mut Graph,
-        commands: u64,
-        portion: Portion,
-    ) -> Result<u64, Refusal>
-        requires some { self.old.table ≢ [] }
-        requires inside { portion.newest ≤ length self.old.runs }
-        requires left { length (drop portion.newest self.old.runs) < greatest_runs extents.old.format }
-        requires alone { portion.without_deletions ≡ true → drop portion.newest self.old.runs ≡ [] }
-        requires together { (shape extents.old).apart ≡ false }
-        requires format { self.old.format ≡ (shape extents.old).format }
-        requires limit { self.old.limit ≡ (shape extents.old).most_weight }
-        requires families { length graph.old.staging.latest ≡ 1 + (shape extents.old).sections }
-        requires resets { AreResetsStaged (extents_of extents.old) graph.old.staging }
-        requires commands { commands < 2 ^ 63 }
-        ensures staged { IfOk result (λ v. IsPartStaged portion.without_deletions portion.newest self.old extents.old graph.old ForRun v commands self.new extents.new graph.new) }
-        ensures resets { AreResetsStaged (extents_of extents.new) graph.new.staging }
-        ensures families { length graph.new.staging.latest ≡ length graph.old.staging.latest }
-        ensures why { IsExact result (IsFull (WritesPart portion.without_deletions self.old portion.newest) extents.old ForRun) (IsStageWorn (WritesPart portion.without_deletions self.old portion.newest) extents.old ForRun graph.old.staging) }
-        ensures refused { OnErr result (self.new ≡ self.old) }
-        ensures unwritten { OnErr result (extents.new ≡ extents.old) }
-        ensures unstaged { OnErr result (graph.new ≡ record graph.old { room = graph.new.room }) }
-    {
         if portion.newest == 0 && !portion.without_deletions {
-            self.stage_table(extents, graph, commands)
-        } else {
-            self.stage_newest(extents, graph, commands, Purpose::Run, portion)
+            return self.stage_table(extents, graph, commands);
         }
+        self.stage_newest(extents, graph, commands, Purpose::Run, portion)
     }
 
     /// Stages the table as one run more.
@@ -125,12 +67,10 @@ impl Index {
         requires together { (shape extents.old).apart ≡ false }
         requires format { self.old.format ≡ (shape extents.old).format }
         requires limit { self.old.limit ≡ (shape extents.old).most_weight }
-        requires families { length graph.old.staging.latest ≡ 1 + (shape extents.old).sections }
-        requires resets { AreResetsStaged (extents_of extents.old) graph.old.staging }
+        requires ready { IsReady extents.old graph.old.staging }
         requires commands { commands < 2 ^ 63 }
-        ensures staged { IfOk result (λ v. IsPartStaged false 0 self.old extents.old graph.old ForRun v commands self.new extents.new graph.new) }
-        ensures resets { AreResetsStaged (extents_of extents.new) graph.new.staging }
-        ensures families { length graph.new.staging.latest ≡ length graph.old.staging.latest }
+        ensures staged { IfOk result (λ v. IsPartStagedBy false false 0 self.old extents.old graph.old ForRun v commands self.new extents.new graph.new) }
+        ensures ready { IsReady extents.new graph.new.staging }
         ensures why { IsExact result (IsFull (WritesPart false self.old 0) extents.old ForRun) (IsStageWorn (WritesPart false self.old 0) extents.old ForRun graph.old.staging) }
         ensures refused { OnErr result (self.new ≡ self.old) }
         ensures unwritten { OnErr result (extents.new ≡ extents.old) }
@@ -160,12 +100,11 @@ impl Index {
         }
     }
 
-    /// Stages all that is live as one run, for this purpose, and the root over it, after which there is no other
-    /// entry. Where nothing is live no run is staged, and the root has none. Answers the version of the root.
+    /// Stages all that is live as one run, for this purpose, and the root over it, after which there is no other entry. If nothing is
+    /// live no run is staged, and the root has none. Returns the version of the root.
     ///
-    /// 30 `Full` where no extent takes the run, then 35 `WornOut` where a number would pass 2^63 - 1; 9 `OutOfMemory` may
-    /// come instead of either. After a refusal nothing has changed but the graph's room. Takes memory for all that is
-    /// live, and time for all entries.
+    /// 30 `Full` if no extent takes the run, then 35 `WornOut` if a number would pass 2^63 - 1; 9 `OutOfMemory` may come instead of
+    /// either. After a refusal nothing has changed but the graph's room. Takes memory for all that is live, and time for all entries.
     pub fn stage_merged(
         &mut self,
         extents: &mut Extents,
@@ -176,8 +115,7 @@ impl Index {
         requires together { (shape extents.old).apart ≡ false }
         requires format { self.old.format ≡ (shape extents.old).format }
         requires limit { self.old.limit ≡ (shape extents.old).most_weight }
-        requires families { length graph.old.staging.latest ≡ 1 + (shape extents.old).sections }
-        requires resets { AreResetsStaged (extents_of extents.old) graph.old.staging }
+        requires ready { IsReady extents.old graph.old.staging }
         requires commands { commands < 2 ^ 63 }
         ensures staged { IfOk result (λ v. IsMergeStaged self.old extents.old graph.old (reason_of purpose) v commands self.new extents.new graph.new) }
 
@@ -185,8 +123,7 @@ impl Index {
         ensures map { (id : ℕ) → live_at (index_of self.new) id ≡ live_at (index_of self.old) id }
 
         // Whatever the answer, the next append may be made.
-        ensures resets { AreResetsStaged (extents_of extents.new) graph.new.staging }
-        ensures families { length graph.new.staging.latest ≡ length graph.old.staging.latest }
+        ensures ready { IsReady extents.new graph.new.staging }
 
         ensures why { IsExact result (IsFull (WritesMerged self.old) extents.old (reason_of purpose)) (IsStageWorn (WritesMerged self.old) extents.old (reason_of purpose) graph.old.staging) }
         ensures refused { OnErr result (self.new ≡ self.old) }
@@ -200,7 +137,7 @@ impl Index {
         self.stage_newest(extents, graph, commands, purpose, all)
     }
 
-    /// Stages the table and so much more as one run, for this purpose, and the root over it and the older runs. Where it would have no
+    /// Stages the table and so much more as one run, for this purpose, and the root over it and the older runs. If it would have no
     /// entry no run is staged.
     fn stage_newest(
         &mut self,
@@ -217,12 +154,10 @@ impl Index {
         requires together { (shape extents.old).apart ≡ false }
         requires format { self.old.format ≡ (shape extents.old).format }
         requires limit { self.old.limit ≡ (shape extents.old).most_weight }
-        requires families { length graph.old.staging.latest ≡ 1 + (shape extents.old).sections }
-        requires resets { AreResetsStaged (extents_of extents.old) graph.old.staging }
+        requires ready { IsReady extents.old graph.old.staging }
         requires commands { commands < 2 ^ 63 }
-        ensures staged { IfOk result (λ v. IsPartStaged portion.without_deletions portion.newest self.old extents.old graph.old (reason_of purpose) v commands self.new extents.new graph.new) }
-        ensures resets { AreResetsStaged (extents_of extents.new) graph.new.staging }
-        ensures families { length graph.new.staging.latest ≡ length graph.old.staging.latest }
+        ensures staged { IfOk result (λ v. IsPartStagedBy false portion.without_deletions portion.newest self.old extents.old graph.old (reason_of purpose) v commands self.new extents.new graph.new) }
+        ensures ready { IsReady extents.new graph.new.staging }
         ensures why { IsExact result (IsFull (WritesPart portion.without_deletions self.old portion.newest) extents.old (reason_of purpose)) (IsStageWorn (WritesPart portion.without_deletions self.old portion.newest) extents.old (reason_of purpose) graph.old.staging) }
         ensures refused { OnErr result (self.new ≡ self.old) }
         ensures unwritten { OnErr result (extents.new ≡ extents.old) }
@@ -241,7 +176,7 @@ impl Index {
         self.stage_chosen(extents, graph, chosen, commands)
     }
 
-    /// Whether an extent would take the run that `stage_merged` writes for this purpose, true also where it writes none.
+    /// Whether an extent would take the run that `stage_merged` writes for this purpose, true also if it writes none.
     /// Takes memory for all that is live, and time for all entries.
     pub fn merged_fits(&self, extents: &Extents, purpose: Purpose) -> Result<bool, AllocError>
         requires together { (shape extents.now).apart ≡ false }

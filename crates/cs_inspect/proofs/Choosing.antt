@@ -8,7 +8,7 @@ use Rattle.cs_frame.specs.Frames.{page_count}
 use Rattle.cs_frame.specs.Geometries.{run_bytes, weight_bytes}
 use Rattle.law_machine.specs.Geometry.{marks_in, most_weight_in}
 use Rattle.cs_inspect.specs.Choices.{ChoosesApart, ChoosesBy, ChoosesTogether, run_pages}
-use Rattle.cs_inspect.specs.declared.extent_uses.ExtentUse.{ExtentUse}
+use Rattle.cs_inspect.specs.declared.surveys.ExtentUse.{ExtentUse}
 use Rattle.cs_inspect.specs.Fewest.{IsFewestLive}
 use Rattle.cs_inspect.specs.Uses.{AreExtents, HasNoGarbage, IsMostGarbage, garbage}
 

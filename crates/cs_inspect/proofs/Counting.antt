@@ -5,7 +5,7 @@ use Rattle.cs_refusal.specs.declared.refusals.Refusal.{Refusal}
 use Rattle.cs_refusal.specs.declared.refusals.Refusal.TheVariants.{DeviceFault}
 use Rattle.cs_inspect.proofs.Risen.{risen_both, risen_one, risen_so, risen_still}
 use Rattle.cs_inspect.specs.Failures.{RisesBy}
-use Rattle.cs_inspect.specs.declared.damages.Damage.{Damage}
+use Rattle.cs_inspect.specs.declared.scrubs.Damage.{Damage}
 use Rattle.cs_inspect.specs.Scrubs.{device_faults, failed_reads, refusal_in}
 
 -- ---- how many

@@ -3,7 +3,7 @@ use Rattle.std.proofs.Common.{◌≡◌, ◌∙◌, inl, inr, ◌≤◌, ◌<◌
 use Rattle.std.specs.Prelude.{slice_get}
 use Rattle.std.proofs.lemmas.Bool.{cases_eq, cases_lt}
 use Rattle.std.proofs.lemmas.Option.{same_Some, slice_get_within}
-use Rattle.cs_inspect.specs.declared.extent_uses.ExtentUse.{ExtentUse}
+use Rattle.cs_inspect.specs.declared.surveys.ExtentUse.{ExtentUse}
 use Rattle.cs_inspect.specs.Uses.{HasNoGarbage, IsMostGarbage, garbage}
 
 -- extent e is the first that has most, and that is some

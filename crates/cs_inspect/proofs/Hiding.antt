@@ -18,9 +18,9 @@ use Rattle.law_machine.specs.Formats.{places}
 use Rattle.law_machine.specs.Index.{live, live_at, lookup}
 use Rattle.law_machine.specs.Lists.{◌∈◌}
 use Rattle.cs_inspect.specs.Chunks.{AreLiveChunks, Chunk, chunks_from, chunks_of}
-use Rattle.cs_inspect.specs.declared.damages.Damage.{Damage}
-use Rattle.cs_inspect.specs.declared.damages.Damage.TheVariants as damage
-use Rattle.cs_inspect.specs.declared.damages.Scrubbed.{Scrubbed}
+use Rattle.cs_inspect.specs.declared.scrubs.Damage.{Damage}
+use Rattle.cs_inspect.specs.declared.scrubs.Damage.TheVariants as damage
+use Rattle.cs_inspect.specs.declared.scrubs.Scrubbed.{Scrubbed}
 use Rattle.cs_inspect.specs.Scrubs.{AreCaused, AreNamed, Frame, HasFault, IsInside, IsNamed, IsOfShard, IsPassed, IsScrubbed, IsWhyUnread, NamesShard, OfChunk, OfRun, frame_of, frames_of, kind_in, place_in, refusal_in}
 use Rattle.cs_inspect.proofs.InsideScrubs.{in_live}
 

@@ -9,7 +9,7 @@ use Rattle.cs_disk.specs.Disk.{Rises}
 use Rattle.cs_extent.specs.State.{State as ExtentsState}
 use Rattle.cs_frame.specs.declared.frames.FrameKind.{FrameKind}
 use Rattle.cs_frame.specs.declared.locators.Locator.{Locator}
-use Rattle.cs_inspect.specs.declared.damages.Damage.{Damage}
+use Rattle.cs_inspect.specs.declared.scrubs.Damage.{Damage}
 use Rattle.cs_inspect.specs.Scrubs.{AreCaused, AreNamed, Frame, IsIntact, IsNamed, IsPassed, IsWhyUnread, TellsFrame, frame_of, kind_in, place_in, refusal_in}
 
 -- ---- lists of frames

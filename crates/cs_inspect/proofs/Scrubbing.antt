@@ -11,8 +11,8 @@ use Rattle.cs_index.specs.State.{State as Index, index_of, newest_first, run_of}
 use Rattle.law_machine.specs.Element.{Entry, Locator as Place, Run}
 use Rattle.law_machine.specs.Formats.{places}
 use Rattle.cs_inspect.specs.Chunks.{AreLiveChunks, Chunk}
-use Rattle.cs_inspect.specs.declared.damages.Damage.{Damage}
-use Rattle.cs_inspect.specs.declared.damages.Scrubbed.{Scrubbed}
+use Rattle.cs_inspect.specs.declared.scrubs.Damage.{Damage}
+use Rattle.cs_inspect.specs.declared.scrubs.Scrubbed.{Scrubbed}
 use Rattle.cs_inspect.specs.Scrubs.{AreNamed, IsScrubbed, OfChunk, OfRun, frames_of}
 use Rattle.cs_inspect.proofs.InsideScrubs.{in_live}
 use Rattle.cs_inspect.proofs.Naming.{both_named}

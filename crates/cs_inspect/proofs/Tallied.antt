@@ -7,7 +7,7 @@ use Rattle.std.proofs.lemmas.List.{get_or-set_other, length-set, length_push}
 use Rattle.std.proofs.lemmas.Option.{same_Some, slice_get_within}
 use Rattle.cs_disk.specs.Disk.{Rises}
 use Rattle.law_machine.specs.Extents.{Extents}
-use Rattle.cs_inspect.specs.declared.extent_uses.ExtentUse.{ExtentUse}
+use Rattle.cs_inspect.specs.declared.surveys.ExtentUse.{ExtentUse}
 use Rattle.cs_inspect.specs.Uses.{AreBounded, AreCounted, AreCountedAsRead, AreExtents, AreRead, AreReadAs, AreSums, AreTallied, AreUses, Head, IsExtent, lost_in, lost_one, missing_in, pages_in, sum_on}
 
 -- ---- sums

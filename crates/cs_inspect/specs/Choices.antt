@@ -12,7 +12,7 @@ use Rattle.law_machine.specs.Index.{names}
 use Rattle.cs_inspect.specs.declared.choices.Choice.{Choice}
 use Rattle.cs_inspect.specs.declared.choices.SweepRule.{SweepRule}
 use Rattle.cs_inspect.specs.declared.choices.SweepRule.TheVariants.{FewestLive, MostGarbage}
-use Rattle.cs_inspect.specs.declared.extent_uses.ExtentUse.{ExtentUse}
+use Rattle.cs_inspect.specs.declared.surveys.ExtentUse.{ExtentUse}
 use Rattle.cs_inspect.specs.Fewest.{IsFewestLive, NoTwoFit}
 use Rattle.cs_inspect.specs.Kinds.{LieApart, LieTogether}
 use Rattle.cs_inspect.specs.Uses.{AreCountedAsRead, AreExtents, Head, HoldsOfHeads, IsMostGarbage, garbage}

@@ -1,6 +1,6 @@
 -- Which extent is swept: one with few live pages.
 use Rattle.std.specs.Prelude.{◌≡◌, ◌≢◌, ◌⊎◌, ◌+◌, ◌<◌, ◌≤◌, ℕ, false, List, Option, Some, slice_get}
-use Rattle.cs_inspect.specs.declared.extent_uses.ExtentUse.{ExtentUse}
+use Rattle.cs_inspect.specs.declared.surveys.ExtentUse.{ExtentUse}
 
 -- All that lives there may be moved: chunks lie there, none of them has an unreadable header, and no sweep goes on there.
 pub record IsMovable (used : ExtentUse) : Type 0 where

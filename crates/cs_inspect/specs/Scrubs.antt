@@ -18,9 +18,9 @@ use Rattle.law_machine.specs.Formats.{places}
 use Rattle.law_machine.specs.Index.{live_at}
 use Rattle.law_machine.specs.Lists.{◌∈◌}
 use Rattle.cs_inspect.specs.Chunks.{AreLiveChunks, Chunk}
-use Rattle.cs_inspect.specs.declared.damages.Damage.{Damage}
-use Rattle.cs_inspect.specs.declared.damages.Damage.TheVariants as damage
-use Rattle.cs_inspect.specs.declared.damages.Scrubbed.{Scrubbed}
+use Rattle.cs_inspect.specs.declared.scrubs.Damage.{Damage}
+use Rattle.cs_inspect.specs.declared.scrubs.Damage.TheVariants as damage
+use Rattle.cs_inspect.specs.declared.scrubs.Scrubbed.{Scrubbed}
 
 -- a frame that is to be read: that of a chunk, or that of the run at this place
 pub data Frame : Type 0 where

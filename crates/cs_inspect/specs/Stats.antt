@@ -5,7 +5,7 @@ use Rattle.law_machine.specs.Device.{Shape}
 use Rattle.law_machine.specs.Element.{Locator as Place, Run}
 use Rattle.law_machine.specs.Extents.{Extents, chunk_extents, run_extents}
 use Rattle.cs_inspect.specs.declared.figures.RunUse.{RunUse}
-use Rattle.cs_inspect.specs.declared.quotas.Quota.{Quota}
+use Rattle.cs_inspect.specs.declared.figures.Quota.{Quota}
 
 -- where a run's frame begins, and how many entries it has
 abbrev pub run_figure : Run → Place × ℕ

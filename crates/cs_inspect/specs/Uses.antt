@@ -14,7 +14,7 @@ use Rattle.cs_frame.specs.Frames.{kind_byte, meant_header_fault, page_count, pay
 use Rattle.cs_index.specs.State.{index_of}
 use Rattle.law_machine.specs.Extents.{Extents}
 use Rattle.cs_inspect.specs.Chunks.{AreLiveChunks, Chunk}
-use Rattle.cs_inspect.specs.declared.extent_uses.ExtentUse.{ExtentUse}
+use Rattle.cs_inspect.specs.declared.surveys.ExtentUse.{ExtentUse}
 use Rattle.cs_inspect.specs.Failures.{RisesBy}
 
 -- ---- what headers say

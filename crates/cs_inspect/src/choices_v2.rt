@@ -11,7 +11,7 @@ ghost use Rattle.cs_inspect.specs.Choices.{ChoosesTogether, chosen_extent};
 ghost use Rattle.cs_inspect.specs.Uses.{HasNoGarbage, IsMostGarbage, garbage};
 
 use crate::choices::Choice;
-use crate::extent_uses::ExtentUse;
+use crate::surveys::ExtentUse;
 use cs_extent::Extents;
 use cs_frame::{frame_pages, weight_bytes};
 use cs_index::Index;

@@ -1,5 +1,5 @@
-//! The figures of a store.
-ghost use Rattle.std.specs.Prelude.{◌≡◌, ◌≢◌, IfOk, [], List, ℕ, false, length, map};
+//! The figures of a store, and how many extents may hold chunks and runs.
+ghost use Rattle.std.specs.Prelude.{◌≡◌, ◌≢◌, IfOk, [], List, ℕ, false, length, map, MatchOption};
 ghost use Rattle.cs_disk.specs.Disk.{Rises};
 ghost use Rattle.cs_disk.specs.Reads.{OnlyReads};
 ghost use Rattle.cs_extent.specs.State.{extents_of, shape};
@@ -9,15 +9,15 @@ ghost use Rattle.law_machine.specs.Geometry.{marks_in, weigh_in};
 ghost use Rattle.law_machine.specs.Index.{live_at, named_weight, names};
 ghost use Rattle.cs_inspect.specs.Chunks.{AreLiveChunks, Chunk};
 ghost use Rattle.cs_inspect.specs.Listings.{AreAll};
-ghost use Rattle.cs_inspect.specs.Stats.{newest_uses, run_figure};
+ghost use Rattle.cs_inspect.specs.Stats.{newest_uses, run_figure, IsQuota};
 ghost use Rattle.cs_inspect.specs.Uses.{AreBounded, AreCounted, AreCountedAsRead, AreExtents, HoldsOfHeads};
+ghost use Rattle.cs_inspect.specs.Kinds.{LieApart, LieTogether};
 
-use crate::chunk_lists::live_chunks;
-use crate::extent_uses::ExtentUse;
-use crate::listings::ids;
-use crate::surveys::uses;
+use crate::listings::{ids, live_chunks};
+use crate::surveys::{ExtentUse, uses};
 use cs_core::Core;
 use cs_disk::PageDisk;
+use cs_extent::Extents;
 use cs_frame::Locator;
 use cs_index::{Index, StoredRun};
 use std::alloc::{AllocError, Global};
@@ -140,4 +140,46 @@ fn run_uses(alloc: Global, runs: &[StoredRun]) -> Result<Vec<RunUse>, AllocError
         })?;
     }
     Ok(uses)
+}
+
+/// How many extents hold chunks and how many hold runs, and how many may once no sweep is unfinished.
+#[derive(Clone, Copy, Debug)]
+pub struct Quota {
+    /// How many extents hold chunks.
+    pub chunks: usize,
+    /// How many may.
+    pub most_chunks: usize,
+    /// How many extents hold runs.
+    pub runs: usize,
+    /// How many may.
+    pub most_runs: usize,
+}
+
+impl Quota {
+    /// The quota of a store, None in formats 1 and 2, where an extent may hold both. It costs two passes over the
+    /// extents.
+    pub fn of(extents: &Extents) -> Option<Self>
+        ensures { MatchOption result (LieTogether (shape extents.now)) (λ quota. LieApart (shape extents.now) × IsQuota (shape extents.now) (extents_of extents.now) quota) }
+    {
+        if !extents.is_apart() {
+            return None;
+        }
+        let most_runs = most_run_extents(extents);
+        Some(Quota {
+            chunks: extents.chunk_extent_count(),
+            most_chunks: extents
+                .extent_count()
+                .saturating_sub(most_runs)
+                .saturating_sub(2),
+            runs: extents.run_extent_count(),
+            most_runs,
+        })
+    }
+}
+
+/// How many extents may hold runs.
+fn most_run_extents(extents: &Extents) -> usize
+    ensures { result ≡ (shape extents.now).run_extents }
+{
+    if 16 <= extents.extent_count() { 2 } else { 1 }
 }

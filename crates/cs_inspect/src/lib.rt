@@ -4,32 +4,17 @@
 
 mod choices;
 mod choices_v2;
-mod chunk_lists;
-mod damages;
-mod extent_uses;
-mod fewest;
 mod figures;
 mod listings;
-mod progress;
-mod quotas;
-mod scrub_laws;
-mod scrubbed_frames;
 mod scrubs;
 mod surveys;
-mod tallies;
 
-pub use choices::{Choice, SweepRule, choose_sweep};
+pub use choices::{Choice, SweepRule, choose_sweep, fewest_live};
 pub use choices_v2::most_garbage;
-pub use chunk_lists::{first_on, live_chunks};
 pub use cs_core as the_core;
-pub use damages::{Damage, Scrubbed};
-pub use extent_uses::ExtentUse;
-pub use fewest::fewest_live;
-pub use figures::{RunUse, Stats};
-pub use listings::{ids, ids_from};
-pub use progress::{Nobody, Progress};
-pub use quotas::Quota;
-pub use scrub_laws::damaged_shards_are_named;
-pub use scrubbed_frames::{read_chunk, read_run};
-pub use scrubs::scrub;
-pub use surveys::uses;
+pub use figures::{Quota, RunUse, Stats};
+pub use listings::{first_on, ids, ids_from, live_chunks};
+pub use scrubs::{
+    Damage, Nobody, Progress, Scrubbed, damaged_shards_are_named, read_chunk, read_run, scrub,
+};
+pub use surveys::{ExtentUse, uses};

@@ -1,22 +1,65 @@
 //! The use of all extents.
-ghost use Rattle.std.specs.Prelude.{◌≡◌, ◌≢◌, ◌<◌, ℕ, IfOk, List, MatchBool, None, Option, length, map};
+ghost use Rattle.std.specs.Prelude.{◌≡◌, ◌≢◌, ◌<◌, ℕ, IfOk, List, MatchBool, None, Option, length, map, ◌+◌, ◌-◌, ◌^◌, ◌∷◌, ◌++◌, [], min, slice_index, slice_set, ◌↔◌, IsTrue};
 ghost use Rattle.std.specs.List.{AllByRecursion};
 ghost use Rattle.cs_chunk.specs.Newest.{AreNewest};
 ghost use Rattle.cs_disk.specs.Disk.{Rises, seen};
 ghost use Rattle.cs_disk.specs.Reads.{OnlyReads};
 ghost use Rattle.cs_extent.specs.State.{extents_of, shape};
 ghost use Rattle.cs_inspect.specs.Chunks.{BeginsInside, Chunk, chunk_of};
-ghost use Rattle.cs_inspect.specs.Uses.{AreBounded, AreCounted, AreCountedAsRead, AreExtents, AreRead, AreTallied, Head, HoldsOfHeads, IsReadAs, heads_of, pages_said};
+ghost use Rattle.cs_inspect.specs.Uses.{AreBounded, AreCounted, AreCountedAsRead, AreExtents, AreRead, AreTallied, Head, HoldsOfHeads, IsReadAs, heads_of, pages_said, AreUses};
+ghost use Rattle.cs_inspect.specs.Fewest.{IsMovable};
 
-use crate::chunk_lists::live_chunks;
-use crate::extent_uses::ExtentUse;
-use crate::tallies::{count, uses_with};
+use crate::listings::live_chunks;
 use cs_core::Core;
 use cs_disk::PageDisk;
+use cs_extent::Extents;
 use cs_frame::{FrameKind, Locator, frame_pages};
 use cs_index::LiveChunk;
 use cs_refusal::Refusal;
 use std::alloc::{AllocError, Global};
+
+/// How the pages of an extent are used, as the chunks say that are there.
+#[derive(Clone, Copy, Debug)]
+pub struct ExtentUse {
+    /// How many of its pages are given: its write pointer.
+    pub pointer: usize,
+    /// How often it was reset.
+    pub generation: u32,
+    /// Whether frames are appended to it.
+    pub is_open: bool,
+    /// Whether it is being swept.
+    pub is_swept: bool,
+    /// Whether it holds runs of the index, and so no chunks. False in stores of formats 1 and 2, where an extent may
+    /// hold both.
+    pub holds_runs: bool,
+    /// How many pages the frames of the live chunks that begin there have together, by their headers. `usize::MAX`
+    /// stands for more.
+    pub live: usize,
+    /// How many live chunks begin there whose header couldn't be read. Their pages don't count as live.
+    pub unreadable: usize,
+}
+
+impl ExtentUse {
+    /// The given pages that aren't live. Those of the index's runs are among them. It is 0 if damaged headers count
+    /// more pages than are given.
+    ///
+    /// The pages above the pointer aren't given, so they don't count here: a frame that fits there may still be
+    /// appended. In stores of formats 1 and 2 some of them are given up, as the store is opened or as a frame doesn't
+    /// fit there: nothing is written to them until the extent is emptied.
+    pub fn dead(&self) -> usize
+        ensures { result ≡ self.now.pointer - self.now.live }
+    {
+        self.pointer.saturating_sub(self.live)
+    }
+
+    /// Whether all that lives there may be moved off it: chunks lie there, none has an unreadable header, and no sweep
+    /// goes on there.
+    pub(crate) fn is_movable(&self) -> bool
+        ensures { IsTrue result ↔ IsMovable self.now }
+    {
+        self.pointer > 0 && !self.holds_runs && !self.is_swept && self.unreadable == 0
+    }
+}
 
 /// How each extent is used, in the order of the extents. A chunk counts on the extent where it begins. The page of its
 /// header is read once, from the newest write to it that waits, else from the device. If the header fails a test, or
@@ -102,4 +145,51 @@ fn is_memory(refusal: Refusal) -> bool
         Refusal::OutOfMemory => true,
         _ => false,
     }
+}
+
+/// Adds to one of the counts.
+fn add(counts: &mut [usize], k: usize, amount: usize)
+    requires { k < length counts.old }
+    ensures { counts.new ≡ slice_set counts.old k (min (slice_index counts.old k + amount) (2 ^ 64 - 1)) }
+{
+    counts[k] = counts[k].saturating_add(amount);
+}
+
+/// Counts a chunk that begins on this extent: its pages, or None if its header can't be read.
+fn count(live: &mut [usize], unreadable: &mut [usize], extent: usize, pages: Option<usize>)
+    requires live { extent < length live.old }
+    requires unreadable { extent < length unreadable.old }
+    ensures { (heads : List (ℕ × Option ℕ)) → AreTallied heads live.old unreadable.old → AreTallied (heads ++ (extent, pages) ∷ []) live.new unreadable.new }
+{
+    match pages {
+        Some(amount) => add(live, extent, amount),
+        None => add(unreadable, extent, 1),
+    }
+}
+
+/// The use of each extent, with these counts.
+fn uses_with(
+    alloc: Global,
+    extents: &Extents,
+    live: &[usize],
+    unreadable: &[usize],
+) -> Result<Vec<ExtentUse>, AllocError>
+    requires live { length live.now ≡ (shape extents.now).extents }
+    requires unreadable { length unreadable.now ≡ (shape extents.now).extents }
+    ensures { IfOk result (λ uses. AreUses (shape extents.now).extents (extents_of extents.now) live.now unreadable.now uses.items) }
+{
+    let mut uses = Vec::new(alloc);
+    for extent in 0..extents.extent_count() {
+        let used = ExtentUse {
+            pointer: extents.pointer(extent),
+            generation: extents.generation(extent),
+            is_open: extents.is_open(extent),
+            is_swept: extents.is_swept(extent),
+            holds_runs: extents.holds_runs(extent),
+            live: live[extent],
+            unreadable: unreadable[extent],
+        };
+        uses.push(used)?;
+    }
+    Ok(uses)
 }

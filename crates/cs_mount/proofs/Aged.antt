@@ -16,7 +16,7 @@ use Rattle.cs_twin.specs.Findings.{finding_in, held_of}
 use Rattle.cs_mount.specs.Lowered.{lowered_state}
 use Rattle.cs_twin.specs.Pairs.{shown}
 use Rattle.cs_mount.specs.Showing.{findings_on, shown_on}
-use Rattle.cs_mount.specs.StorePairs.{dimensions_on, last_says, named, named_by, or_else, pages_of, pairs_where, root_version, store_pair, store_pairs, store_version, zero_said}
+use Rattle.cs_mount.specs.StorePairs.{dimensions_on, geometry_of_first, last_says, named_by, pages_of, pairs_where, root_version, store_pair, store_pairs, store_version, zero_or_last}
 use Rattle.cs_mount.proofs.Blank.{apart_of}
 use Rattle.cs_twin.proofs.Holding.{held_found}
 use Rattle.cs_twin.proofs.Roles.{shown_page-own}
@@ -29,7 +29,7 @@ if_named : (b : Bool) (found d : Dimensions) → found.format ≡ 3 → (if b th
 if_named true found d three is = sym (ap (λ (z : Dimensions). z.format) (same_Some found d is)) ∙ three
 if_named false found d three is = cc
 
-named_three : (pages format extents extent_pages sections section : ℕ) (d : Dimensions) → named pages format extents extent_pages sections section ≡ Some d → d.format ≡ 3
+named_three : (pages format extents extent_pages sections section : ℕ) (d : Dimensions) → geometry_of_first pages format extents extent_pages sections section ≡ Some d → d.format ≡ 3
 named_three pages format extents extent_pages sections section d is =
     if_named (format == 3 && section == 0 && device_pages 3 extents extent_pages sections == pages) (record { format = 3; extents = extents; pages = extent_pages; sections = sections }) d refl is
 
@@ -41,7 +41,7 @@ said_three : (b : Bool) (pages : ℕ) (bytes : List ℕ) (d : Dimensions) → (i
 said_three true pages bytes d is = named_three pages 3 (number 12 14 bytes) (number 14 16 bytes) (slice_index bytes 16) (slice_index bytes 17) d is
 said_three false pages bytes d is = cc
 
-either_three : (pages : ℕ) (o last : Option FormatFault) (bytes others : List ℕ) (d : Dimensions) → or_else (zero_said pages o bytes) (last_says pages last others) ≡ Some d → d.format ≡ 3
+either_three : (pages : ℕ) (o last : Option FormatFault) (bytes others : List ℕ) (d : Dimensions) → zero_or_last pages o bytes (last_says pages last others) ≡ Some d → d.format ≡ 3
 either_three pages None last bytes others d is = said_three (slice_index bytes 3 == 51) pages bytes d is
 either_three pages (Some fault) last bytes others d is = last_three pages last others d is
 

@@ -22,7 +22,7 @@ use Rattle.cs_twin.specs.Findings.{finding_in}
 use Rattle.cs_mount.specs.OfStores.{IsOfStore}
 use Rattle.cs_twin.specs.Pairs.{ArePairs, Versions, held_in}
 use Rattle.cs_mount.specs.Showing.{findings_on}
-use Rattle.cs_mount.specs.StorePairs.{dimensions_on, first_says, or_else, pages_of, store_pairs, store_version, zero_said}
+use Rattle.cs_mount.specs.StorePairs.{dimensions_on, first_says, pages_of, store_pairs, store_version, zero_or_last}
 use Rattle.cs_twin.proofs.Holding.{held_found}
 use Rattle.cs_mount.proofs.Keeping.{made_of_store, not_both}
 use Rattle.cs_mount.specs.Looks.{IsLeftOver, IsTaken, is_whole}
@@ -98,7 +98,7 @@ module _ (pages : ℕ) (image : Image) (V : Versions) (pairs : List Pair) where
       by_first : (o : Option FormatFault) → page_zero_fault (page image 0) ≡ o → dimensions_on pages image ≡ None
       by_first None is = absurd (free (inl is))
       by_first (Some fault) is =
-          ap (λ (o : Option FormatFault). or_else (zero_said pages o (page image 0)) (first_says pages (page image (pages - 1)))) is ∙ none_last free
+          ap (λ (o : Option FormatFault). zero_or_last pages o (page image 0) (first_says pages (page image (pages - 1)))) is ∙ none_last free
 
 -- what is left over, by reads that found no first section on page 0 before
 pub left_behind : {E : Type 0} (r : Result Bool E) (n m : ℕ) (s after : State) (V : Versions) (pairs : List Pair) (holds : Bool) → m ≡ n → after ≡ s

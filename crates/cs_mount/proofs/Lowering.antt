@@ -1,5 +1,5 @@
 -- A section that records an older root is one too, and what pages show as of a root.
-use Rattle.std.proofs.Common.{◌≡◌, ◌≢◌, ◌≤◌, ℕ, List, [], ◌∷◌, Option, Some, Result, Ok, Err, OnOk, min, slice_index, sym, ◌∙◌, ap, subst, arith}
+use Rattle.std.proofs.Common.{◌≡◌, ◌≢◌, ◌≤◌, ℕ, List, [], ◌∷◌, Option, Some, Result, Ok, Err, IfOk, OnOk, min, slice_index, sym, ◌∙◌, ap, subst, arith}
 use Rattle.std.specs.List.{AllByRecursion}
 use Rattle.std.proofs.Math.Nat.{min-le_left}
 use Rattle.cs_frame.specs.Bytes.{number}
@@ -57,7 +57,7 @@ lowers page new root it low three spells is spelled =
 pub stays_of : (page : List ℕ) (root : ℕ) (fault : FormatFault) → superblock_fault 3 page ≡ Some fault → page ≡ lowered_page root page
 stays_of page root fault is = sym (ap (λ (o : Option FormatFault). lowered_by o root page) is)
 
-pub stays_by : {T R E : Type 0} (result : Result T FormatFault) (fault : FormatFault) (told : Result R E) (page : List ℕ) (root : ℕ) → HasFault result (superblock_fault 3 page) → result ≡ Err fault → OnOk told (fault ≢ OutOfMemory)
-    → OnOk told (page ≡ lowered_page root page)
-stays_by result fault (Ok t) page root has is other = stays_of page root fault ((has fault other).0 is)
-stays_by result fault (Err e) page root has is other = tt
+pub stays_by : {T R E : Type 0} (result : Result T FormatFault) (fault : FormatFault) (none : R) (told : Result R E) (page : List ℕ) (root : ℕ) → HasFault result (superblock_fault 3 page) → result ≡ Err fault
+    → IfOk told (λ it. (it ≡ none) × (fault ≢ OutOfMemory)) → OnOk told (page ≡ lowered_page root page)
+stays_by result fault none (Ok t) page root has is other = stays_of page root fault ((has fault other.1).0 is)
+stays_by result fault none (Err e) page root has is other = tt

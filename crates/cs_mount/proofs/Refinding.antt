@@ -10,7 +10,7 @@ use Rattle.cs_frame.specs.Superblocks.{superblock_fault}
 use Rattle.cs_twin.specs.declared.pairs.Pair.{Pair}
 use Rattle.cs_twin.specs.Pairs.{ArePairs, AreNoOlder, Versions, half, is_turned, shown, version_at}
 use Rattle.cs_mount.specs.Showing.{shown_on}
-use Rattle.cs_mount.specs.StorePairs.{dimensions_on, last_says, or_else, pages_of, pairs_where, section_version, store_pair, store_pairs, store_version, zero_said}
+use Rattle.cs_mount.specs.StorePairs.{dimensions_on, last_says, pages_of, pairs_where, section_version, store_pair, store_pairs, store_version, zero_or_last}
 use Rattle.cs_twin.specs.Tears.{HasWaitingWrite, IsLeft, IsNotWhole, MayTear}
 use Rattle.cs_mount.proofs.Blank.{apart_of}
 use Rattle.cs_twin.proofs.Leaving.{kept_among}
@@ -52,8 +52,8 @@ first_pair d three =
 -- the dimensions are told by two pages
 pub told_alike : (n : ℕ) (image other : Image) → page image 0 ≡ page other 0 → page image (n - 1) ≡ page other (n - 1) → dimensions_on n image ≡ dimensions_on n other
 told_alike n image other first last =
-    ap (λ (l : List ℕ). or_else (zero_said n (page_zero_fault l) l) (last_says n (superblock_fault 3 (page image (n - 1))) (page image (n - 1)))) first
-    ∙ ap (λ (l : List ℕ). or_else (zero_said n (page_zero_fault (page other 0)) (page other 0)) (last_says n (superblock_fault 3 l) l)) last
+    ap (λ (l : List ℕ). zero_or_last n (page_zero_fault l) l (last_says n (superblock_fault 3 (page image (n - 1))) (page image (n - 1)))) first
+    ∙ ap (λ (l : List ℕ). zero_or_last n (page_zero_fault (page other 0)) (page other 0) (last_says n (superblock_fault 3 l) l)) last
 
 pub older : (a b : ℕ) → nat_le a b ≡ false → b < a
 older a b test = grind (arith, nat_tests)

@@ -1,20 +1,23 @@
 -- What decoders tell of the pages of a store.
-use Rattle.std.proofs.Common.{◌≡◌, ◌≢◌, inl, inr, ◌==◌, ◌&&◌, ◌+◌, ℕ, Bool, true, false, List, Option, Some, None, Result, Ok, Err, IfOk, if◌then◌else◌, slice_index, refl, sym, ◌∙◌, ap, arith, eq-eqb}
+use Rattle.std.proofs.Common.{◌≡◌, ◌≢◌, inl, inr, ◌==◌, ◌&&◌, ◌+◌, ◌-◌, ℕ, Bool, true, false, List, Option, Some, None, Result, Ok, Err, IfOk, if◌then◌else◌, slice_index, refl, sym, ◌∙◌, ap, arith, eq-eqb, subst}
 use Rattle.std.proofs.lemmas.Bool.{ne_eqb}
 use Rattle.cs_disk.specs.declared.fault.DiskFault.{DiskFault}
+use Rattle.cs_disk.specs.Disk.{Image, page}
 use Rattle.cs_frame.specs.Bytes.{number}
 use Rattle.cs_frame.specs.declared.faults.FormatFault.{FormatFault}
 use Rattle.cs_frame.specs.declared.faults.FormatFault.TheVariants.{OutOfMemory}
 use Rattle.cs_frame.specs.declared.locators.Locator.{Locator}
 use Rattle.cs_frame.specs.Faults.{HasFault}
-use Rattle.cs_frame.specs.FirstFormat.{SpellsPageZero, page_zero_fault}
+use Rattle.cs_frame.specs.FirstFormat.{page_zero_fault}
+use Rattle.cs_frame.specs.declared.superblocks.Superblock.{Superblock}
 use Rattle.cs_frame.specs.Geometries.{Dimensions, IsKnown}
 use Rattle.cs_frame.specs.Roots.{SpellsRoot}
 use Rattle.cs_frame.specs.Superblocks.{SpellsSuperblock, superblock_fault}
 use Rattle.cs_frame.proofs.FirstFormatLaws as zeros
 use Rattle.cs_frame.proofs.RootLaws as roots
 use Rattle.cs_frame.proofs.SuperblockLaws as superblocks
-use Rattle.cs_mount.specs.StorePairs.{is_section, last_says, named, named_by, root_version, section_version, without_fault, zero_said}
+use Rattle.cs_reader.specs.Openings.{SpellsFirst}
+use Rattle.cs_mount.specs.StorePairs.{IsOnPageZero, dimensions_on, first_says, geometry_of_first, is_section, last_says, named_by, root_version, section_version, without_fault, zero_or_last}
 
 -- a page with a fault spells nothing
 pub faulty : {T : Type 0} (result : Result T FormatFault) (found : Option FormatFault) (fault : FormatFault) (n : ℕ) → HasFault result found → fault ≢ OutOfMemory → result ≡ Err fault → 0 ≡ without_fault found n
@@ -69,54 +72,72 @@ none_is (Err refused) fault n is zero = tt
 
 -- what a section that page 0 or the last page spells says
 pub section_says : (pages : ℕ) (bytes : List ℕ) (f version recorded extents extent_pages sections section : ℕ) (written : List (ℕ × ℕ)) → SpellsSuperblock bytes f version recorded extents extent_pages sections section written
-    → named pages f extents extent_pages sections section ≡ named_by pages f bytes
+    → geometry_of_first pages f extents extent_pages sections section ≡ named_by pages f bytes
 section_says pages bytes f version recorded extents extent_pages sections section written spells =
     let read = superblocks.one_section bytes f version recorded extents extent_pages sections section written spells in
-    ap (λ n. named pages f n extent_pages sections section) (sym read.of_extents) ∙ ap (λ n. named pages f (number 12 14 bytes) n sections section) (sym read.of_pages)
-    ∙ ap (λ n. named pages f (number 12 14 bytes) (number 14 16 bytes) n section) (sym read.of_sections) ∙ ap (λ n. named pages f (number 12 14 bytes) (number 14 16 bytes) (slice_index bytes 16) n) (sym read.of_section)
+    ap (λ n. geometry_of_first pages f n extent_pages sections section) (sym read.of_extents) ∙ ap (λ n. geometry_of_first pages f (number 12 14 bytes) n sections section) (sym read.of_pages)
+    ∙ ap (λ n. geometry_of_first pages f (number 12 14 bytes) (number 14 16 bytes) n section) (sym read.of_sections) ∙ ap (λ n. geometry_of_first pages f (number 12 14 bytes) (number 14 16 bytes) (slice_index bytes 16) n) (sym read.of_section)
 
 -- no other format than 3 names any
-other_named : (pages f extents extent_pages sections section : ℕ) → f ≡ 2 → named pages f extents extent_pages sections section ≡ None
-other_named pages f extents extent_pages sections section two = ap (λ g. named pages g extents extent_pages sections section) two
+other_named : (pages f extents extent_pages sections section : ℕ) → f ≡ 2 → geometry_of_first pages f extents extent_pages sections section ≡ None
+other_named pages f extents extent_pages sections section two = ap (λ g. geometry_of_first pages g extents extent_pages sections section) two
 
-zero_without : (pages : ℕ) (bytes : List ℕ) → page_zero_fault bytes ≡ None → zero_said pages (page_zero_fault bytes) bytes ≡ Some (if slice_index bytes 3 == 51 then named_by pages 3 bytes else None)
-zero_without pages bytes none = ap (λ (o : Option FormatFault). zero_said pages o bytes) none
+zero_without : (pages : ℕ) (bytes : List ℕ) (last : Option Dimensions) → page_zero_fault bytes ≡ None
+    → zero_or_last pages (page_zero_fault bytes) bytes last ≡ (if slice_index bytes 3 == 51 then named_by pages 3 bytes else None)
+zero_without pages bytes last none = ap (λ (o : Option FormatFault). zero_or_last pages o bytes last) none
 
-by_digit : (pages : ℕ) (bytes : List ℕ) (f extents extent_pages sections section : ℕ) → IsKnown f → slice_index bytes 3 ≡ 48 + f → named pages f extents extent_pages sections section ≡ named_by pages f bytes
-    → named pages f extents extent_pages sections section ≡ (if slice_index bytes 3 == 51 then named_by pages 3 bytes else None)
+by_digit : (pages : ℕ) (bytes : List ℕ) (f extents extent_pages sections section : ℕ) → IsKnown f → slice_index bytes 3 ≡ 48 + f → geometry_of_first pages f extents extent_pages sections section ≡ named_by pages f bytes
+    → geometry_of_first pages f extents extent_pages sections section ≡ (if slice_index bytes 3 == 51 then named_by pages 3 bytes else None)
 by_digit pages bytes f extents extent_pages sections section (inl two) fourth is =
     other_named pages f extents extent_pages sections section two ∙ sym (ap (λ (b : Bool). if b then named_by pages 3 bytes else None) (ne_eqb (slice_index bytes 3) 51 (λ e. omega (arith, e, fourth, two))))
 by_digit pages bytes f extents extent_pages sections section (inr three) fourth is =
     is ∙ ap (λ g. named_by pages g bytes) three ∙ sym (ap (λ (b : Bool). if b then named_by pages 3 bytes else None) (eq-eqb (slice_index bytes 3) 51 (omega (arith, fourth, three))))
 
--- what page 0 says, where it spells a section
-pub zero_reads : (pages : ℕ) (bytes : List ℕ) (f version recorded extents extent_pages sections section : ℕ) (written : List (ℕ × ℕ)) → SpellsPageZero bytes f version recorded extents extent_pages sections section written
-    → Some (named pages f extents extent_pages sections section) ≡ zero_said pages (page_zero_fault bytes) bytes
-zero_reads pages bytes f version recorded extents extent_pages sections section written (inl spells) =
-    let none = zeros.zero_of_section f bytes spells.fits.geometry.known (superblocks.spelled_has_none bytes f version recorded extents extent_pages sections section written spells) in
-    let read = superblocks.one_section bytes f version recorded extents extent_pages sections section written spells in
-    ap (λ (o : Option Dimensions). Some o) (by_digit pages bytes f extents extent_pages sections section spells.fits.geometry.known read.of_format (section_says pages bytes f version recorded extents extent_pages sections section written spells))
-    ∙ sym (zero_without pages bytes none)
-zero_reads pages bytes f version recorded extents extent_pages sections section written (inr first) =
-    let has_none = zeros.spelled_has_none bytes version extent_pages written first.spells in
+-- what page 0 says, where it spells a section: that has no fault
+pub zero_reads : (pages : ℕ) (bytes : List ℕ) (last : Option Dimensions) (it : Superblock) → SpellsFirst bytes it
+    → (page_zero_fault bytes ≡ None) × (geometry_of_first pages it.format it.extent_count it.pages it.sections it.section ≡ zero_or_last pages (page_zero_fault bytes) bytes last)
+zero_reads pages bytes last it (inl spells) =
+    let has_none = superblocks.spelled_has_none bytes it.format it.version it.recorded it.extent_count it.pages it.sections it.section it.extents.items spells in
+    let none = zeros.zero_of_section it.format bytes spells.fits.geometry.known has_none in
+    let read = superblocks.one_section bytes it.format it.version it.recorded it.extent_count it.pages it.sections it.section it.extents.items spells in
+    let says = section_says pages bytes it.format it.version it.recorded it.extent_count it.pages it.sections it.section it.extents.items spells in
+    (none, by_digit pages bytes it.format it.extent_count it.pages it.sections it.section spells.fits.geometry.known read.of_format says ∙ sym (zero_without pages bytes last none))
+zero_reads pages bytes last it (inr first) =
+    let has_none = zeros.spelled_has_none bytes it.version it.pages it.extents.items first.spells in
     let none = zeros.zero_of_first bytes has_none in
     let fourth = zeros.fourth_is bytes has_none in
-    ap (λ (o : Option Dimensions). Some o) (other_named pages f extents extent_pages sections section first.written_in ∙ sym (ap (λ (b : Bool). if b then named_by pages 3 bytes else None) (ne_eqb (slice_index bytes 3) 51 (λ e. omega (arith, e, fourth)))))
-    ∙ sym (zero_without pages bytes none)
+    let other = other_named pages it.format it.extent_count it.pages it.sections it.section first.written_in in
+    (none, other ∙ sym (ap (λ (b : Bool). if b then named_by pages 3 bytes else None) (ne_eqb (slice_index bytes 3) 51 (λ e. omega (arith, e, fourth)))) ∙ sym (zero_without pages bytes last none))
+
+-- and where it spells none
+zero_damaged : (pages : ℕ) (bytes : List ℕ) (last : Option Dimensions) → page_zero_fault bytes ≢ None → last ≡ zero_or_last pages (page_zero_fault bytes) bytes last
+zero_damaged pages bytes last damaged = by_fault (page_zero_fault bytes) damaged
+  where
+    by_fault : (o : Option FormatFault) → o ≢ None → last ≡ zero_or_last pages o bytes last
+    by_fault None not = absurd (not refl)
+    by_fault (Some fault) not = refl
+
+-- so what the last page says is found, by a read after that of page 0
+pub zero_on : (result : Result (Option Dimensions) DiskFault) (n pages : ℕ) (image after : Image) → n ≡ pages → after ≡ image → page_zero_fault (page image 0) ≢ None
+    → IfOk result (λ found. found ≡ first_says n (page after (n - 1))) → IfOk result (λ found. found ≡ dimensions_on pages image)
+zero_on (Ok found) n pages image after count same damaged is =
+    is ∙ ap (λ (i : Image). first_says n (page i (n - 1))) same ∙ zero_damaged n (page image 0) (first_says n (page image (n - 1))) damaged ∙ ap (λ (k : ℕ). dimensions_on k image) count
+zero_on (Err refused) n pages image after count same damaged is = tt
 
 -- what the last page says, where it spells one
 pub last_reads : (pages : ℕ) (bytes : List ℕ) (f version recorded extents extent_pages sections section : ℕ) (written : List (ℕ × ℕ)) → f ≡ 3 → SpellsSuperblock bytes f version recorded extents extent_pages sections section written
-    → named pages f extents extent_pages sections section ≡ last_says pages (superblock_fault 3 bytes) bytes
+    → geometry_of_first pages f extents extent_pages sections section ≡ last_says pages (superblock_fault 3 bytes) bytes
 last_reads pages bytes f version recorded extents extent_pages sections section written three spells =
     let none = superblocks.spelled_has_none bytes f version recorded extents extent_pages sections section written spells in
     section_says pages bytes f version recorded extents extent_pages sections section written spells ∙ ap (λ g. named_by pages g bytes) three
     ∙ sym (ap (λ g. last_says pages (superblock_fault g bytes) bytes) (sym three) ∙ ap (λ (o : Option FormatFault). last_says pages o bytes) none)
 
--- and where they don't
-pub zero_faulty : {T : Type 0} (result : Result T FormatFault) (pages : ℕ) (bytes : List ℕ) (fault : FormatFault) → HasFault result (page_zero_fault bytes) → fault ≢ OutOfMemory → result ≡ Err fault
-    → None ≡ zero_said pages (page_zero_fault bytes) bytes
-zero_faulty result pages bytes fault has ne is = sym (ap (λ (o : Option FormatFault). zero_said pages o bytes) ((has fault ne).0 is))
+-- bytes with a fault spell nothing
+module _ {T : Type 0} (result : Result T FormatFault) (bytes : List ℕ) (fault : FormatFault) (is : result ≡ Err fault) where
+  pub first_faulty : (it : Result (Option Superblock) DiskFault) → HasFault result (page_zero_fault bytes) → IfOk it (λ first. (first ≡ None) × (fault ≢ OutOfMemory)) → IfOk it (IsOnPageZero bytes)
+  first_faulty (Ok first) has none = subst (IsOnPageZero bytes) (sym none.0) (λ whole. let clash : None ≡ Some fault = sym whole ∙ (has fault none.1).0 is in cc clash)
+  first_faulty (Err refused) has none = tt
 
-pub last_faulty : {T : Type 0} (result : Result T FormatFault) (pages : ℕ) (bytes : List ℕ) (fault : FormatFault) → HasFault result (superblock_fault 3 bytes) → fault ≢ OutOfMemory → result ≡ Err fault
-    → None ≡ last_says pages (superblock_fault 3 bytes) bytes
-last_faulty result pages bytes fault has ne is = sym (ap (λ (o : Option FormatFault). last_says pages o bytes) ((has fault ne).0 is))
+  pub last_faulty : (pages : ℕ) (it : Result (Option Dimensions) DiskFault) → HasFault result (superblock_fault 3 bytes) → IfOk it (λ found. (found ≡ None) × (fault ≢ OutOfMemory)) → IfOk it (λ found. found ≡ first_says pages bytes)
+  last_faulty pages (Ok found) has none = none.0 ∙ sym (ap (λ (o : Option FormatFault). last_says pages o bytes) ((has fault none.1).0 is))
+  last_faulty pages (Err refused) has none = tt

@@ -15,7 +15,7 @@ use Rattle.cs_frame.specs.Pointers.{superblock_range_test}
 use Rattle.cs_frame.specs.Superblocks.{section_test, superblock_end, superblock_fault, superblock_pointer_test}
 use Rattle.cs_frame.proofs.FirstFormatLaws as zeros
 use Rattle.cs_frame.proofs.SuperblockLaws as superblocks
-use Rattle.cs_mount.specs.StorePairs.{dimensions_on, first_says, is_section, last_says, named, named_by, or_else, pages_of, section_version, without_fault, zero_said}
+use Rattle.cs_mount.specs.StorePairs.{dimensions_on, first_says, geometry_of_first, is_section, last_says, named_by, pages_of, section_version, without_fault, zero_or_last}
 
 -- a page that has a version is this section
 record IsThis (d : Dimensions) (j : ℕ) (bytes : List ℕ) : Type 0 where
@@ -31,10 +31,10 @@ this_one d j bytes some = by_test (is_section d j bytes) (superblock_fault d.for
     by_test false fault test is some = absurd (omega (arith, some))
 
 -- and says these dimensions
-named_these : (d : Dimensions) (e p s i : ℕ) → d.format ≡ 3 → e ≡ d.extents → p ≡ d.pages → s ≡ d.sections → i ≡ 0 → named (pages_of d) 3 e p s i ≡ Some d
+named_these : (d : Dimensions) (e p s i : ℕ) → d.format ≡ 3 → e ≡ d.extents → p ≡ d.pages → s ≡ d.sections → i ≡ 0 → geometry_of_first (pages_of d) 3 e p s i ≡ Some d
 named_these d e p s i three extents pages sections first =
-    ap (λ n. named (pages_of d) 3 n p s i) extents ∙ ap (λ n. named (pages_of d) 3 d.extents n s i) pages ∙ ap (λ n. named (pages_of d) 3 d.extents d.pages n i) sections
-    ∙ ap (λ n. named (pages_of d) 3 d.extents d.pages d.sections n) first
+    ap (λ n. geometry_of_first (pages_of d) 3 n p s i) extents ∙ ap (λ n. geometry_of_first (pages_of d) 3 d.extents n s i) pages ∙ ap (λ n. geometry_of_first (pages_of d) 3 d.extents d.pages n i) sections
+    ∙ ap (λ n. geometry_of_first (pages_of d) 3 d.extents d.pages d.sections n) first
     ∙ ap (λ (b : Bool). if b then Some (record { format = 3; extents = d.extents; pages = d.pages; sections = d.sections }) else None)
     (eq-eqb (device_pages 3 d.extents d.pages d.sections) (pages_of d) (ap (λ f. device_pages f d.extents d.pages d.sections) (sym three)))
     ∙ ap (λ f. Some (record { format = f; extents = d.extents; pages = d.pages; sections = d.sections })) (sym three)
@@ -60,7 +60,7 @@ found_by_zero d image three some =
     let none = zeros.zero_of_section 3 bytes (inr refl) whole in
     let fourth = superblocks.fourth_is 3 bytes whole in
     let other = last_says (pages_of d) (superblock_fault 3 (page image (pages_of d - 1))) (page image (pages_of d - 1)) in
-    ap (λ (o : Option FormatFault). or_else (zero_said (pages_of d) o bytes) other) none
+    ap (λ (o : Option FormatFault). zero_or_last (pages_of d) o bytes other) none
     ∙ ap (λ (b : Bool). if b then named_by (pages_of d) 3 bytes else None) (eq-eqb (slice_index bytes 3) 51 (omega (arith, fourth)))
     ∙ says_these d bytes three this
 
@@ -71,7 +71,7 @@ found_by_last d image three damaged some = by_fault (page_zero_fault (page image
     bytes : List ℕ
     bytes = page image (pages_of d - 1)
 
-    by_fault : (o : Option FormatFault) → page_zero_fault (page image 0) ≡ o → or_else (zero_said (pages_of d) o (page image 0)) (last_says (pages_of d) (superblock_fault 3 bytes) bytes) ≡ Some d
+    by_fault : (o : Option FormatFault) → page_zero_fault (page image 0) ≡ o → zero_or_last (pages_of d) o (page image 0) (last_says (pages_of d) (superblock_fault 3 bytes) bytes) ≡ Some d
     by_fault None is = absurd (damaged is)
     by_fault (Some fault) is =
         let this = this_one d 0 bytes some in
@@ -103,7 +103,7 @@ said_found n image d says =
     let whole = said_whole n bytes d says in
     let none = zeros.zero_of_section 3 bytes (inr refl) whole in
     let other = last_says n (superblock_fault 3 (page image (n - 1))) (page image (n - 1)) in
-    ap (λ (o : Option FormatFault). or_else (zero_said n o bytes) other) none
+    ap (λ (o : Option FormatFault). zero_or_last n o bytes other) none
     ∙ ap (λ (b : Bool). if b then named_by n 3 bytes else None) (eq-eqb (slice_index bytes 3) 51 (said_third n bytes d says))
     ∙ sym (ap (λ (o : Option FormatFault). last_says n o bytes) whole) ∙ says
 
@@ -136,7 +136,7 @@ some_version bytes whole =
     by_tests false b test is = cc
 
 -- what says these dimensions has their numbers
-its_numbers : (n e p s i : ℕ) (d : Dimensions) → named n 3 e p s i ≡ Some d → (e ≡ d.extents) × (p ≡ d.pages) × (s ≡ d.sections) × (i ≡ 0)
+its_numbers : (n e p s i : ℕ) (d : Dimensions) → geometry_of_first n 3 e p s i ≡ Some d → (e ≡ d.extents) × (p ≡ d.pages) × (s ≡ d.sections) × (i ≡ 0)
 its_numbers n e p s i d is = by_test (i == 0) (device_pages 3 e p s == n) refl is
   where
     by_test : (a b : Bool) → (i == 0) ≡ a → (if true && a && b then Some (record { format = 3; extents = e; pages = p; sections = s }) else None) ≡ Some d → (e ≡ d.extents) × (p ≡ d.pages) × (s ≡ d.sections) × (i ≡ 0)
@@ -170,7 +170,7 @@ pub zero_says : (n : ℕ) (image : Image) (d : Dimensions) → page_zero_fault (
 zero_says n image d whole found =
     let bytes = page image 0 in
     let said : (if slice_index bytes 3 == 51 then named_by n 3 bytes else None) ≡ Some d =
-    sym (ap (λ (o : Option FormatFault). or_else (zero_said n o bytes) (last_says n (superblock_fault 3 (page image (n - 1))) (page image (n - 1)))) whole) ∙ found in
+    sym (ap (λ (o : Option FormatFault). zero_or_last n o bytes (last_says n (superblock_fault 3 (page image (n - 1))) (page image (n - 1)))) whole) ∙ found in
     by_test (slice_index bytes 3 == 51) refl said
   where
     by_test : (b : Bool) → (slice_index (page image 0) 3 == 51) ≡ b → (if b then named_by n 3 (page image 0) else None) ≡ Some d → first_says n (page image 0) ≡ Some d
@@ -184,10 +184,10 @@ zero_says n image d whole found =
 -- where it isn't whole, what the last page says is found
 pub last_found : (n : ℕ) (image : Image) (fault : FormatFault) → page_zero_fault (page image 0) ≡ Some fault → dimensions_on n image ≡ first_says n (page image (n - 1))
 last_found n image fault damaged =
-    ap (λ (o : Option FormatFault). or_else (zero_said n o (page image 0)) (last_says n (superblock_fault 3 (page image (n - 1))) (page image (n - 1)))) damaged
+    ap (λ (o : Option FormatFault). zero_or_last n o (page image 0) (last_says n (superblock_fault 3 (page image (n - 1))) (page image (n - 1)))) damaged
 
 -- a store that is found is of format 3, and has the device's pages
-named_third : (n f e p s i : ℕ) (d : Dimensions) → named n f e p s i ≡ Some d → (d.format ≡ 3) × (pages_of d ≡ n)
+named_third : (n f e p s i : ℕ) (d : Dimensions) → geometry_of_first n f e p s i ≡ Some d → (d.format ≡ 3) × (pages_of d ≡ n)
 named_third n f e p s i d is = by_test (f == 3 && i == 0) (device_pages 3 e p s == n) refl is
   where
     by_test : (a b : Bool) → (device_pages 3 e p s == n) ≡ b → (if a && b then Some (record { format = 3; extents = e; pages = p; sections = s }) else None) ≡ Some d → (d.format ≡ 3) × (pages_of d ≡ n)

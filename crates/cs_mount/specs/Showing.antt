@@ -1,14 +1,19 @@
 -- What the device of a store shows, and what is found of it, by the pairs of the store that is on it.
-use Rattle.std.specs.Prelude.{ℕ, List, map}
+use Rattle.std.specs.Prelude.{ℕ, List, Some, map}
 use Rattle.cs_disk.specs.Disk.{Image}
+use Rattle.cs_frame.specs.Geometries.{Dimensions}
 use Rattle.cs_twin.specs.declared.findings.Finding.{Finding}
 use Rattle.cs_twin.specs.Findings.{finding_in}
 use Rattle.cs_twin.specs.Pairs.{Shows, shown}
-use Rattle.cs_mount.specs.StorePairs.{dimensions_on, pairs_where, store_version}
+use Rattle.cs_mount.specs.StorePairs.{dimensions_on, pairs_where, store_pairs, store_version}
 
 -- an image as it shows: itself where no store of format 3 is on it
 abbrev pub shown_on : (pages : ℕ) → Image → Image
 shown_on pages image = shown (store_version (dimensions_on pages image)) (pairs_where (dimensions_on pages image)) image
+
+-- an image as a store of these dimensions shows
+abbrev pub shown_of : Dimensions → Image → Image
+shown_of d image = shown (store_version (Some d)) (store_pairs d) image
 
 -- what its pairs hold
 abbrev pub findings_on : (pages : ℕ) → Image → List Finding

@@ -1,5 +1,5 @@
 -- The pairs of a store: which pages they are, and when one of them is whole.
-use Rattle.std.specs.Prelude.{◌==◌, ◌&&◌, ◌+◌, ◌-◌, ◌*◌, ℕ, Bool, List, [], Option, Some, None, if◌then◌else◌, map, nat_lt, replicate, slice_index}
+use Rattle.std.specs.Prelude.{◌≢◌, ◌==◌, ◌&&◌, ◌+◌, ◌-◌, ◌*◌, ℕ, Bool, List, [], Option, Some, None, if◌then◌else◌, map, nat_lt, replicate, slice_index}
 use Rattle.std.specs.List.{range_with_len}
 use Rattle.cs_disk.specs.Disk.{Image, State, page}
 use Rattle.cs_frame.specs.Bytes.{number}
@@ -8,6 +8,8 @@ use Rattle.cs_frame.specs.FirstFormat.{page_zero_fault}
 use Rattle.cs_frame.specs.Geometries.{Dimensions, device_pages, section_size}
 use Rattle.cs_frame.specs.Roots.{root_fault}
 use Rattle.cs_frame.specs.Superblocks.{superblock_fault}
+use Rattle.cs_frame.specs.declared.superblocks.Superblock.{Superblock}
+use Rattle.cs_reader.specs.Openings.{SpellsFirst}
 use Rattle.law_machine.specs.Device.{Shape}
 use Rattle.law_machine.specs.Geometry.{shape_of}
 use Rattle.cs_twin.specs.declared.pairs.Pair.{Pair}
@@ -59,20 +61,20 @@ abbrev pub store_version : Option Dimensions → (page : ℕ) → List ℕ → �
 store_version None p bytes = 0
 store_version (Some d) p bytes = if p == 1 then root_version d.format bytes else section_version d (section_at d p) bytes
 
--- the dimensions of a store of format 3 whose section of these numbers is the first, where the device has its pages
-abbrev pub named : (pages format extents extent_pages sections section : ℕ) → Option Dimensions
-named pages format extents extent_pages sections section =
+-- the dimensions of the store of format 3 whose section of these numbers is the first, where the device has its pages
+abbrev pub geometry_of_first : (pages format extents extent_pages sections section : ℕ) → Option Dimensions
+geometry_of_first pages format extents extent_pages sections section =
     if format == 3 && section == 0 && device_pages 3 extents extent_pages sections == pages
     then Some (record { format = 3; extents = extents; pages = extent_pages; sections = sections }) else None
 
 -- those that a section's page says, in this format
 abbrev pub named_by : (pages format : ℕ) → List ℕ → Option Dimensions
-named_by pages format bytes = named pages format (number 12 14 bytes) (number 14 16 bytes) (slice_index bytes 16) (slice_index bytes 17)
+named_by pages format bytes = geometry_of_first pages format (number 12 14 bytes) (number 14 16 bytes) (slice_index bytes 16) (slice_index bytes 17)
 
--- what page 0 says: nothing where it isn't whole in any format
-abbrev pub zero_said : (pages : ℕ) → Option FormatFault → List ℕ → Option (Option Dimensions)
-zero_said pages None bytes = Some (if slice_index bytes 3 == 51 then named_by pages 3 bytes else None)
-zero_said pages (Some fault) bytes = None
+-- page 0 spells this section of a superblock, of whatever format; or no section, and isn't whole
+abbrev pub IsOnPageZero : List ℕ → Option Superblock → Type 0
+IsOnPageZero bytes None = page_zero_fault bytes ≢ None
+IsOnPageZero bytes (Some it) = SpellsFirst bytes it
 
 -- what the last page says, where it is whole in format 3
 abbrev pub last_says : (pages : ℕ) → Option FormatFault → List ℕ → Option Dimensions
@@ -83,16 +85,16 @@ last_says pages (Some fault) bytes = None
 abbrev pub first_says : (pages : ℕ) → List ℕ → Option Dimensions
 first_says pages bytes = last_says pages (superblock_fault 3 bytes) bytes
 
--- the first, or else the second
-abbrev pub or_else : Option (Option Dimensions) → Option Dimensions → Option Dimensions
-or_else (Some said) other = said
-or_else None other = other
+-- what page 0 says, where it has no fault, and else what the last page says
+abbrev pub zero_or_last : (pages : ℕ) → (fault : Option FormatFault) → (zero : List ℕ) → (last : Option Dimensions) → Option Dimensions
+zero_or_last pages None zero last = if slice_index zero 3 == 51 then named_by pages 3 zero else None
+zero_or_last pages (Some fault) zero last = last
 
 -- The dimensions of the store on a device whose pages lie in pairs: those that page 0 says, where it is whole in whatever format, and else
 -- those that the last page says; none where there is no store of format 3.
 abbrev pub dimensions_on : (pages : ℕ) → Image → Option Dimensions
 dimensions_on pages image =
-    or_else (zero_said pages (page_zero_fault (page image 0)) (page image 0)) (last_says pages (superblock_fault 3 (page image (pages - 1))) (page image (pages - 1)))
+    zero_or_last pages (page_zero_fault (page image 0)) (page image 0) (first_says pages (page image (pages - 1)))
 
 -- the pairs of a store where there is one
 abbrev pub pairs_where : Option Dimensions → List Pair

@@ -1,10 +1,11 @@
-// A disk that shows a store as of an older root.
-ghost use Rattle.std.specs.Prelude.{◌≡◌, ◌≢◌, ◌+◌, ◌-◌, ◌^◌, IsOkUnless, OnOk, min};
+//! A disk that shows a store as of an older root.
+ghost use Rattle.std.specs.Prelude.{◌≡◌, ◌+◌, ◌-◌, ◌^◌, IsOkUnless, OnOk, min};
 ghost use Rattle.cs_disk.specs.Disk.{IsWhole};
 ghost use Rattle.cs_mount.specs.Lowered.{LowersKept, is_of_section, left_lowered, lowered_at, lowered_page, lowered_state};
 
+use crate::store_pairs::unless_memory;
 use cs_disk::{CrashDisk, DiskFault, PageDisk};
-use cs_frame::{Format, FormatFault, Geometry, Superblock, decode_section, encode_superblock};
+use cs_frame::{Format, Geometry, Superblock, decode_section, encode_superblock};
 use std::alloc::Global;
 
 /// A disk over which a store of format 3 opens, though a newer root was persistent than is whole: it shows each section of the superblock as if that root hadn't been
@@ -75,24 +76,6 @@ fn lowered(superblock: Superblock, root: u64) -> Superblock
     superblock
 }
 
-/// Bytes with this fault spell no section; refused where memory ran out.
-fn unless_memory(fault: FormatFault) -> Result<(), DiskFault>
-    ensures other { OnOk result (fault ≢ FormatFault.OutOfMemory) }
-    ensures memory { IsOkUnless result DiskFault.OutOfMemory }
-{
-    match fault {
-        FormatFault::OutOfMemory => Err(DiskFault::OutOfMemory),
-        FormatFault::BadGeometry
-        | FormatFault::BadMagic
-        | FormatFault::BadDigest
-        | FormatFault::BadLength
-        | FormatFault::BadPadding
-        | FormatFault::BadVersion
-        | FormatFault::OutOfOrder
-        | FormatFault::Misplaced => Ok(()),
-    }
-}
-
 /// Spells a section anew where it records a later root than this one, as if this one had been persistent. Bytes that spell no section stay. Refused 9 OutOfMemory
 /// alone.
 fn lower(alloc: Global, root: u64, bytes: &mut [u8; 4096]) -> Result<(), DiskFault>
@@ -104,7 +87,7 @@ fn lower(alloc: Global, root: u64, bytes: &mut [u8; 4096]) -> Result<(), DiskFau
             *bytes = encode_superblock(&lowered(superblock, root));
             Ok(())
         }
-        Err(fault) => unless_memory(fault),
+        Err(fault) => unless_memory(fault, ()),
     }
 }
 

@@ -1,4 +1,4 @@
-// What a disk holds of the pages that a store has twice.
+//! What a disk holds of the pages that a store has twice.
 ghost use Rattle.std.specs.Prelude.{◌≡◌, ◌⊎◌, ◌↔◌, ◌<◌, Err, IfErr, IfOk, IsTrue};
 ghost use Rattle.std.specs.List.{list_any};
 ghost use Rattle.cs_core.specs.cs_chunk.Reads.{IsCaused};

@@ -1,4 +1,4 @@
-// Stores that are opened as of an older root.
+//! Stores that are opened as of an older root.
 ghost use Rattle.std.specs.Prelude.{◌≡◌, ◌≢◌, ◌⊎◌, ◌↔◌, ◌+◌, ◌<◌, ◌≤◌, [], Err, IfErr, IfOk, MatchResult, None, OnOk, Some};
 ghost use Rattle.cs_core.specs.cs_chunk.Reads.{IsCaused, IsNoAnswer};
 ghost use Rattle.cs_reader.specs.Openings.{IsOpeningRefusal, IsWhyNotOpened};
@@ -12,8 +12,7 @@ ghost use Rattle.cs_mount.specs.Showing.{findings_on};
 ghost use Rattle.cs_mount.specs.StorePairs.{dimensions_on, pages_of};
 
 use crate::as_of::AsOf;
-use crate::mount_options::MountOptions;
-use crate::mounts::Mounted;
+use crate::mount_options::{MountOptions, Mounted};
 use crate::store_pairs::{find_geometry, open_pairs};
 use cs_core::Core;
 use cs_disk::{PageDisk, refusal_of_disk};

@@ -1,15 +1,14 @@
-// The pairs of a store.
-ghost use Rattle.std.specs.Prelude.{◌≡◌, ◌≢◌, ◌==◌, ◌&&◌, ◌⊎◌, ◌↔◌, ◌+◌, ◌-◌, ◌<◌, ◌≤◌, ℕ, [], IfErr, IfOk, IfSome, IsTrue, MatchResult, None};
+//! The pairs of a store.
+ghost use Rattle.std.specs.Prelude.{◌&&◌, ◌+◌, ◌-◌, ◌<◌, ◌==◌, ◌↔◌, ◌≡◌, ◌≢◌, ◌≤◌, ◌⊎◌, IfErr, IfOk, IfSome, IsTrue, MatchResult, None, [], ℕ};
 ghost use Rattle.cs_disk.specs.Disk.{HasCause, Image, LeavesOnly, MayLeave, Rises, flushed, page, seen};
 ghost use Rattle.cs_disk.specs.Reads.{OnlyReads};
 ghost use Rattle.cs_frame.specs.FirstFormat.{page_zero_fault};
 ghost use Rattle.cs_frame.specs.Geometries.{IsGeometry, IsKnown};
-ghost use Rattle.cs_frame.specs.Superblocks.{superblock_fault};
 ghost use Rattle.cs_mount.specs.OfStores.{IsOfStore, is_allowed};
-ghost use Rattle.cs_twin.specs.Pairs.{ArePairs};
-ghost use Rattle.cs_twin.specs.Paired.{IsSound, disk_below, left_as_shown, pairs_of, refusals_of, rules_of, state_shown};
 ghost use Rattle.cs_mount.specs.Showing.{ShowsOn, findings_on, shown_on};
-ghost use Rattle.cs_mount.specs.StorePairs.{dimensions_on, first_says, last_says, named, pages_of, pairs_where, root_version, section_at, section_version, store_pair, store_pairs, store_version, zero_said};
+ghost use Rattle.cs_mount.specs.StorePairs.{IsOnPageZero, dimensions_on, first_says, geometry_of_first, pages_of, pairs_where, root_version, section_at, section_version, store_pair, store_pairs, store_version};
+ghost use Rattle.cs_twin.specs.Paired.{IsSound, disk_below, left_as_shown, pairs_of, refusals_of, rules_of, state_shown};
+ghost use Rattle.cs_twin.specs.Pairs.{ArePairs};
 
 use cs_disk::{DiskFault, PageDisk};
 use cs_frame::{
@@ -26,9 +25,9 @@ pub struct StoreRules {
     pub geometry: Option<Geometry>,
 }
 
-/// No version, where a page has this fault; refused where memory ran out.
-fn none_spelled(fault: FormatFault) -> Result<u64, DiskFault>
-    ensures none { IfOk result (λ found. (found ≡ 0) × (fault ≢ FormatFault.OutOfMemory)) }
+/// What stands for a page with this fault, as it spells nothing; refused if memory ran out.
+pub fn unless_memory<T: Drop>(fault: FormatFault, none: T) -> Result<T, DiskFault>
+    ensures none { IfOk result (λ it. (it ≡ none) × (fault ≢ FormatFault.OutOfMemory)) }
     ensures memory { IfErr result (λ refused. refused ≡ DiskFault.OutOfMemory) }
 {
     match fault {
@@ -40,7 +39,7 @@ fn none_spelled(fault: FormatFault) -> Result<u64, DiskFault>
         | FormatFault::BadPadding
         | FormatFault::BadVersion
         | FormatFault::OutOfOrder
-        | FormatFault::Misplaced => Ok(0),
+        | FormatFault::Misplaced => Ok(none),
     }
 }
 
@@ -52,7 +51,7 @@ fn root_version(alloc: Global, bytes: &[u8; 4096], format: Format) -> Result<u64
 {
     match decode_root(alloc, bytes, format) {
         Ok(root) => Ok(root.version),
-        Err(fault) => none_spelled(fault),
+        Err(fault) => unless_memory(fault, 0),
     }
 }
 
@@ -84,7 +83,7 @@ fn section_version(
                 Ok(0)
             }
         }
-        Err(fault) => none_spelled(fault),
+        Err(fault) => unless_memory(fault, 0),
     }
 }
 
@@ -168,10 +167,10 @@ pub fn pairs_of_store(alloc: Global, geometry: Geometry) -> Result<Vec<Pair>, Al
     Ok(pairs)
 }
 
-/// The geometry of a store of format 3 whose section this is, where it is the first, and the device has so many pages.
-fn named(pages: u64, superblock: &Superblock) -> Option<Geometry>
+/// The geometry of the store of format 3 whose first section this is, if the device has so many pages as that store.
+fn geometry_of_first(pages: u64, superblock: &Superblock) -> Option<Geometry>
     requires { IsGeometry superblock.now.format superblock.now.extent_count superblock.now.pages superblock.now.sections }
-    ensures named { result ≡ named pages superblock.now.format superblock.now.extent_count superblock.now.pages superblock.now.sections superblock.now.section }
+    ensures geometry { result ≡ geometry_of_first pages superblock.now.format superblock.now.extent_count superblock.now.pages superblock.now.sections superblock.now.section }
     ensures pages { IfSome result (λ d. pages_of d ≡ pages) }
 {
     if !superblock.format.has_twins() || superblock.section != 0 {
@@ -192,37 +191,46 @@ fn named(pages: u64, superblock: &Superblock) -> Option<Geometry>
     }
 }
 
-/// What page 0 says of the geometry: nothing where it isn't whole.
-fn zero_said(
-    alloc: Global,
-    pages: u64,
-    bytes: &[u8; 4096],
-) -> Result<Option<Option<Geometry>>, DiskFault>
-    ensures said { IfOk result (λ said. said ≡ zero_said pages (page_zero_fault bytes.now) bytes.now) }
-    ensures pages { IfOk result (λ said. IfSome said (λ named. IfSome named (λ d. pages_of d ≡ pages))) }
+/// The section of a superblock that these bytes of page 0 spell, of whatever format; none if they aren't whole.
+fn first_on(alloc: Global, bytes: &[u8; 4096]) -> Result<Option<Superblock>, DiskFault>
+    ensures first { IfOk result (IsOnPageZero bytes.now) }
+    ensures geometry { IfOk result (λ first. IfSome first (λ it. IsGeometry it.format it.extent_count it.pages it.sections)) }
     ensures memory { IfErr result (λ fault. fault ≡ DiskFault.OutOfMemory) }
 {
     match decode_superblock(alloc, bytes) {
-        Ok(superblock) => Ok(Some(named(pages, &superblock))),
-        Err(fault) => match none_spelled(fault) {
-            Ok(_) => Ok(None),
-            Err(refused) => Err(refused),
-        },
+        Ok(superblock) => Ok(Some(superblock)),
+        Err(fault) => unless_memory(fault, None),
     }
 }
 
-/// What the last page says of the geometry.
-fn last_says(alloc: Global, pages: u64, bytes: &[u8; 4096]) -> Result<Option<Geometry>, DiskFault>
-    ensures said { IfOk result (λ said. said ≡ last_says pages (superblock_fault 3 bytes.now) bytes.now) }
-    ensures pages { IfOk result (λ said. IfSome said (λ d. pages_of d ≡ pages)) }
+/// The geometry that these bytes of the last page spell; none if they aren't whole in format 3.
+fn geometry_on_last(
+    alloc: Global,
+    pages: u64,
+    bytes: &[u8; 4096],
+) -> Result<Option<Geometry>, DiskFault>
+    ensures geometry { IfOk result (λ found. found ≡ first_says pages bytes.now) }
+    ensures pages { IfOk result (λ found. IfSome found (λ d. pages_of d ≡ pages)) }
     ensures memory { IfErr result (λ fault. fault ≡ DiskFault.OutOfMemory) }
 {
     match decode_section(alloc, bytes, Format::three()) {
-        Ok(superblock) => Ok(named(pages, &superblock)),
-        Err(fault) => match none_spelled(fault) {
-            Ok(_) => Ok(None),
-            Err(refused) => Err(refused),
-        },
+        Ok(superblock) => Ok(geometry_of_first(pages, &superblock)),
+        Err(fault) => unless_memory(fault, None),
+    }
+}
+
+/// Reads page 0 for the section of a superblock.
+fn read_first<D: PageDisk>(alloc: Global, disk: &mut D) -> Result<Option<Superblock>, DiskFault>
+    requires { 0 < D.page_count disk.old }
+    ensures first { D.honest disk.old → IfOk result (IsOnPageZero (page (seen (D.state disk.old)) 0)) }
+    ensures geometry { IfOk result (λ first. IfSome first (λ it. IsGeometry it.format it.extent_count it.pages it.sections)) }
+    ensures disk { OnlyReads D.PageDisk disk.old disk.new }
+    ensures cause { HasCause (D.failure_count disk.old) (D.failure_count disk.new) result }
+{
+    let mut buffer = [0; 4096];
+    match disk.read(0, &mut buffer) {
+        Ok(()) => first_on(alloc, &buffer),
+        Err(fault) => Err(fault),
     }
 }
 
@@ -234,33 +242,14 @@ fn read_last<D: PageDisk>(
 ) -> Result<Option<Geometry>, DiskFault>
     requires pages { pages ≡ D.page_count disk.old }
     requires some { 0 < pages }
-    ensures said { D.honest disk.old → IfOk result (λ said. said ≡ last_says pages (superblock_fault 3 (page (seen (D.state disk.old)) (pages - 1))) (page (seen (D.state disk.old)) (pages - 1))) }
-    ensures pages { IfOk result (λ said. IfSome said (λ d. pages_of d ≡ pages)) }
+    ensures geometry { D.honest disk.old → IfOk result (λ found. found ≡ first_says pages (page (seen (D.state disk.old)) (pages - 1))) }
+    ensures pages { IfOk result (λ found. IfSome found (λ d. pages_of d ≡ pages)) }
     ensures disk { OnlyReads D.PageDisk disk.old disk.new }
     ensures cause { HasCause (D.failure_count disk.old) (D.failure_count disk.new) result }
 {
     let mut buffer = [0; 4096];
     match disk.read(pages - 1, &mut buffer) {
-        Ok(()) => last_says(alloc, pages, &buffer),
-        Err(fault) => Err(fault),
-    }
-}
-
-/// Reads page 0 for the geometry.
-fn read_zero<D: PageDisk>(
-    alloc: Global,
-    disk: &mut D,
-    pages: u64,
-) -> Result<Option<Option<Geometry>>, DiskFault>
-    requires { 0 < D.page_count disk.old }
-    ensures said { D.honest disk.old → IfOk result (λ said. said ≡ zero_said pages (page_zero_fault (page (seen (D.state disk.old)) 0)) (page (seen (D.state disk.old)) 0)) }
-    ensures pages { IfOk result (λ said. IfSome said (λ named. IfSome named (λ d. pages_of d ≡ pages))) }
-    ensures disk { OnlyReads D.PageDisk disk.old disk.new }
-    ensures cause { HasCause (D.failure_count disk.old) (D.failure_count disk.new) result }
-{
-    let mut buffer = [0; 4096];
-    match disk.read(0, &mut buffer) {
-        Ok(()) => zero_said(alloc, pages, &buffer),
+        Ok(()) => geometry_on_last(alloc, pages, &buffer),
         Err(fault) => Err(fault),
     }
 }
@@ -272,9 +261,8 @@ pub fn holds_superblock<D: PageDisk>(alloc: Global, disk: &mut D) -> Result<bool
     ensures disk { OnlyReads D.PageDisk disk.old disk.new }
     ensures cause { HasCause (D.failure_count disk.old) (D.failure_count disk.new) result }
 {
-    let pages = disk.pages();
-    match read_zero(alloc, disk, pages) {
-        Ok(said) => Ok(said.is_some()),
+    match read_first(alloc, disk) {
+        Ok(first) => Ok(first.is_some()),
         Err(fault) => Err(fault),
     }
 }
@@ -303,8 +291,8 @@ pub fn find_geometry<D: PageDisk>(
     ensures cause { HasCause (D.failure_count disk.old) (D.failure_count disk.new) result }
 {
     let pages = disk.pages();
-    match read_zero(alloc, disk, pages) {
-        Ok(Some(said)) => Ok(said),
+    match read_first(alloc, disk) {
+        Ok(Some(first)) => Ok(geometry_of_first(pages, &first)),
         Ok(None) => read_last(alloc, disk, pages),
         Err(fault) => Err(fault),
     }

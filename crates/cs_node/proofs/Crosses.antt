@@ -13,12 +13,12 @@ use Rattle.atomic_table.specs.contracts.shared.Seat as seat
 use Rattle.atomic_table.specs.contracts.shared.Shared as shared
 use Rattle.atomic_table.proofs.Sent.{seat_keyless, shares_keyless}
 use Rattle.cs_disk.specs.declared.disk.PageDisk.{Ghosts as Disks}
-use Rattle.cs_core.specs.contracts.contents.Bytes as bytes
-use Rattle.cs_core.specs.contracts.contents.Elements as elements
+use Rattle.cs_core.specs.contracts.events.Bytes as bytes
+use Rattle.cs_core.specs.contracts.events.Elements as elements
 use Rattle.cs_core.specs.contracts.cores.Core as core
 use Rattle.cs_core.specs.contracts.events.Event as event
 use Rattle.cs_core.specs.contracts.events.Reply as reply
-use Rattle.cs_core.specs.contracts.parts.Store as store
+use Rattle.cs_core.specs.contracts.stores.Store as store
 use Rattle.cs_deps.specs.contracts.graphs.Graph as graph
 use Rattle.cs_extent.specs.contracts.extents.Extents as extents
 use Rattle.cs_core.specs.cs_index.contracts.indexes.Index as index

@@ -8,8 +8,8 @@ use Rattle.cs_node.specs.declared.nodes.Why.{Why}
 use Rattle.cs_node.specs.declared.nodes.Why.TheVariants.{NotYet as WhyNotYet, HistoryFull as WhyFull, OutOfMemory as WhyMemory}
 use Rattle.cs_node.specs.declared.nodes.Settled.{Settled}
 use Rattle.cs_node.specs.declared.nodes.Settled.TheVariants.{Done as SettleDone, Back as SettleBack}
-use Rattle.cs_node.specs.declared.polls.Polled.{Polled}
-use Rattle.cs_node.specs.declared.polls.Polled.TheVariants.{Done as PollDone, Back as PollBack}
+use Rattle.cs_node.specs.declared.purses.Polled.{Polled}
+use Rattle.cs_node.specs.declared.purses.Polled.TheVariants.{Done as PollDone, Back as PollBack}
 use Rattle.cs_node.specs.Told.{Adds, Holdings, found_last}
 
 -- the reply to a delete: the ticket's number, or that there was nothing

@@ -1,4 +1,4 @@
-//! The board: one word that tells how many commands are persistent.
+//! The board: one word that says how many commands are persistent.
 ghost use Rattle.std.specs.Prelude.{◌≡◌, ◌≤◌, [], IfOk};
 ghost use Rattle.cs_node.specs.Behind.{IsFrontierOfSome};
 ghost use Rattle.cs_node.specs.Mirror.{knows};
@@ -20,7 +20,7 @@ pub trait Naming {
     ghost start: { Start };
 }
 
-// No board has this name, which has no word: where a call says `Brand`, its proof picks the board and the start.
+// No board has this name, which has no word. If a call says `Brand`, its proof picks the board and the start.
 impl Naming for Brand {
     ghost use Rattle.cs_node.specs.Mirror.{no_table};
     ghost use Rattle.cs_node.specs.Starts.{no_start};
@@ -30,7 +30,7 @@ impl Naming for Brand {
     ghost start = { no_start };
 }
 
-/// What a seat at the board knows. It stands in contracts alone, and none is ever made.
+/// What a seat at the board knows. It stands only in contracts, and none is ever made.
 pub struct Sight {
     number: u64,
 }
@@ -44,8 +44,8 @@ impl Model for Sight {
     ghost view = { λ s. record { number = s.number; start = None } };
 }
 
-/// The rule of the board: the keeper's view is the word, and no view exceeds it. Once the board is a node's, each view is the frontier of
-/// some core of the node's start.
+/// The rule of the board: the keeper's view is the word, and no view exceeds it. Once the board is a node's, each view
+/// is the frontier of some core of the node's start.
 pub struct Mirror<D: PageDisk> {
     of: PhantomData<D>,
 }
@@ -58,7 +58,8 @@ impl<D: PageDisk> TableRule<(), Sight, ()> for Mirror<D> {
     ghost first = { λ _. nothing };
 }
 
-/// The keeper raises the word, or a reader loads it: the view is the word then, and counts commands of a core of the start that K names.
+/// The keeper raises the word, or a reader loads it: the view is the word then, and counts commands of a core of the
+/// start that K names.
 pub struct Sees<D: PageDisk, K: Naming> {
     disk: PhantomData<D>,
     of: PhantomData<K>,
@@ -93,7 +94,7 @@ pub struct NamedBoard<D: PageDisk, K: Naming> {
 }
 
 impl<D: PageDisk, K: Naming> NamedBoard<D, K> {
-    /// Raises the word to the frontier of a core, where the keeper's view was no more.
+    /// Raises the word to the frontier of a core, which isn't below the keeper's view.
     pub(crate) fn raise(&self, keeper: &mut Reader, core: &Core<D>)
         requires seat { (keeper.old.table_id ≡ K.table) × (keeper.old.id ≡ 0) × (keeper.old.me ≡ (knows K.start keeper.old.me.0.number, [])) }
         requires start { start_of core.now ≡ K.start }
@@ -146,7 +147,7 @@ impl<D: PageDisk> Model for Board<D> {
 }
 
 impl<D: PageDisk> Board<D> {
-    /// A board that tells of no command.
+    /// A board on which no command is persistent.
     pub fn new(alloc: Global) -> Result<Self, AllocError>
         ensures { IfOk result (λ board. board.words ≡ 1) }
     {
@@ -161,7 +162,8 @@ impl<D: PageDisk> Board<D> {
         requires accepted { core.now.store.accepted ≡ 0 }
         ensures { (result.1.table_id ≡ K.table) × (result.1.id ≡ 0) × (result.1.me ≡ (knows K.start core.now.store.frontier, [])) }
     {
-        // Called for its contract alone: what a core behind the lock keeps, and that no more is persistent than was accepted.
+        // Called for its contract alone: what a core behind the lock keeps, and that no more is persistent than was
+        // accepted.
         core.progress();
         let Board { words, keeper } = self;
         let mut keeper = keeper;

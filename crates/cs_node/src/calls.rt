@@ -19,8 +19,8 @@ use cs_frame::ShardId;
 use cs_refusal::Refusal;
 
 impl<D: PageDisk, K: Naming> Engine<D, K> {
-    /// Does one event for a purse, which has room for it then, and gives its place and its reply. Refused 9 OutOfMemory and
-    /// 41 HistoryFull; nothing is recorded then.
+    /// Does one event for a purse, which has room for the call then. Returns its place and its reply. After 9
+    /// `OutOfMemory` or 41 `HistoryFull` nothing is recorded.
     fn ask<G: Gate>(
         &mut self,
         board: &NamedBoard<D, K>,

@@ -1,4 +1,4 @@
-//! What may be done between events, and in the midst of one.
+//! What may be done between events, and during one.
 ghost use Rattle.std.specs.Prelude.{◌≡◌, false};
 ghost use Rattle.cs_node.specs.Dues.{step_of};
 
@@ -23,16 +23,16 @@ pub enum Step {
     Settle,
 }
 
-/// What goes on beside the events of a worker or of a put. It may wait for nobody.
+/// What is done besides the events of a worker or of a put. It may wait for nobody.
 pub trait Gate {
-    // what is known of a gate that ends a worker: nothing, where an impl says nothing else
+    // what is known of a gate that ends a worker: nothing, unless an impl says it
     ghost ended: { Self → Type 0 } = { λ _. Unit {0} };
 
-    /// Ahead of each turn of a worker, without the lock. With false the worker ends.
+    /// Called before each turn of a worker, without the lock. If it returns false the worker ends.
     fn before(&self) -> bool
         ensures { result ≡ false → ended self.now };
 
-    /// Is told of each event that was recorded, while the lock is held.
+    /// Called after each event that was recorded, while the lock is held.
     fn within(&self, step: Step);
 }
 

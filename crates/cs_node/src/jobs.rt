@@ -1,4 +1,4 @@
-//! What threads do beside one another on one node.
+//! What threads do side by side on one node.
 ghost use Rattle.std.specs.Prelude.{◌≡◌, ◌<◌, ◌≤◌, ℕ, [], All, IfErr, IfOk, length, map, slice_index_or, vec_capacity, vec_len};
 ghost use Rattle.cs_node.specs.Jobs.{AllGive, Does, HasGiven};
 
@@ -12,14 +12,14 @@ use std::thread::{Threads, for_each_mut, join};
 pub trait Job<N>: Send + Drop {
     type Out: Send + Drop;
 
-    // what is known of what it gives: nothing, where an impl says nothing else
+    // what is known of what it returns: nothing, unless an impl says it
     ghost gives: { Self → Self.Out → Type 0 } = { λ _ _. Unit {0} };
 
     fn run<R: Wait>(self, rt: &R, node: &N) -> Self::Out
         ensures { gives self result };
 }
 
-/// Two jobs beside one another.
+/// Two jobs side by side.
 fn two<N: Sync, A: Job<N>, B: Job<N>, R: Threads + Wait + Sync>(
     rt: &R,
     node: &N,
@@ -31,48 +31,48 @@ fn two<N: Sync, A: Job<N>, B: Job<N>, R: Threads + Wait + Sync>(
     join(rt, move || a.run(rt, node), move || b.run(rt, node))
 }
 
-/// A job, and then what it gave.
+/// A job, and afterwards what it returned.
 #[derive(Drop)]
-enum Place<J, X> {
+enum Slot<J, X> {
     Job(J),
     Nothing,
     Gave(X),
 }
 
-impl<J, X> Place<J, X> {
+impl<J, X> Slot<J, X> {
     /// Does the job that is there.
     fn run<N, R: Wait>(&mut self, rt: &R, node: &N)
     where
         J: Job<N, Out = X>,
         ensures { Does J.gives self.old self.new }
     {
-        if let Place::Job(job) = std::mem::replace(self, Place::Nothing) {
-            *self = Place::Gave(job.run(rt, node));
+        if let Slot::Job(job) = std::mem::replace(self, Slot::Nothing) {
+            *self = Slot::Gave(job.run(rt, node));
         }
     }
 }
 
-/// The jobs, each at a place of its own, in their order.
-fn waiting<J: Drop, X: Drop>(jobs: Vec<J>, mut places: Vec<Place<J, X>>) -> Vec<Place<J, X>>
-    requires none { places.items ≡ [] }
-    requires room { vec_len jobs ≤ vec_capacity places }
-    ensures { result.items ≡ map Place.Job jobs.items }
+/// The jobs, each at a slot of its own, in their order.
+fn waiting<J: Drop, X: Drop>(jobs: Vec<J>, mut slots: Vec<Slot<J, X>>) -> Vec<Slot<J, X>>
+    requires none { slots.items ≡ [] }
+    requires room { vec_len jobs ≤ vec_capacity slots }
+    ensures { result.items ≡ map Slot.Job jobs.items }
 {
     for job in jobs {
-        places.push_reserved(Place::Job(job));
+        slots.push_reserved(Slot::Job(job));
     }
-    places
+    slots
 }
 
-/// What the jobs gave, in their order.
-fn given<J: Drop, X: Drop>(places: Vec<Place<J, X>>, mut outs: Vec<X>) -> Vec<X>
+/// What the jobs returned, in their order.
+fn given<J: Drop, X: Drop>(slots: Vec<Slot<J, X>>, mut outs: Vec<X>) -> Vec<X>
     requires none { outs.items ≡ [] }
-    requires room { vec_len places ≤ vec_capacity outs }
-    requires gave { All HasGiven places.items }
-    ensures { places.items ≡ map Place.Gave result.items }
+    requires room { vec_len slots ≤ vec_capacity outs }
+    requires gave { All HasGiven slots.items }
+    ensures { slots.items ≡ map Slot.Gave result.items }
 {
-    for place in places {
-        let Place::Gave(out) = place else {
+    for slot in slots {
+        let Slot::Gave(out) = slot else {
             unreachable!()
         };
         outs.push_reserved(out);
@@ -80,19 +80,20 @@ fn given<J: Drop, X: Drop>(places: Vec<Place<J, X>>, mut outs: Vec<X>) -> Vec<X>
     outs
 }
 
-/// Does the job at each place, each in a thread of its own.
+/// Does the job at each slot, each in a thread of its own.
 fn do_each<N: Sync, J: Job<N>, R: Threads + Wait + Sync>(
     rt: &R,
     node: &N,
-    places: &mut [Place<J, J::Out>],
+    slots: &mut [Slot<J, J::Out>],
 )
-    ensures { (k : ℕ) (d : _) → k < length places.old → Does J.gives (slice_index_or places.old k d) (slice_index_or places.new k d) }
+    ensures { (k : ℕ) (d : _) → k < length slots.old → Does J.gives (slice_index_or slots.old k d) (slice_index_or slots.new k d) }
 {
-    let count = places.len();
-    for_each_mut(rt, places, count.max(1), &|_, place| place.run(rt, node));
+    let count = slots.len();
+    for_each_mut(rt, slots, count.max(1), &|_, slot| slot.run(rt, node));
 }
 
-/// Jobs beside one another, and what each gave, in their order. They come back, with none done, where a growth was refused.
+/// Jobs side by side, and what each returned, in their order. If memory is refused the jobs come back, and none was
+/// done.
 fn all<N: Sync, J: Job<N>, R: Threads + Wait + Sync>(
     rt: &R,
     node: &N,
@@ -104,20 +105,21 @@ fn all<N: Sync, J: Job<N>, R: Threads + Wait + Sync>(
 {
     let count = jobs.len();
     let alloc = *jobs.allocator();
-    let Ok(places) = Vec::with_capacity(alloc, count) else {
+    let Ok(slots) = Vec::with_capacity(alloc, count) else {
         return Err(jobs);
     };
     let Ok(outs) = Vec::with_capacity(alloc, count) else {
         return Err(jobs);
     };
-    let mut places = waiting(jobs, places);
-    do_each(rt, node, &mut places);
-    Ok(given(places, outs))
+    let mut slots = waiting(jobs, slots);
+    do_each(rt, node, &mut slots);
+    Ok(given(slots, outs))
 }
 
 impl<D: PageDisk + Send, K: Naming + Send + Sync> Node<D, K> {
-    /// Does two jobs on the node, each in a thread of its own, and answers once both have ended. Where no thread can be made they are done
-    /// one after the other, the second first, so a second job that waits for the first one may wait for ever then.
+    /// Does two jobs on the node, each in a thread of its own. It returns once both have ended. If no thread can be
+    /// made they are done one after the other, the second first. So a second job that waits for the first one may then
+    /// wait for ever.
     pub fn beside<A: Job<Node<D, K>>, B: Job<Node<D, K>>, R: Threads + Wait + Sync>(
         &self,
         rt: &R,
@@ -129,9 +131,9 @@ impl<D: PageDisk + Send, K: Naming + Send + Sync> Node<D, K> {
         two(rt, self, a, b)
     }
 
-    /// Does the jobs on the node, each in a thread of its own, and answers what each gave, in their order, once all have ended. Where
-    /// a growth is refused they come back, and none was done. Where a thread can't be made the jobs behind it are done first, one after
-    /// another, so a job that waits for one ahead of it may wait for ever then.
+    /// Does the jobs on the node, each in a thread of its own. Once all have ended it returns what each returned, in
+    /// their order. If memory is refused the jobs come back, and none was done. If a thread can't be made the jobs
+    /// after it are done first, one after another. So a job that waits for an earlier one may then wait for ever.
     pub fn abreast<J: Job<Node<D, K>>, R: Threads + Wait + Sync>(
         &self,
         rt: &R,

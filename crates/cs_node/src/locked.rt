@@ -1,8 +1,9 @@
 //! What lies under the lock, and the lock.
 //!
-//! Under one lock at most one event is done, or one checkpoint taken. `Engine::apply`, the one function that has the core do an event, requires that
-//! none was done since the lock was taken, and afterwards one was. Outside this file that none was is known of what `Lock::take` gives, and of nothing else: the
-//! mutex, the core and the mark are private to it. So a function that does a second event without taking the lock again isn't proved.
+//! Under one lock at most one event is done, or one checkpoint taken. `Engine::apply` is the one function that has the
+//! core do an event. It requires that none was done since the lock was taken, and says that one was done afterwards.
+//! Outside this file that is known only of what `Lock::take` returns: the mutex, the core and the mark are private. So
+//! a function that does a second event without taking the lock again isn't proved.
 ghost use Rattle.std.specs.Prelude.{◌≡◌, ◌≢◌, ◌⊎◌, ◌+◌, ◌-◌, ◌^◌, ◌<◌, ◌≤◌, [], IfErr, IfOk, MatchOption, MatchResult, OnErr, OnOk, false, length, true};
 ghost use Rattle.std.specs.Sync.Mutex.{mutex_guard_value};
 ghost use Rattle.cs_core.specs.Checkpoints.{IsNotReplaced, Replaces};
@@ -15,9 +16,9 @@ ghost use Rattle.cs_node.specs.Mirror.{knows};
 ghost use Rattle.cs_node.specs.Starts.{start_of};
 ghost use Rattle.cs_node.specs.Told.{empty};
 
-use crate::alike::is_full;
 use crate::boards::{NamedBoard, Naming, Reader};
 use crate::gates::{Gate, step_of};
+use crate::judges::is_full;
 use crate::pilots::Pilot;
 use crate::purses::Purse;
 use cs_core::{Core, Event, OutOfMemory, Reply};
@@ -30,8 +31,8 @@ use std::marker::{Model, PhantomData};
 use std::snapshot::Snapshot;
 use std::sync::{Mutex, MutexGuard, Wait};
 
-/// A core, and the keeper's seat at the board that K names. Contracts see the core, and whether no event was done since the lock was
-/// taken.
+/// A core, and the keeper's seat at the board that K names. Contracts see the core, and whether no event was done since
+/// the lock was taken.
 #[derive(Drop)]
 pub struct Engine<D: PageDisk, K: Naming> {
     core: Core<D>,
@@ -54,7 +55,8 @@ impl<D: PageDisk, K: Naming> Model for Engine<D, K> {
     ghost invariant = { λ s. (start_of s.core ≡ K.start) × (s.keeper.table_id ≡ K.table) × (s.keeper.id ≡ 0) × (s.keeper.me ≡ (knows K.start s.core.store.frontier, [])) };
 }
 
-/// What does events, what the node gave, purses and the pilot, and the numbers of the acks that came back.
+/// The engine that does events, how many purses and whether the pilot the node gave out, and the numbers of the acks
+/// that came back.
 #[derive(Drop)]
 pub struct Locked<D: PageDisk, K: Naming> {
     pub engine: Engine<D, K>,
@@ -95,7 +97,7 @@ impl<D: PageDisk, K: Naming> Lock<D, K> {
         guard
     }
 
-    /// What lies under it, for which no other thread may have the lock.
+    /// What lies under it. No other thread may have the lock.
     pub fn into_inner(self) -> Locked<D, K> {
         let Lock { mutex } = self;
         mutex.into_inner()
@@ -127,7 +129,7 @@ impl<D: PageDisk, K: Naming> Engine<D, K> {
         self.core();
     }
 
-    /// Does the one event of this lock. Where it makes more commands persistent, the board tells.
+    /// Does the one event of this lock. If it makes more commands persistent, the board is raised.
     fn apply(&mut self, board: &NamedBoard<D, K>, event: &Event) -> Result<Reply, OutOfMemory>
         requires fresh { self.old.fresh ≡ true }
         ensures step { IfOk result (λ reply. Applies D.PageDisk self.old.core event.now reply self.new.core) }
@@ -144,8 +146,8 @@ impl<D: PageDisk, K: Naming> Engine<D, K> {
         Ok(reply)
     }
 
-    /// Does one event, of which the gate is told, and gives its reply, a refusal too. Refused 9 OutOfMemory and
-    /// 41 HistoryFull; nothing is recorded then.
+    /// Does one event, and calls the gate. Returns its reply, which may be a refusal. After 9 `OutOfMemory` or 41
+    /// `HistoryFull` nothing is recorded.
     pub fn record<G: Gate>(
         &mut self,
         board: &NamedBoard<D, K>,
@@ -179,8 +181,8 @@ impl<D: PageDisk, K: Naming> Engine<D, K> {
         self.core.base() + self.core.history().len() as u64
     }
 
-    /// Replaces the events that are kept by the state that they led to, and gives how many they were. Refused 40 Halted, 44 Unsettled and 35
-    /// WornOut, as `Core::checkpoint` is.
+    /// Replaces the events that are kept by the state that they led to, as `Core::checkpoint`. Returns how many they
+    /// were.
     pub fn checkpoint(&mut self) -> Result<u64, Refusal>
         requires fresh { self.old.fresh ≡ true }
         ensures done { MatchResult result (λ n. Replaces self.old.core n self.new.core) (λ r. IsNotReplaced self.old.core r × (self.new.core ≡ self.old.core)) }
@@ -202,7 +204,7 @@ impl<D: PageDisk, K: Naming> Engine<D, K> {
 }
 
 impl<D: PageDisk, K: Naming> Locked<D, K> {
-    /// A core and the keeper's seat, where nothing was given yet.
+    /// A core and the keeper's seat. Nothing was given out yet.
     pub fn new(alloc: Global, core: Core<D>, keeper: Reader) -> Self
         requires start { start_of core ≡ K.start }
         requires keeper { (keeper.table_id ≡ K.table) × (keeper.id ≡ 0) × (keeper.me ≡ (knows K.start core.store.frontier, [])) }
@@ -216,7 +218,7 @@ impl<D: PageDisk, K: Naming> Locked<D, K> {
         }
     }
 
-    /// Takes the acks of a purse. Refused where a growth is; all are as they were then.
+    /// Takes the acks of a purse. If memory is refused nothing changes.
     pub fn take_in(&mut self, purse: &mut Purse<K>) -> Result<(), AllocError>
         ensures numbers { OnOk result (GainsAll self.old.handed purse.old.acks self.new.handed) }
         ensures purse { OnOk result (purse.new ≡ record purse.old { acks = [] }) }
@@ -234,7 +236,7 @@ impl<D: PageDisk, K: Naming> Locked<D, K> {
         &self.handed
     }
 
-    /// A purse with a seat of its own. Refused 35 WornOut past the greatest number of purses.
+    /// A purse with a seat of its own. 35 `WornOut` after 2^63 - 1 purses.
     pub fn give(&mut self, board: &NamedBoard<D, K>, alloc: Global) -> Result<Purse<K>, Refusal>
         ensures ok { IfOk result (λ purse. (purse ≡ empty self.old.engine.core.store.frontier) × (self.new ≡ record self.old { given = self.old.given + 1 })) }
         ensures err { IfErr result (λ r. (r ≡ Refusal.WornOut) × (2 ^ 63 ≤ self.old.given + 1) × (self.new ≡ self.old)) }
@@ -247,7 +249,7 @@ impl<D: PageDisk, K: Naming> Locked<D, K> {
         Ok(Purse::new(alloc, reader))
     }
 
-    /// The pilot with a seat of its own, None once it was given.
+    /// The pilot with a seat of its own, or None if it was given out before.
     pub fn hire(&mut self, board: &NamedBoard<D, K>) -> Option<Pilot<K>>
         ensures { MatchOption result ((self.old.piloted ≡ true) × (self.new ≡ self.old)) (λ pilot. (self.old.piloted ≡ false) × (pilot ≡ self.old.engine.core.store.frontier) × (self.new ≡ record self.old { piloted = true })) }
     {

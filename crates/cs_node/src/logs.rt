@@ -14,14 +14,15 @@ pub struct Call {
     pub reply: Reply,
 }
 
-/// The calls of one thread that weren't forgotten, the first one first. Contracts see them, up to which command they and the forgotten ones told
-/// that all are persistent, the place behind that of the last call, and for how many more there is room.
+/// The calls of one thread that weren't forgotten, the first one first. Contracts see these calls, up to which command
+/// they and the forgotten ones said that all are persistent, the place after that of the last call, and for how many
+/// more there is room.
 #[derive(Drop)]
 pub struct Log {
     calls: Vec<Call>,
-    // the place behind that of the last call, a forgotten one too
+    // the place after that of the last call, also of a forgotten one
     next: u64,
-    // the greatest number that a call told of, a forgotten one too
+    // the greatest number that a call told of, also a forgotten one
     floor: u64,
 }
 
@@ -60,14 +61,14 @@ impl Log {
         self.calls.as_slice()
     }
 
-    /// The greatest number that a call told of, a forgotten one too.
+    /// The greatest number that a call told of, also a forgotten one.
     pub fn floor(&self) -> u64
         ensures { result ≡ self.now.floor }
     {
         self.floor
     }
 
-    /// Whether the place is above those of all calls, of forgotten ones too.
+    /// Whether the place is above those of all calls, also of forgotten ones.
     pub fn is_above(&self, place: u64) -> bool
         ensures exact { IsTrue result ↔ (self.now.next ≤ place) }
         ensures above { IsTrue result → Below place self.now.calls }
@@ -112,7 +113,7 @@ impl Log {
         self.calls.retain(|call| base <= call.place);
     }
 
-    /// The bytes that the last call found, None where it found none.
+    /// The bytes that the last call found, or None.
     pub fn found(&self) -> Option<&Bytes>
         ensures { MatchOption result (found_last self.now.calls ≡ None) (λ bytes. found_last self.now.calls ≡ Some bytes.now) }
     {
@@ -126,7 +127,7 @@ impl Log {
     }
 }
 
-/// Up to which command a call told that all are persistent.
+/// Up to which command a call said that all are persistent.
 fn told(event: &Event, reply: &Reply) -> u64
     ensures { result ≡ told_by event.now reply.now }
 {

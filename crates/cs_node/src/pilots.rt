@@ -15,8 +15,8 @@ use std::marker::{Model, PhantomData};
 use std::sync::Wait;
 use std::thread;
 
-/// Who does a node's writeback; there is one. Contracts see the view of its seat at the board: the number that it last saw there, at first what
-/// the keeper's seat knew.
+/// Does a node's writeback. There is one. Contracts see the view of its seat at the board: the number that it last saw
+/// there, at first what the keeper's seat knew.
 #[derive(Drop)]
 pub struct Pilot<K: Naming> {
     reader: Reader,
@@ -54,10 +54,11 @@ impl<K: Naming> Pilot<K> {
         board.look(&mut self.reader)
     }
 
-    /// Does the event of writeback that is due, under one lock: a round that is out goes on and ends, a new one begins where something
-    /// waits, what the index has changed is staged, or a root alone where a sweep that was given up left copies, or nothing is left to do.
+    /// Does the event of writeback that is due, under one lock. A round that is out goes on and ends; else a new one
+    /// begins if something waits; else what the index has changed is staged, or a root alone if a sweep that was given
+    /// up left copies; else there is nothing to do.
     ///
-    /// Refused as the event is, and 9 OutOfMemory.
+    /// The refusals are those of the event, and 9 `OutOfMemory`.
     pub fn turn<D: PageDisk, G: Gate, R: Wait>(
         &mut self,
         rt: &R,
@@ -70,7 +71,7 @@ impl<K: Naming> Pilot<K> {
         node.lock.take(rt).engine.turn(&node.board, gate)
     }
 
-    /// Takes turns until the gate ends it or a turn is refused. It yields where there is nothing to do.
+    /// Takes turns until the gate ends it or a turn is refused. It yields if there is nothing to do.
     pub fn run<D: PageDisk, G: Gate, R: Wait>(
         &mut self,
         rt: &R,
@@ -94,12 +95,14 @@ impl<K: Naming> Pilot<K> {
 }
 
 impl<D: PageDisk, K: Naming> Node<D, K> {
-    /// Replaces the events that are kept by the state that they led to, and gives how many they were: their bytes are let go of, and puts, gets,
-    /// deletes, settles and sweeps that were refused 41 HistoryFull are taken again. `look` tells the base then, below which purses may forget their
-    /// calls. It takes no memory, and time for each event, under the lock.
+    /// Replaces the events that are kept by the state that they led to, and drops their bytes. Returns how many they
+    /// were. Puts, gets, deletes, settles and sweeps that were refused 41 `HistoryFull` are taken again. `look` says
+    /// the base then, below which purses may forget their calls. It takes no memory, and time for each event, under the
+    /// lock.
     ///
-    /// Refused 40 Halted; then 44 Unsettled where something waits, a round is out, the index has changes that aren't staged, or an extent is being
-    /// swept, which turns of the pilot up to an idle one and the end of the sweeps mend; then 35 WornOut past 2^63 - 1 events.
+    /// 40 `Halted`. Then 44 `Unsettled` if something waits, a round is out, the index has changes that aren't staged,
+    /// or an extent is being swept: turns of the pilot up to an idle one and the end of the sweeps mend that. Then 35
+    /// `WornOut` after 2^63 - 1 events.
     pub fn checkpoint<R: Wait>(&self, rt: &R, pilot: &mut Pilot<K>) -> Result<u64, Refusal>
         ensures replaced { WhileLocked D.PageDisk K.start (λ old new. MatchResult result (λ n. Replaces old n new) (λ r. IsNotReplaced old r × (new ≡ old))) }
         ensures seen { pilot.new ≡ pilot.old }
@@ -108,18 +111,19 @@ impl<D: PageDisk, K: Naming> Node<D, K> {
         self.lock.take(rt).engine.checkpoint()
     }
 
-    /// The pilot, whose seat sees the frontier of that moment; None once it was given.
+    /// The pilot, whose seat sees the frontier of that moment, or None if it was given out before.
     pub fn pilot<R: Wait>(&self, rt: &R) -> Option<Pilot<K>>
         ensures { IfSome result (λ pilot. WhileLocked D.PageDisk K.start (λ old new. (pilot ≡ old.store.frontier) × (new ≡ old))) }
     {
         self.lock.take(rt).hire(&self.board)
     }
 
-    /// Stages what there is to stage, and writes back until all commands that were accepted by then are persistent: what is left of the round
-    /// that is out, and then round by round, each event under a lock of its own. Answers how many are persistent by the board, as the
-    /// pilot's seat saw it. Where all were persistent already a root that it staged waits for the pilot's next turns.
+    /// Stages what there is to stage, and writes back until all commands that were accepted by then are persistent:
+    /// first what is left of the round that is out, and then round by round, each event under a lock of its own.
+    /// Returns how many are persistent by the board, as the pilot's seat saw it. If all were persistent already, a root
+    /// that it staged waits for the pilot's next turns.
     ///
-    /// Refused as one of its events is, and 9 OutOfMemory. The events before that stand.
+    /// The refusals are those of its events, and 9 `OutOfMemory`. The events before a refusal stand.
     pub fn sync<R: Wait>(&self, rt: &R, pilot: &mut Pilot<K>) -> Result<u64, Refusal>
         ensures ok { IfOk result (λ frontier. (frontier ≡ pilot.new) × Syncs D.PageDisk K.start frontier) }
         ensures later { pilot.old ≤ pilot.new }

@@ -1,22 +1,28 @@
-//! What one thread was told.
-ghost use Rattle.std.specs.Prelude.{◌≡◌, ◌≤◌, ◌↔◌, [], IfErr, IfOk, IsTrue, OnOk, map};
+//! What one thread was told, and what it asks without the lock.
+ghost use Rattle.std.specs.Prelude.{◌≡◌, ◌≤◌, ◌↔◌, [], IfErr, IfOk, IsTrue, OnOk, map, max};
 ghost use Rattle.cs_core.specs.declared.events.Event.{Event};
 ghost use Rattle.cs_core.specs.declared.events.Reply.{Reply};
 ghost use Rattle.cs_node.specs.Mirror.{knows};
 ghost use Rattle.cs_numbers.specs.Numbers.{Gains, Within};
 ghost use Rattle.cs_node.specs.Told.{Adds, Holdings, Rising, empty, floor_of, from_place, told_by};
+ghost use Rattle.cs_node.specs.Answers.{Tells};
+ghost use Rattle.cs_node.specs.Behind.{IsFrontierOfSome};
 
 use crate::boards::{Naming, Reader};
 use crate::logs::{Call, Log, places_of};
+use crate::nodes::Node;
 use crate::tickets::{Ack, Ticket};
+use cs_disk::PageDisk;
 use cs_numbers::{Numbers, Stretch};
 use std::alloc::{AllocError, Global};
 use std::marker::{Model, PhantomData};
 
-/// The calls of a thread, with its tickets and acks. Contracts see these, but for the calls that it forgot, and up to which command it was told that
-/// all are persistent; and the view of its seat at the board: the number that it last saw there, at first what the keeper's seat knew.
+/// The calls of a thread, with its tickets and acks. Contracts see these, but for the calls that it forgot, and up to
+/// which command it was told that all are persistent. They also see the view of its seat at the board: the number that
+/// it last saw there, at first what the keeper's seat knew.
 ///
-/// Tickets and acks take the room of one where their numbers follow one another. Calls take the room of their bytes until they are forgotten.
+/// Tickets and acks take the room of one if their numbers follow one another. Calls take the room of their bytes until
+/// they are forgotten.
 #[derive(Drop)]
 pub struct Purse<K: Naming> {
     pub(crate) log: Log,
@@ -68,15 +74,16 @@ impl<K: Naming> Purse<K> {
         self.log.calls()
     }
 
-    /// Up to which command it was told that all are persistent: the greatest number that a call told of, a forgotten one too.
+    /// Up to which command it was told that all are persistent: the greatest number that a call told of, also a
+    /// forgotten one.
     pub fn floor(&self) -> u64
         ensures { result ≡ self.now.floor }
     {
         self.log.floor()
     }
 
-    /// Forgets its calls at places below this one: with the base that `Node::look` tells, those of events that checkpoints replaced. With a greater
-    /// number it forgets calls that `Rest::close` asks for, which is refused then.
+    /// Forgets its calls at places below this one: with the base of `Node::look`, those of events that checkpoints
+    /// replaced. With a greater number it forgets calls that `Rest::close` asks for, which is refused then.
     pub fn forget(&mut self, base: u64)
         ensures { self.new ≡ record self.old { calls = from_place base self.old.calls } }
     {
@@ -104,7 +111,7 @@ impl<K: Naming> Purse<K> {
         self.acks.is_within(most)
     }
 
-    /// Puts a ticket in, or hands it back where there is no memory.
+    /// Puts a ticket in, or returns it if there is no memory.
     pub fn keep_ticket(&mut self, ticket: Ticket<K>) -> Result<(), Ticket<K>>
         ensures ok { OnOk result (Gains ticket self.old.tickets self.new.tickets) }
         ensures others { OnOk result (self.new ≡ record self.old { tickets = self.new.tickets }) }
@@ -116,7 +123,7 @@ impl<K: Naming> Purse<K> {
         }
     }
 
-    /// Puts an ack in, or hands it back where there is no memory.
+    /// Puts an ack in, or returns it if there is no memory.
     pub fn keep_ack(&mut self, ack: Ack<K>) -> Result<(), Ack<K>>
         ensures ok { OnOk result (Gains ack self.old.acks self.new.acks) }
         ensures others { OnOk result (self.new ≡ record self.old { acks = self.new.acks }) }
@@ -133,3 +140,29 @@ impl<K: Naming> Purse<K> {
 pub fn the_floor_rises()
     ensures { (old new : Holdings) (e : Event) (r : Reply) → Adds old e r new → (old.floor ≤ new.floor) × (told_by e r ≤ new.floor) }
 {}
+
+/// What a poll answers: an ack, or the ticket with the number of the last command that is known to be persistent.
+#[derive(Drop)]
+pub enum Polled<K: Naming> {
+    Done(Ack<K>),
+    Back(Ticket<K>, u64),
+}
+
+impl<K: Naming> Purse<K> {
+    /// Whether a command is known to be persistent, by the board or by what the purse's calls told. It takes no lock
+    /// and no memory, waits for nobody, and loads one word.
+    pub fn poll<D: PageDisk>(&mut self, node: &Node<D, K>, ticket: Ticket<K>) -> Polled<K>
+        ensures told { Tells (max self.new.seen self.old.floor) ticket result }
+        ensures later { self.old.seen ≤ self.new.seen }
+        ensures frontier { IsFrontierOfSome D.PageDisk K.start self.new.seen }
+        ensures same { self.new ≡ record self.old { seen = self.new.seen } }
+    {
+        let word = node.board.look(&mut self.reader);
+        let known = word.max(self.log.floor());
+        if ticket.number() <= known {
+            Polled::Done(ticket.into_ack())
+        } else {
+            Polled::Back(ticket, known)
+        }
+    }
+}

@@ -27,8 +27,8 @@ pub enum Next {
     Abandon(usize),
 }
 
-/// Sweeps extents of one node, one after another. Contracts see how many sweeps it may still begin, the extent that it began last, and what
-/// comes next.
+/// Sweeps extents of one node, one after another. Contracts see how many sweeps it may still begin, the extent that it
+/// began last, and what comes next.
 #[derive(Drop)]
 pub struct Reclaimer<K: Naming> {
     sweeps: u32,
@@ -58,7 +58,8 @@ impl<K: Naming> Reclaimer<K> {
         }
     }
 
-    /// One that sweeps this extent, once. Where its sweep can't begin, as where it is refused 33 NotSweepable, it is over.
+    /// One that sweeps this extent, once. If its sweep can't begin, as when it is refused 33 `NotSweepable`, it is
+    /// over.
     pub fn of(extent: usize) -> Self
         ensures { result ≡ only_of extent }
     {
@@ -70,13 +71,14 @@ impl<K: Naming> Reclaimer<K> {
         }
     }
 
-    /// Does one event of a sweep under one lock. A sweep begins with the lowest extent above the one that was begun last that may be
-    /// swept, else with the lowest that may, else there is nothing to do. It goes by numbers alone and doesn't look at garbage, so it sweeps extents
-    /// without any too, in every format. Its chunks are moved until none is live, and it is retired.
-    /// After a move or a retirement that was refused the next turn abandons it.
+    /// Does one event of a sweep under one lock. A sweep begins with the lowest extent that may be swept above the one
+    /// that was begun last, else with the lowest that may be swept; if there is none there is nothing to do. It goes by
+    /// numbers alone and doesn't look at garbage, so it also sweeps extents without any, in every format. The chunks of
+    /// the extent are moved until none is live, and it is retired. After a move or a retirement that was refused, the
+    /// next turn abandons the sweep.
     ///
-    /// Refused as the event is, 9 OutOfMemory, and 41 HistoryFull where it is a sweep's begin or a move. A sweep that isn't gone on with leaves its
-    /// extent marked, which `Node::abandon` undoes.
+    /// The refusals are those of the event, 9 `OutOfMemory`, and 41 `HistoryFull` of a sweep's begin or of a move. A
+    /// sweep that isn't gone on with leaves its extent marked, which `Node::abandon` undoes.
     pub fn turn<D: PageDisk, G: Gate, R: Wait>(
         &mut self,
         rt: &R,
@@ -88,8 +90,8 @@ impl<K: Naming> Reclaimer<K> {
         node.lock.take(rt).engine.sweep(&node.board, self, gate)
     }
 
-    /// Takes turns until the gate ends it, its sweeps are used up, or a turn is refused 40 Halted or 41 HistoryFull. It yields where
-    /// there is nothing to do.
+    /// Takes turns until the gate ends it, its sweeps are used up, or a turn is refused 40 `Halted` or 41
+    /// `HistoryFull`. It yields if there is nothing to do.
     pub fn run<D: PageDisk, G: Gate, R: Wait>(
         &mut self,
         rt: &R,
@@ -124,7 +126,7 @@ impl<K: Naming> Reclaimer<K> {
         self.sweeps == 0 && matches!(self.next, Next::Begin)
     }
 
-    /// The event that comes next, None where none may be done.
+    /// The event that comes next, or None if none may be done.
     fn next_event<D: PageDisk>(&self, core: &Core<D>) -> Option<Event>
         ensures { MatchOption result (IsIdle core.now.store self.now) (λ event. IsNextEvent core.now.store self.now event) }
     {
@@ -178,7 +180,7 @@ impl<K: Naming> Reclaimer<K> {
 }
 
 impl<D: PageDisk, K: Naming> Engine<D, K> {
-    /// Does the next event of a sweep. Refused as the event is, 9 OutOfMemory and 41 HistoryFull.
+    /// Does the next event of a sweep. The refusals are those of the event, 9 `OutOfMemory` and 41 `HistoryFull`.
     fn sweep<G: Gate>(
         &mut self,
         board: &NamedBoard<D, K>,
@@ -211,8 +213,9 @@ fn is_recorded(refusal: Refusal) -> bool
     !matches!(refusal, Refusal::OutOfMemory | Refusal::HistoryFull)
 }
 
-/// The lowest extent above the last one that may be swept, else the lowest that may. It goes by numbers alone, and looks at no
-/// garbage: an extent full of live chunks is swept, too, also the one that is being filled (but in the older formats).
+/// The lowest extent above the last one that may be swept, else the lowest that may. It goes by numbers alone and looks
+/// at no garbage: an extent full of live chunks is swept too, also the one that is being filled (but in the older
+/// formats).
 fn next_extent<D: PageDisk>(core: &Core<D>, last: Option<usize>) -> Option<usize>
     ensures { MatchOption result (NoneFrom core.now.store 0) (λ e. IsNextAfter core.now.store last e) }
 {

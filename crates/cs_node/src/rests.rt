@@ -21,7 +21,8 @@ use cs_numbers::Stretch;
 use std::alloc::Global;
 use std::marker::Model;
 
-/// A node whose lock is open. Contracts see its core, how many purses it gave, and the numbers of the acks that were handed in.
+/// A node whose lock is open. Contracts see its core, how many purses it gave, and the numbers of the acks that were
+/// handed in.
 #[derive(Drop)]
 pub struct Rest<D: PageDisk, K: Naming> {
     locked: Locked<D, K>,
@@ -39,14 +40,14 @@ impl<D: PageDisk, K: Naming> Model for Rest<D, K> {
 /// Why a node wasn't closed.
 #[derive(Clone, Copy, Debug)]
 pub enum Unclosed {
-    /// 50: so many numbers of accepted commands have no ticket and no ack in the purses, nor an ack that was handed in; 0 where another test failed
-    /// alone.
+    /// 50: so many numbers of accepted commands have no ticket and no ack in the purses, nor an ack that was handed in.
+    /// 0 if only another test failed.
     Missing(u64),
-    /// 9: a growth was refused.
+    /// 9: memory was refused.
     OutOfMemory,
 }
 
-/// A node that wasn't closed, with what came.
+/// A node that wasn't closed, with the purses.
 #[derive(Drop)]
 pub struct NotClosed<D: PageDisk, K: Naming> {
     pub why: Unclosed,
@@ -54,8 +55,8 @@ pub struct NotClosed<D: PageDisk, K: Naming> {
     pub purses: Vec<Purse<K>>,
 }
 
-/// What a node did: its disk, how many commands were accepted and how many of them are persistent and so acknowledged, how many events
-/// checkpoints replaced, and those since then with their replies, the first one first.
+/// What a node did: its disk, how many commands were accepted, how many of them are persistent and so acknowledged, how
+/// many events checkpoints replaced, and the later events with their replies, the first one first.
 #[derive(Drop)]
 pub struct Closed<D> {
     pub disk: D,
@@ -66,7 +67,7 @@ pub struct Closed<D> {
 }
 
 impl<D: PageDisk, K: Naming> Node<D, K> {
-    /// Opens the lock, for which no other thread may have the node.
+    /// Opens the lock. No other thread may have the node.
     pub fn rest(self) -> Rest<D, K>
         ensures { IsBehind D.PageDisk K.start result.core }
     {
@@ -118,12 +119,16 @@ impl<D: PageDisk, K: Naming> Rest<D, K> {
         }
     }
 
-    /// Closes the node where these purses account for its history: they are all that it gave, their calls are those of the history as far as it
-    /// is kept, each once, and their tickets and acks, with the acks that were handed in, are the numbers of all accepted commands, each once,
-    /// with no ack for one that isn't persistent. The tickets for persistent commands become acks then, so that these are the persistent
-    /// commands, each once. Calls of events that checkpoints replaced aren't looked at.
+    /// Closes the node if these purses account for its history:
+    /// - they are all that the node gave out;
+    /// - their calls are those of the history as far as it is kept, each once;
+    /// - their tickets and acks, with the acks that were handed in, are the numbers of all accepted commands, each
+    ///   once;
+    /// - no ack is for a command that isn't persistent.
     ///
-    /// Refused 50 Missing and 9 OutOfMemory; what came is handed back.
+    /// The tickets for persistent commands become acks then, so that these are the persistent commands, each once.
+    /// Calls of events that checkpoints replaced aren't looked at. 50 `Missing` and 9 `OutOfMemory` return the node and
+    /// the purses.
     pub fn close(self, alloc: Global, purses: Vec<Purse<K>>) -> Result<Closed<D>, NotClosed<D, K>>
         ensures closed { IfOk result (λ c. IsClosed self purses.items c) }
         ensures acknowledged { IfOk result (λ c. (x : ℕ) → acknowledged_by c.acknowledged x self.handed purses.items ≡ once_to c.acknowledged x) }

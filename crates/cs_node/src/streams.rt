@@ -18,9 +18,9 @@ use std::marker::Model;
 use std::sync::Wait;
 use std::thread;
 
-/// The pilot's seat under steady load. Whenever no round is out it stages what there is to stage before the next round begins. So rounds of
-/// several syncs overlap: under one flush go the data of what came last, the superblock of what came before, and the root of what came
-/// before that. Contracts see what they see of the pilot.
+/// The pilot's seat under steady load. Whenever no round is out it stages what there is to stage before the next round
+/// begins. So rounds of several syncs overlap: one flush makes the data of the last puts durable, the superblock of
+/// those before, and the root of those before these. Contracts see what they see of the pilot.
 #[derive(Drop)]
 pub struct Stream<K: Naming> {
     pilot: Pilot<K>,
@@ -62,10 +62,11 @@ impl<K: Naming> Stream<K> {
         node.checkpoint(rt, &mut self.pilot)
     }
 
-    /// Does the event of writeback that is due, under one lock: a round that is out goes on and ends, what the index has changed is
-    /// staged, or a root alone where a sweep that was given up left copies, a new round begins where something waits, or nothing is left to do.
+    /// Does the event of writeback that is due, under one lock. A round that is out goes on and ends; else what the
+    /// index has changed is staged, or a root alone if a sweep that was given up left copies; else a new round begins
+    /// if something waits; else there is nothing to do.
     ///
-    /// Refused as the event is, and 9 OutOfMemory.
+    /// The refusals are those of the event, and 9 `OutOfMemory`.
     pub fn turn<D: PageDisk, G: Gate, R: Wait>(
         &mut self,
         rt: &R,
@@ -78,7 +79,7 @@ impl<K: Naming> Stream<K> {
         node.lock.take(rt).engine.stream(&node.board, gate)
     }
 
-    /// Takes turns until the gate ends it or a turn is refused. It yields where there is nothing to do.
+    /// Takes turns until the gate ends it or a turn is refused. It yields if there is nothing to do.
     pub fn run<D: PageDisk, G: Gate, R: Wait>(
         &mut self,
         rt: &R,
@@ -101,7 +102,7 @@ impl<K: Naming> Stream<K> {
     }
 }
 
-/// Which event of writeback is due in a stream, None where nothing waits and there is nothing to stage.
+/// Which event of writeback is due in a stream, or None if nothing waits and there is nothing to stage.
 fn next_event<D: PageDisk>(core: &Core<D>) -> Option<Event>
     ensures { MatchOption result (IsAtRest core.now.store) (λ event. IsNext core.now.store event) }
 {
@@ -118,7 +119,7 @@ fn next_event<D: PageDisk>(core: &Core<D>) -> Option<Event>
 }
 
 impl<D: PageDisk, K: Naming> Engine<D, K> {
-    /// Does the event of writeback that is due in a stream. Refused as the event is, and 9 OutOfMemory.
+    /// Does the event of writeback that is due in a stream. The refusals are those of the event, and 9 `OutOfMemory`.
     pub fn stream<G: Gate>(&mut self, board: &NamedBoard<D, K>, gate: &G) -> Result<Step, Refusal>
         requires fresh { self.old.fresh ≡ true }
         ensures turn { IsStreamTurn D.PageDisk self.old.core result self.new.core }

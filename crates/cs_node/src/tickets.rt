@@ -1,8 +1,11 @@
-//! Receipts for accepted and for persistent commands.
-ghost use Rattle.std.specs.Prelude.{◌≡◌, ◌≤◌};
+//! Receipts for accepted and for persistent commands, and how tickets go from thread to thread.
+ghost use Rattle.std.specs.Prelude.{◌≡◌, ◌≤◌, IfErr};
 
 use crate::boards::Naming;
+use crossbeam_channel::{Receiver, SendError, Sender, bounded};
+use std::alloc::{AllocError, Global};
 use std::marker::{Model, PhantomData};
+use std::sync::Wait;
 
 /// For an accepted command. Contracts see its number. It can't be copied.
 #[derive(Drop)]
@@ -75,5 +78,52 @@ impl<K: Naming> Ack<K> {
         ensures positive { 1 ≤ result }
     {
         self.number
+    }
+}
+
+/// Takes tickets in.
+#[derive(Drop)]
+pub struct Ramp<K: Naming> {
+    sender: Sender<Ticket<K>>,
+}
+
+/// Hands tickets out.
+#[derive(Drop)]
+pub struct Dock<K: Naming> {
+    receiver: Receiver<Ticket<K>>,
+}
+
+/// A channel for tickets that holds so many of them. A ticket that is lost in it is missing when the node is closed.
+pub fn ferry<K: Naming>(alloc: Global, capacity: usize) -> Result<(Ramp<K>, Dock<K>), AllocError>
+    requires { (1 ≤ capacity) × (capacity ≤ 1024) }
+{
+    let (sender, receiver) = bounded(alloc, capacity)?;
+    Ok((Ramp { sender }, Dock { receiver }))
+}
+
+impl<K: Naming> Ramp<K> {
+    /// Another ramp to the same dock.
+    pub fn another(&self) -> Result<Ramp<K>, AllocError> {
+        let sender = self.sender.clone()?;
+        Ok(Ramp { sender })
+    }
+
+    /// Sends a ticket. It waits while the channel is full. The ticket comes back if the dock is gone or memory was
+    /// refused.
+    pub fn carry<R: Wait>(&self, rt: &R, ticket: Ticket<K>) -> Result<(), Ticket<K>>
+        ensures { IfErr result (λ t. t ≡ ticket) }
+    {
+        match self.sender.send(rt, ticket) {
+            Ok(()) => Ok(()),
+            Err(SendError::Disconnected(back)) => Err(back),
+            Err(SendError::OutOfMemory(back)) => Err(back),
+        }
+    }
+}
+
+impl<K: Naming> Dock<K> {
+    /// The next ticket, for which it waits, or None once no ramp is left and none is in the channel.
+    pub fn next<R: Wait>(&self, rt: &R) -> Option<Ticket<K>> {
+        self.receiver.recv(rt).ok()
     }
 }

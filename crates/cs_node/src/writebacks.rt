@@ -12,7 +12,7 @@ use cs_core::{Core, Event, Reply};
 use cs_disk::PageDisk;
 use cs_refusal::Refusal;
 
-/// What is left of the round that is out, None where none is.
+/// The event that is next of the round that is out, or None if none is out.
 pub fn round_event<D: PageDisk>(core: &Core<D>) -> Option<Event>
     ensures { MatchOption result (core.now.store.out ≡ None) (λ event. IsOfRound core.now.store event) }
 {
@@ -24,7 +24,7 @@ pub fn round_event<D: PageDisk>(core: &Core<D>) -> Option<Event>
     }
 }
 
-/// Which event of writeback is due, None where nothing waits and there is nothing to stage.
+/// Which event of writeback is due, or None if nothing waits and there is nothing to stage.
 pub fn due<D: PageDisk>(core: &Core<D>) -> Option<Event>
     ensures { MatchOption result (IsAtRest core.now.store) (λ event. IsDue core.now.store event) }
 {
@@ -41,8 +41,8 @@ pub fn due<D: PageDisk>(core: &Core<D>) -> Option<Event>
 }
 
 impl<D: PageDisk, K: Naming> Engine<D, K> {
-    /// Does one event of the node's own, of which the gate is told, and gives its reply. Refused as the event is, which is
-    /// recorded, and 9 OutOfMemory and 41 HistoryFull, which aren't.
+    /// Does one event of the node's own, and calls the gate. Returns its reply. The event's own refusals are recorded;
+    /// 9 `OutOfMemory` and 41 `HistoryFull` aren't.
     pub fn work<G: Gate>(
         &mut self,
         board: &NamedBoard<D, K>,
@@ -61,7 +61,7 @@ impl<D: PageDisk, K: Naming> Engine<D, K> {
         }
     }
 
-    /// Gives up the sweep of an extent. Refused 33 NotSweepable, 40 Halted and 9 OutOfMemory.
+    /// Gives up the sweep of an extent. 33 `NotSweepable`; 40 `Halted`; 9 `OutOfMemory`.
     pub fn abandon(&mut self, board: &NamedBoard<D, K>, extent: usize) -> Result<(), Refusal>
         requires fresh { self.old.fresh ≡ true }
         ensures { MatchResult result (λ _. IsStep D.PageDisk self.old.core (Event.Abandon extent) Reply.Abandoned self.new.core) (λ r. IsRefused D.PageDisk self.old.core (Event.Abandon extent) r self.new.core) }
@@ -72,7 +72,7 @@ impl<D: PageDisk, K: Naming> Engine<D, K> {
         }
     }
 
-    /// Does the event of writeback that is due. Refused as the event is, and 9 OutOfMemory.
+    /// Does the event of writeback that is due. The refusals are those of the event, and 9 `OutOfMemory`.
     pub fn turn<G: Gate>(&mut self, board: &NamedBoard<D, K>, gate: &G) -> Result<Step, Refusal>
         requires fresh { self.old.fresh ≡ true }
         ensures turn { IsTurn D.PageDisk self.old.core result self.new.core }
@@ -86,7 +86,7 @@ impl<D: PageDisk, K: Naming> Engine<D, K> {
         }
     }
 
-    /// Stages what there is to stage, and gives how many commands were accepted then.
+    /// Stages what there is to stage. Returns how many commands were accepted then.
     pub fn stage(&mut self, board: &NamedBoard<D, K>) -> Result<u64, Refusal>
         requires fresh { self.old.fresh ≡ true }
         ensures staged { IsStaged D.PageDisk self.old.core result self.new.core }
@@ -95,7 +95,7 @@ impl<D: PageDisk, K: Naming> Engine<D, K> {
         Ok(self.core().accepted())
     }
 
-    /// Does the event of writeback that is due where fewer commands are persistent than are wanted.
+    /// Does the event of writeback that is due, if fewer commands are persistent than are wanted.
     pub fn advance(&mut self, board: &NamedBoard<D, K>, target: u64) -> Result<(), Refusal>
         requires fresh { self.old.fresh ≡ true }
         ensures advance { IsAdvance D.PageDisk self.old.core target result self.new.core }

@@ -14,7 +14,7 @@ use Rattle.cs_extent.specs.State.{State as ExtentsState, extents_at, shape}
 use Rattle.cs_frame.proofs.RootLaws.{most_runs}
 use Rattle.cs_frame.specs.declared.roots.Root.{Root}
 use Rattle.cs_frame.specs.declared.superblocks.Superblock.{Superblock}
-use Rattle.cs_frame.specs.FirstFormat.{SpellsPageZero, page_zero_fault}
+use Rattle.cs_frame.specs.FirstFormat.{SpellsPageZero}
 use Rattle.cs_frame.specs.Geometries.{IsGeometry, device_pages}
 use Rattle.cs_frame.specs.Locators.{FitsLocator}
 use Rattle.cs_frame.specs.Roots.{SpellsRoot, root_fault}
@@ -23,7 +23,7 @@ use Rattle.cs_reader.specs.ImageReads.{AreSectionsRead}
 use Rattle.law_machine.specs.Geometry.{marks_in}
 use Rattle.cs_reader.specs.declared.heads.Head.{Head}
 use Rattle.cs_reader.specs.Heads.{IsHeadRead, IsWhyNoHead}
-use Rattle.cs_reader.specs.Openings.{AreRecordedBy, IsOtherFirst, IsWhyNoSections}
+use Rattle.cs_reader.specs.Openings.{AreRecordedBy, IsWhyNoFirst, IsWhyNoSections, SpellsFirst}
 
 -- the versions of these sections
 abbrev pub versions_of : List Superblock → List ℕ
@@ -50,14 +50,14 @@ module _ (honest : Type 0) (count : ℕ) (view : ℕ → List ℕ) (sections : L
   abbrev Lost : Bool → ℕ → ℕ → Type 0
   Lost lost n root = MatchBool lost ((j : ℕ) × (j < n) × (root < slice_index (records_of sections) j)) (AreRecordedBy n (records_of sections) root)
 
-  pub head_read : (head : Head) (root : Root) → head.root ≡ root
+  pub head_read : (head : Head)
       → head.extents ≡ extents_at (format_of sections) (pages_of sections) (length sections) (rows_of sections)
-      → head.graph ≡ graph_at (versions_of sections) root.version
-      → Lost head.root_lost (length sections) root.version
-      → (bytes : List ℕ) × SpellsRoot bytes (format_of sections) root.version root.commands root.runs.items
-      → (honest → SpellsRoot (view 1) (format_of sections) root.version root.commands root.runs.items)
+      → head.graph ≡ graph_at (versions_of sections) head.root.version
+      → Lost head.root_lost (length sections) head.root.version
+      → (bytes : List ℕ) × SpellsRoot bytes (format_of sections) head.root.version head.root.commands head.root.runs.items
+      → (honest → SpellsRoot (view 1) (format_of sections) head.root.version head.root.commands head.root.runs.items)
       → IsHeadRead honest count view head
-  head_read head root same extents graph lost some spelled = record {
+  head_read head extents graph lost some spelled = record {
     format = format_of sections;
     versions = versions_of sections;
     records = records_of sections;
@@ -66,11 +66,11 @@ module _ (honest : Type 0) (count : ℕ) (view : ℕ → List ℕ) (sections : L
     sized = sized_by;
     geometry = subst (λ (n : ℕ). IsGeometry (format_of sections) (length (rows_of sections)) (pages_of sections) n) (sym as_many) geometry;
     extents = extents ∙ ap (λ (n : ℕ). extents_at (format_of sections) (pages_of sections) n (rows_of sections)) (sym as_many);
-    graph = graph ∙ ap (λ (r : Root). graph_at (versions_of sections) r.version) (sym same);
-    some_root = subst (λ (r : Root). (bytes : List ℕ) × SpellsRoot bytes (format_of sections) r.version r.commands r.runs.items) (sym same) some;
-    lost = subst (λ (r : Root). Lost head.root_lost (length (versions_of sections)) r.version) (sym same) (subst (λ (n : ℕ). Lost head.root_lost n root.version) (sym as_many) lost);
+    graph = graph;
+    some_root = some;
+    lost = subst (λ (n : ℕ). Lost head.root_lost n head.root.version) (sym as_many) lost;
     sections = there;
-    root = λ h. subst (λ (r : Root). SpellsRoot (view 1) (format_of sections) r.version r.commands r.runs.items) (sym same) (spelled h);
+    root = spelled;
   }
 
   -- the root isn't read
@@ -136,7 +136,7 @@ module _ (honest : Type 0) (count : ℕ) (view : ℕ → List ℕ) (head : Head)
 
 -- ---- why none is read
 
-pub first_damaged : (count : ℕ) (view : ℕ → List ℕ) (r : Refusal) → 10 ≤ count → IsNoAnswer r ⊎ IsOfFault (page_zero_fault (view 0)) r ⊎ IsOtherFirst (view 0) r
+pub first_damaged : (count : ℕ) (view : ℕ → List ℕ) (r : Refusal) → 10 ≤ count → IsNoAnswer r ⊎ IsWhyNoFirst (view 0) r
     → IsNoAnswer r ⊎ IsWhyNoHead count view r
 first_damaged count view r enough (inl none) = inl none
 first_damaged count view r enough (inr (inl fault)) = inr (inl (record { enough = enough; fault = fault }))
@@ -144,7 +144,7 @@ first_damaged count view r enough (inr (inr other)) = inr (inr (inl (record { en
 
 -- another device
 pub other_device : (count : ℕ) (view : ℕ → List ℕ) (it : Superblock) → 10 ≤ count → it.section ≡ 0
-    → SpellsPageZero (view 0) it.format it.version it.recorded it.extent_count it.pages it.sections it.section it.extents.items → (count ≡ device_pages it.format it.extent_count it.pages it.sections → ⊥)
+    → SpellsFirst (view 0) it → (count ≡ device_pages it.format it.extent_count it.pages it.sections → ⊥)
     → IsNoAnswer NotAStore ⊎ IsWhyNoHead count view NotAStore
 other_device count view it enough first spelled other = inr (inr (inr (inl (record {
   enough = enough;
@@ -162,7 +162,7 @@ other_device count view it enough first spelled other = inr (inr (inr (inl (reco
 
 -- a further section isn't read
 pub section_damaged : (count : ℕ) (view : ℕ → List ℕ) (it : Superblock) (r : Refusal) → it.section ≡ 0
-    → SpellsPageZero (view 0) it.format it.version it.recorded it.extent_count it.pages it.sections it.section it.extents.items → count ≡ device_pages it.format it.extent_count it.pages it.sections
+    → SpellsFirst (view 0) it → count ≡ device_pages it.format it.extent_count it.pages it.sections
     → IsNoAnswer r ⊎ IsWhyNoSections view it.format it.extent_count it.pages it.sections r → IsNoAnswer r ⊎ IsWhyNoHead count view r
 section_damaged count view it r first spelled sized why = ⊎_elim (λ n. inl n)
     (λ (w : IsWhyNoSections view it.format it.extent_count it.pages it.sections r). inr (inr (inr (inr (inl (record {

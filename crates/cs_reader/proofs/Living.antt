@@ -1,5 +1,5 @@
 -- How many shards have locators, and whether these are located.
-use Rattle.std.proofs.Common.{◌≡◌, ◌≢◌, ◌⊎◌, inl, inr, ⊎_elim, ◌∙◌, ℕ, zero, suc, ◌+◌, ◌<◌, ◌≤◌, true, false, List, [], ◌∷◌, ◌++◌, Some, None, length, map, length-append, refl, sym, ap, subst, arith}
+use Rattle.std.proofs.Common.{◌≡◌, ◌≢◌, ◌⊎◌, inl, inr, ⊎_elim, ◌∙◌, ℕ, zero, suc, ◌<◌, true, false, List, [], ◌∷◌, Some, None, length, map, refl, sym, ap, subst, arith}
 use Rattle.std.specs.Prelude.{◌↔◌, Contains, Option, is_some, slice_index_or}
 use Rattle.std.specs.List.{AllByRecursion}
 use Rattle.std.proofs.lemmas.Bool.{cases_eq, cases_lt}
@@ -9,43 +9,15 @@ use Rattle.cs_frame.specs.declared.locators.Locator.{Locator}
 use Rattle.cs_frame.specs.Formats.{as_locator, place_of}
 use Rattle.cs_reader.specs.Counts.{HasCount}
 use Rattle.cs_reader.specs.ImageReads.{IsLocated}
-use Rattle.cs_index.proofs.Merged.{merged_end, merged_step}
-use Rattle.cs_index.specs.Sorted.{IsMergedTo, live_entry}
+use Rattle.cs_index.proofs.Shards.{shards_run}
 use Rattle.cs_index.specs.State.{IsAfter, IsNext}
-use Rattle.law_machine.proofs.Counting.{ascending_names, lookup_here, lookup_there, names_le}
+use Rattle.law_machine.proofs.Counting.{lookup_here, lookup_there}
+use Rattle.law_machine.proofs.Sorted.{sorted_live}
 use Rattle.law_machine.specs.Element.{Entry, Locator as Place}
-use Rattle.law_machine.specs.Index.{Ascending, IsMergedRun, if_live, live, live_at, lookup, names}
+use Rattle.law_machine.specs.Index.{Ascending, IsMergedRun, if_live, live, live_at, lookup}
 use Rattle.law_machine.specs.Lists.{◌∈◌}
+use Rattle.law_machine.specs.Tally.{shards}
 use Rattle.cs_reader.specs.Openings.{AreLiveLocated}
-
--- ---- no more are counted than are named
-
-after_or_not : (after : Option ℕ) (d : ℕ) → (IsAfter after d) ⊎ (IsAfter after d → ⊥)
-after_or_not None d = inl tt
-after_or_not (Some a) d = elim (cases_lt a d) [ inl lt ↦ inl lt | inr ge ↦ inr (λ lt. omega arith) ]
-
-absent : (after : Option ℕ) (d : ℕ) (xs : List Entry) → IsAfter after d → AllByRecursion (λ x. ¬ IsAfter after x.id) xs → lookup d xs ≡ None
-absent after d [] later all = refl
-absent after d (x ∷ xs) later all = lookup_there x xs d (λ is. all.0 (subst (IsAfter after) (sym is) later)) ∙ absent after d xs later all.1
-
-some_live : (o : Option (List Place)) → is_some (if_live o) ≡ true → is_some o ≡ true
-some_live None e = e
-some_live (Some []) e = refl
-some_live (Some (l ∷ ls)) e = refl
-
-pub few_so_far : (index xs : List Entry) (after : Option ℕ) → IsMergedTo index after xs → length xs ≤ names index
-few_so_far index xs after merged =
-    let le : names xs ≤ names index = names_le xs index (λ id is. ⊎_elim
-    (λ (later : IsAfter after id). let none : lookup id xs ≡ None = absent after id xs later merged.none_after in let clash : false ≡ true = ap (λ (o : Option (List Place)). is_some o) (sym none) ∙ is in absurd (cc clash))
-    (λ (not : IsAfter after id → ⊥). some_live (lookup id index) (ap (λ (o : Option (List Place)). is_some o) (sym (merged.lookups id not)) ∙ is))
-    (after_or_not after id)) in
-    omega (arith, ascending_names xs merged.ascending)
-
--- an entry that is read counts, if it is live
-pub counted_more : (index xs : List Entry) (after : Option ℕ) (id more : ℕ) (ls : List Place) → IsMergedTo index after xs → IsNext index after (Some (record { id = id; locators = ls })) → more ≡ length (live_entry id ls)
-    → (ys : List Entry) × IsMergedTo index (Some id) ys × (length ys ≡ length xs + more)
-counted_more index xs after id more ls was next is =
-    (xs ++ live_entry id ls, merged_step index xs after id ls was next, let sum : length (xs ++ live_entry id ls) ≡ length xs + length (live_entry id ls) = length-append xs (live_entry id ls) in omega (arith, is))
 
 -- ---- as many as are live
 
@@ -101,10 +73,17 @@ all_counted index xs merged = (
   length-map xs (λ (x : Entry). x.id),
 )
 
-pub all_read : (index xs : List Entry) (after : Option ℕ) (count : ℕ) → IsMergedTo index after xs → IsNext index after None → length xs ≡ count → HasCount (λ id. live_at index id ≢ []) count
-all_read index xs after count merged none is = subst (HasCount (λ id. live_at index id ≢ [])) is (all_counted index xs (merged_end index xs after merged none))
+pub shards_counted : (index : List Entry) (count : ℕ) → count ≡ shards index → HasCount (λ id. live_at index id ≢ []) count
+shards_counted index count is =
+    let all = sorted_live index in
+    let run : IsMergedRun index all.0 = (all.1, all.2) in
+    subst (HasCount (λ id. live_at index id ≢ [])) (sym (is ∙ shards_run index all.0 run)) (all_counted index all.0 run)
 
 -- ---- what is live is located
+
+after_or_not : (after : Option ℕ) (d : ℕ) → (IsAfter after d) ⊎ (IsAfter after d → ⊥)
+after_or_not None d = inl tt
+after_or_not (Some a) d = elim (cases_lt a d) [ inl lt ↦ inl lt | inr ge ↦ inr (λ lt. omega arith) ]
 
 -- what the identifiers up to one have is located
 abbrev pub AreLocatedTo : ExtentsState → List Entry → Option ℕ → Type 0

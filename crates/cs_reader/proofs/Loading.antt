@@ -47,16 +47,9 @@ not_device Misplaced e = cc e
 pub no_device : (f : FormatFault) (r : Refusal) → r ≡ refusal_for f → r ≢ DeviceFault
 no_device f r is e = not_device f (sym is ∙ e)
 
--- where the device isn't to blame, its count has to rise for nothing
-pub caused_no : {T : Type 0} (before now : ℕ) (found : Option FormatFault) (result : Result T Refusal) → before ≤ now → IfErr result (λ r. (r ≡ NoMemory) ⊎ IsOfFault found r) → IsCaused before now result
-caused_no before now found (Ok x) le why = record { later = le; failed = λ e. absurd (cc e) }
-caused_no before now found (Err r) le why = record {
-  later = le;
-  failed = λ e. let is : r ≡ DeviceFault = cc in absurd (⊎_elim
-      (λ (m : r ≡ NoMemory). let clash : NoMemory ≡ DeviceFault = sym m ∙ is in cc clash)
-      (λ (f : IsOfFault found r). no_device f.0 r f.2 is)
-      why);
-}
+-- what the device isn't to blame for has its cause whatever the device's count
+pub not_caused : {T : Type 0} (before now : ℕ) (r : Refusal) → before ≤ now → r ≢ DeviceFault → IsCaused {T = T} before now (Err r)
+not_caused before now r le other = record { later = le; failed = λ e. let is : r ≡ DeviceFault = cc in absurd (other is) }
 
 -- the refusal of a fault that was found, unless memory ran out
 pub memory_or_fault : (f : FormatFault) (found : Option FormatFault) (r : Refusal) → r ≡ refusal_for f → (f ≢ OutOfMemory → found ≡ Some f) → (r ≡ NoMemory) ⊎ IsOfFault found r
@@ -70,10 +63,9 @@ memory_or_fault BadVersion found r is h = inr (BadVersion, h (λ e. cc e), is)
 memory_or_fault OutOfOrder found r is h = inr (OutOfOrder, h (λ e. cc e), is)
 memory_or_fault Misplaced found r is h = inr (Misplaced, h (λ e. cc e), is)
 
--- the device or memory refused, or a page has a fault
-pub wider : {T : Type 0} (found : Option FormatFault) (result : Result T Refusal) → IfErr result (λ r. (r ≡ NoMemory) ⊎ IsOfFault found r) → IfErr result (λ r. IsNoAnswer r ⊎ IsOfFault found r)
-wider found (Ok x) why = tt
-wider found (Err r) why = ⊎_elim (λ m. inl (inr m)) (λ f. inr f) why
+-- the same, where the device or memory may have refused
+pub fault_or_none : (f : FormatFault) (found : Option FormatFault) (r : Refusal) → r ≡ refusal_for f → (f ≢ OutOfMemory → found ≡ Some f) → IsNoAnswer r ⊎ IsOfFault found r
+fault_or_none f found r is h = ⊎_elim (λ m. inl (inr m)) inr (memory_or_fault f found r is h)
 
 -- what isn't more
 pub no_heavier : (most n : ℕ) → (most < n → ⊥) → n ≤ most
@@ -127,28 +119,21 @@ is_run format entries payload is = record {
 
 module _ (x : ExtentsState) (view : ℕ → List ℕ) (place : Locator) (located : IsLocated x place) (payload given : List ℕ) (same : given ≡ payload) (frame : IsFrameIn x view RunFrame place payload)
     (format : ℕ) (of_format : format ≡ x.format) where
-  pub run_read : (result : Result StoredRun Refusal) → IfOk result (λ run. SpellsRun given format (spelled_entries run.entries.items)) → IfOk result (λ run. run.place ≡ place) → IfOk result (λ run. IsRunRead x view run)
-  run_read (Ok run) spelled at = subst (λ (l : Locator). HasRunAt x view l (spelled_entries run.entries.items)) (sym at)
-      (record {
-        located = located;
-        payload = payload;
-        frame = frame;
-        spelled = subst (λ (f : ℕ). SpellsRun payload f (spelled_entries run.entries.items)) of_format
-            (subst (λ (b : List ℕ). SpellsRun b format (spelled_entries run.entries.items)) same spelled);
-      })
-  run_read (Err r) spelled at = tt
+  pub run_read : (entries : Vec (ShardId × Listed) Global) → SpellsRun given format (spelled_entries entries.items) → HasRunAt x view place (spelled_entries entries.items)
+  run_read entries spelled = record {
+    located = located;
+    payload = payload;
+    frame = frame;
+    spelled = subst (λ (f : ℕ). SpellsRun payload f (spelled_entries entries.items)) of_format
+        (subst (λ (b : List ℕ). SpellsRun b format (spelled_entries entries.items)) same spelled);
+  }
 
-  pub run_not_read : (result : Result StoredRun Refusal) → IfErr result (λ r. (r ≡ NoMemory) ⊎ IsOfFault (run_fault format given) r) → IfErr result (λ r. IsNoAnswer r ⊎ IsWhyNotRead x view place r)
-  run_not_read (Ok run) why = tt
-  run_not_read (Err r) why = ⊎_elim (λ m. inl (inr m)) (λ f. inr (inr (inr (located, (payload, frame, subst (λ (n : ℕ). IsOfFault (run_fault n payload) r) of_format (subst (λ (b : List ℕ). IsOfFault (run_fault format b) r) same f)))))) why
+  pub run_not_read : (r : Refusal) → IsNoAnswer r ⊎ IsOfFault (run_fault format given) r → IsNoAnswer r ⊎ IsWhyNotRead x view place r
+  run_not_read r why =
+      ⊎_elim inl (λ f. inr (inr (inr (located, (payload, frame, subst (λ (n : ℕ). IsOfFault (run_fault n payload) r) of_format (subst (λ (b : List ℕ). IsOfFault (run_fault format b) r) same f)))))) why
 
 pub frame_not_read : (x : ExtentsState) (view : ℕ → List ℕ) (place : Locator) (r : Refusal) → IsLocated x place → IsNoAnswer r ⊎ IsOfFault (fault_in x view Run place) r → IsNoAnswer r ⊎ IsWhyNotRead x view place r
 frame_not_read x view place r located why = ⊎_elim (λ n. inl n) (λ f. inr (inr (inl (located, f)))) why
-
--- a run is where its place is
-pub located_run : (x : ExtentsState) (place : Locator) → IsLocated x place → (result : Result StoredRun Refusal) → IfOk result (λ run. run.place ≡ place) → IfOk result (λ run. IsLocated x run.place)
-located_run x place located (Ok run) at = subst (IsLocated x) (sym at) located
-located_run x place located (Err r) at = tt
 
 -- ---- one run after another
 

@@ -1,7 +1,6 @@
 -- Extents as they are read, and by which rule places are located.
 use Rattle.std.proofs.Common.{◌≡◌, ◌⊎◌, inl, inr, ⊎_elim, ◌∙◌, ℕ, ◌<◌, ◌≤◌, true, false, List, [], ◌∷◌, Result, Ok, Err, IfErr, length, le-leb, true≢false, sym, ap, subst, arith, map, Option}
 use Rattle.std.specs.List.{AllByRecursion}
-use Rattle.std.specs.Prelude.{OnOk}
 use Rattle.std.proofs.lemmas.Bool.{cases_Bool}
 use Rattle.std.proofs.lemmas.Bool.Decides.{nat_tests}
 use Rattle.cs_refusal.specs.declared.refusals.Refusal.{Refusal}
@@ -64,31 +63,12 @@ hidden_stand x together = let le : x.format ≤ 2 = grind (arith, nat_tests) in 
 pub hidden_gone : (x : ExtentsState) → (shape x).apart ≡ true → (shape x).hidden_stand ≡ false
 hidden_gone x apart = grind (arith, nat_tests)
 
-pub located_whole : (x : ExtentsState) (runs : List StoredRun) → (shape x).apart ≡ false → AreLocated x runs → AreLocatedBy x runs
-located_whole x runs rule all = record { whole = λ stand. all; visible = λ gone. absurd (true≢false (sym (hidden_stand x rule) ∙ gone)) }
-
 pub located_visible : (x : ExtentsState) (runs : List StoredRun) → (shape x).apart ≡ true → AreVisibleLocated x runs → AreLocatedBy x runs
 located_visible x runs rule all = record { whole = λ stand. absurd (true≢false (sym stand ∙ hidden_gone x rule)); visible = λ gone. all }
 
 -- by either rule visible entries name what is there
 pub visible_by : (x : ExtentsState) (runs : List StoredRun) → AreLocatedBy x runs → AreVisibleLocated x runs
 visible_by x runs all = elim (cases_Bool (shape x).hidden_stand) [ inl stand ↦ visible_of x runs (all.whole stand) | inr gone ↦ all.visible gone ]
-
--- an answer says one thing by another
-module _ {T : Type 0} (result : Result T Refusal) (P Q : Type 0) where
-  pub ok_by : (P → Q) → OnOk result P → OnOk result Q
-  ok_by = go result
-    where
-      go : (r : Result T Refusal) → (P → Q) → OnOk r P → OnOk r Q
-      go (Ok x) to is = to is
-      go (Err r) to is = tt
-
-  pub why_by : (Many : Type 0) → (Q → P) → IfErr result (λ r. (r ≡ OutOfMemory) ⊎ ((r ≡ NotAStore) × ((P → ⊥) ⊎ Many))) → IfErr result (λ r. (r ≡ OutOfMemory) ⊎ ((r ≡ NotAStore) × ((Q → ⊥) ⊎ Many)))
-  why_by Many = go result
-    where
-      go : (r : Result T Refusal) → (Q → P) → IfErr r (λ r. (r ≡ OutOfMemory) ⊎ ((r ≡ NotAStore) × ((P → ⊥) ⊎ Many))) → IfErr r (λ r. (r ≡ OutOfMemory) ⊎ ((r ≡ NotAStore) × ((Q → ⊥) ⊎ Many)))
-      go (Ok x) from why = tt
-      go (Err r) from why = ⊎_elim (λ m. inl m) (λ w. inr (w.0, ⊎_elim (λ not. inl (λ q. not (from q))) (λ many. inr many) w.1)) why
 
 -- the extents on which located runs lie are there
 pub runs_there : (x : ExtentsState) (i : IndexState) (runs : List StoredRun) (format limit : ℕ) → i ≡ index_at (newest_first runs) format limit → AllByRecursion (λ run. IsLocated x run.place) runs
@@ -101,13 +81,9 @@ runs_there x i runs format limit is all = subst (λ (j : IndexState). AllByRecur
     go (run ∷ rs) each = (each.0.extent, go rs each.1)
 
 -- what an index of runs has is what is visible of the runs
-module _ {T : Type 0} (result : Result T Refusal) (x : ExtentsState) (i : IndexState) (runs : List StoredRun) (format limit : ℕ) (is : i ≡ index_at (newest_first runs) format limit) where
-  pub live_visible : OnOk result (AreLiveLocated x (index_of i)) → OnOk result (AreVisibleLocated x runs)
-  live_visible all = ok_by result (AreLiveLocated x (index_of i)) (AreVisibleLocated x runs) (λ live. subst (λ (j : IndexState). AreLiveLocated x (index_of j)) is live) all
+module _ (x : ExtentsState) (i : IndexState) (runs : List StoredRun) (format limit : ℕ) (is : i ≡ index_at (newest_first runs) format limit) where
+  pub live_visible : AreLiveLocated x (index_of i) → AreVisibleLocated x runs
+  live_visible live = subst (λ (j : IndexState). AreLiveLocated x (index_of j)) is live
 
-  pub live_hidden : (Many : Type 0) → IfErr result (λ r. (r ≡ NotAStore) × (AreLiveLocated x (index_of i) → ⊥)) → IfErr result (λ r. (r ≡ OutOfMemory) ⊎ ((r ≡ NotAStore) × ((AreVisibleLocated x runs → ⊥) ⊎ Many)))
-  live_hidden Many = go result
-    where
-      go : (r : Result T Refusal) → IfErr r (λ r. (r ≡ NotAStore) × (AreLiveLocated x (index_of i) → ⊥)) → IfErr r (λ r. (r ≡ OutOfMemory) ⊎ ((r ≡ NotAStore) × ((AreVisibleLocated x runs → ⊥) ⊎ Many)))
-      go (Ok y) why = tt
-      go (Err r) why = inr (why.0, inl (λ all. why.1 (subst (λ (j : IndexState). AreLiveLocated x (index_of j)) (sym is) all)))
+  pub visible_live : AreVisibleLocated x runs → AreLiveLocated x (index_of i)
+  visible_live all = subst (λ (j : IndexState). AreLiveLocated x (index_of j)) (sym is) all

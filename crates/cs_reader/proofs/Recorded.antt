@@ -31,7 +31,3 @@ module _ (sections : List Superblock) (root : ℕ) where
 
   pub recorded_all : (k : ℕ) → length sections ≤ k → AreRecordedBy k records root → AreRecordedBy (length sections) records root
   recorded_all k all so_far j lt = so_far j (omega (arith, lt, all))
-
-  -- there are as many versions as sections
-  pub recorded_by : AreRecordedBy (length sections) records root → AreRecordedBy (length (map (λ (it : Superblock). it.version) sections)) records root
-  recorded_by all j lt = all j (subst (λ (n : ℕ). j < n) (length-map sections (λ (it : Superblock). it.version)) lt)

@@ -17,7 +17,7 @@ use Rattle.cs_frame.specs.Pointers.{FitsExtent}
 use Rattle.cs_frame.specs.Superblocks.{FitsSuperblock, IsSuperblock, SpellsSuperblock, superblock_fault}
 use Rattle.cs_reader.specs.ImageReads.{AreSectionsRead, SpellsAt}
 use Rattle.cs_index.proofs.Sorted.{all_map, some_at}
-use Rattle.cs_reader.specs.Openings.{HasNumbers, IsOtherFirst, IsSectionThere, IsWhyNoSection, IsWhyNoSections}
+use Rattle.cs_reader.specs.Openings.{HasNumbers, IsSectionThere, IsWhyNoFirst, IsWhyNoSection, IsWhyNoSections, SpellsFirst, SpellsFurther}
 
 -- ---- one section
 
@@ -37,7 +37,7 @@ module _ (format extents pages sections section : ℕ) (it : Superblock) (has : 
   at_fits : FitsSuperblock it.format it.version it.recorded it.extent_count it.pages it.sections it.section it.extents.items → IsSectionAt format extents pages sections section it
   at_fits fits = record { is = fits_is it fits; of_format = has.of_format; of_extents = has.of_extents; of_pages = has.of_pages; of_sections = has.of_sections; place = has.place }
 
-  pub further_at : (bytes : List ℕ) × SpellsSuperblock bytes it.format it.version it.recorded it.extent_count it.pages it.sections it.section it.extents.items → IsSectionAt format extents pages sections section it
+  pub further_at : (bytes : List ℕ) × SpellsFurther bytes it → IsSectionAt format extents pages sections section it
   further_at spelled = at_fits spelled.1.fits
 
   -- by these numbers
@@ -50,30 +50,38 @@ module _ (format extents pages sections section : ℕ) (it : Superblock) (has : 
       (subst (λ (n : ℕ). SpellsSuperblock bytes it.format it.version it.recorded it.extent_count it.pages n section it.extents.items) has.of_sections
       (subst (λ (n : ℕ). SpellsSuperblock bytes it.format it.version it.recorded it.extent_count it.pages it.sections n it.extents.items) has.place spelled))))
 
+-- all sections have the first one's format
+pub format_of_first : (sections : List Superblock) (it : Superblock) → slice_get sections 0 ≡ Some it → it.format ≡ format_of sections
+format_of_first [] it at = absurd (cc at)
+format_of_first (first ∷ sections) it at = ap (λ (x : Superblock). x.format) (sym (same_Some first it at))
+
+-- the number of a further section's page
+pub number_is : (a b c extents pages section : ℕ) → a ≡ extents → b ≡ pages → c ≡ section → 1 + a * b + c ≡ 1 + extents * pages + section
+number_is a b c extents pages section e p s = ap (λ n. 1 + n * b + c) e ∙ ap (λ n. 1 + extents * n + c) p ∙ ap (λ n. 1 + extents * pages + n) s
+
 -- page 0 has another section
-pub other_first : (bytes : List ℕ) (format version recorded extents pages sections section : ℕ) (rows : List (ℕ × ℕ)) → SpellsPageZero bytes format version recorded extents pages sections section rows → (section ≡ 0 → ⊥)
-    → IsNoAnswer NotAStore ⊎ IsOfFault (page_zero_fault bytes) NotAStore ⊎ IsOtherFirst bytes NotAStore
-other_first bytes format version recorded extents pages sections section rows spelled other = inr (inr (record {
-  format = format;
-  version = version;
-  recorded = recorded;
-  extents = extents;
-  pages = pages;
-  sections = sections;
-  section = section;
-  rows = rows;
+pub other_first : (bytes : List ℕ) (it : Superblock) → SpellsFirst bytes it → (it.section ≡ 0 → ⊥) → IsNoAnswer NotAStore ⊎ IsWhyNoFirst bytes NotAStore
+other_first bytes it spelled other = inr (inr (record {
+  format = it.format;
+  version = it.version;
+  recorded = it.recorded;
+  extents = it.extent_count;
+  pages = it.pages;
+  sections = it.sections;
+  section = it.section;
+  rows = it.extents.items;
   superblock = spelled;
   other = other;
   refusal = refl;
 }))
 
 pub damaged_first : (bytes : List ℕ) (r : Refusal) → IsNoAnswer r ⊎ IsOfFault (page_zero_fault bytes) r
-    → IsNoAnswer r ⊎ IsOfFault (page_zero_fault bytes) r ⊎ IsOtherFirst bytes r
+    → IsNoAnswer r ⊎ IsWhyNoFirst bytes r
 damaged_first bytes r why = ⊎_elim (λ n. inl n) (λ f. inr (inl f)) why
 
 -- a further page has another
 pub other_further : (format extents pages sections section : ℕ) (bytes : List ℕ) (it : Superblock) → it.format ≡ format → (HasNumbers format extents pages sections section it → ⊥)
-    → SpellsSuperblock bytes it.format it.version it.recorded it.extent_count it.pages it.sections it.section it.extents.items
+    → SpellsFurther bytes it
     → IsNoAnswer NotAStore ⊎ IsWhyNoSection format extents pages sections section bytes NotAStore
 other_further format extents pages sections section bytes it same_format other spelled = inr (inr (record {
   version = it.version;
@@ -125,8 +133,8 @@ further_spelled (suc j) bytes format version recorded extents pages sections row
 module _ (honest : Type 0) (view : ℕ → List ℕ) where
   -- the first alone
   pub first_read : (it : Superblock) → it.section ≡ 0
-      → (bytes : List ℕ) × SpellsPageZero bytes it.format it.version it.recorded it.extent_count it.pages it.sections it.section it.extents.items
-      → (honest → SpellsPageZero (view 0) it.format it.version it.recorded it.extent_count it.pages it.sections it.section it.extents.items)
+      → (bytes : List ℕ) × SpellsFirst bytes it
+      → (honest → SpellsFirst (view 0) it)
       → AreReadTo honest view it.format it.extent_count it.pages it.sections 1 (it ∷ [])
   first_read it first some read = record {
     places = λ j other at. ⊎_elim
@@ -154,8 +162,8 @@ module _ (honest : Type 0) (view : ℕ → List ℕ) where
   -- one more
   pub more_read : (format extents pages sections count : ℕ) (items : List Superblock) → AreReadTo honest view format extents pages sections count items → length items ≡ count → 0 < count
       → (it : Superblock) → HasNumbers format extents pages sections count it
-      → (bytes : List ℕ) × SpellsSuperblock bytes it.format it.version it.recorded it.extent_count it.pages it.sections it.section it.extents.items
-      → (honest → SpellsSuperblock (view (1 + extents * pages + count)) it.format it.version it.recorded it.extent_count it.pages it.sections it.section it.extents.items)
+      → (bytes : List ℕ) × SpellsFurther bytes it
+      → (honest → SpellsFurther (view (1 + extents * pages + count)) it)
       → AreReadTo honest view format extents pages sections (count + 1) (items ++ it ∷ [])
   more_read format extents pages sections count items so_far long some it has spelled read = record {
     places = λ j other at. ⊎_elim

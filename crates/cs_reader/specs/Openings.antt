@@ -30,6 +30,14 @@ pub record IsStoreReadBy (view : ℕ → List ℕ) (format : ℕ) (versions reco
   pub whole : (shape (extents_at format pages (length versions) written)).hidden_stand ≡ true → IsStoreRead view format versions records pages written root commands runs
   pub visible : (shape (extents_at format pages (length versions) written)).hidden_stand ≡ false → IsVisibleStoreRead view format versions records pages written root commands runs
 
+-- the bytes spell this section of a superblock as those of page 0 do, maybe in the first format
+abbrev pub SpellsFirst : (bytes : List ℕ) → Superblock → Type 0
+SpellsFirst bytes it = SpellsPageZero bytes it.format it.version it.recorded it.extent_count it.pages it.sections it.section it.extents.items
+
+-- the bytes spell this section of a superblock as those of a page after the extents do
+abbrev pub SpellsFurther : (bytes : List ℕ) → Superblock → Type 0
+SpellsFurther bytes it = SpellsSuperblock bytes it.format it.version it.recorded it.extent_count it.pages it.sections it.section it.extents.items
+
 -- Page 0 spells section 0 of a superblock of this format and of so many extents, pages and sections, with which the device has its pages.
 pub record IsFirstRead (count : ℕ) (view : ℕ → List ℕ) (format extents pages sections : ℕ) : Type 0 where
   pub version : ℕ
@@ -86,6 +94,10 @@ pub record IsOtherFirst (bytes : List ℕ) (r : Refusal) : Type 0 where
   pub superblock : SpellsPageZero bytes format version recorded extents pages sections section rows
   pub other : section ≢ 0
   pub refusal : r ≡ NotAStore
+
+-- section 0 isn't read of the bytes of page 0: they have this fault, or spell another section
+abbrev pub IsWhyNoFirst : (bytes : List ℕ) → Refusal → Type 0
+IsWhyNoFirst bytes r = IsOfFault (page_zero_fault bytes) r ⊎ IsOtherFirst bytes r
 
 -- Page 0 has another section than the first.
 pub record IsOtherSection (count : ℕ) (view : ℕ → List ℕ) (r : Refusal) : Type 0 where

@@ -1,5 +1,5 @@
 -- A chunk that is moved, and why it isn't.
-use Rattle.std.proofs.Common.{◌≡◌, ◌∙◌, ◌⊎◌, ◌↔◌, refl, sym, inl, inr, ⊎_elim, ℕ, ◌+◌, ◌^◌, ◌<◌, ◌≤◌, Bool, List, Option, None, Some, Result, Ok, Err, IfErr, IfOk, OnOk, length, ap, eqb-true, subst, arith}
+use Rattle.std.proofs.Common.{◌≡◌, ◌∙◌, ◌⊎◌, ◌↔◌, refl, sym, inl, inr, ⊎_elim, ℕ, ◌+◌, ◌^◌, ◌<◌, ◌≤◌, List, Option, None, Some, Result, Ok, Err, IfErr, IfOk, length, ap, eqb-true, subst, arith, false}
 use Rattle.std.proofs.lemmas.Option.{same_Some}
 use Rattle.cs_chunk.proofs.Chunkings.{length-spelled}
 use Rattle.cs_chunk.specs.Chunks.{IsMeant}
@@ -11,7 +11,7 @@ use Rattle.cs_deps.specs.Staging.{Staging}
 use Rattle.cs_deps.specs.State.{State as GraphState}
 use Rattle.cs_extent.specs.Appended.{IsAppended, IsAppendedBy}
 use Rattle.cs_extent.specs.State.{State as ExtentsState, shape}
-use Rattle.cs_extent.specs.Worn.{IsFrameWornBy}
+use Rattle.cs_extent.specs.Worn.{IsFrameWorn}
 use Rattle.cs_frame.specs.declared.faults.FormatFault.{FormatFault}
 use Rattle.cs_frame.specs.declared.identifiers.ShardId.{ShardId}
 use Rattle.cs_frame.specs.declared.locators.Locator.{Locator}
@@ -26,49 +26,43 @@ use Rattle.law_machine.specs.Formats.{ChunkFrame}
 use Rattle.law_machine.specs.Index.{FirstLive, live_at}
 use Rattle.law_machine.specs.Lists.{replaced}
 use Rattle.cs_index.specs.declared.live.LiveChunk.{LiveChunk}
-use Rattle.cs_reclaim.specs.Moves.{AnswersMove, AnswersPlaceBy, IsMoveFullBy, IsMoveWornBy, IsMoved, NowhereBy, chunk_frame}
+use Rattle.cs_reclaim.specs.Moves.{AnswersMove, AnswersPlace, IsMoveFull, IsMoveWorn, IsMoved, Nowhere, chunk_frame}
 
 -- what lies in an extent is short
 pub small_payload : (page pages : ℕ) (payload : List ℕ) → pages ≤ 65535 → page + length (spelled_frame 0 payload) ≤ pages → length payload < 2 ^ 32
 small_payload page pages payload few le = omega (arith, few, le, length-spelled 0 payload)
 
-pub on_ok : {T E : Type 0} (r : Result T E) (A B : Type 0) → (A → B) → OnOk r A → OnOk r B
-on_ok (Ok t) A B to a = to a
-on_ok (Err e) A B to a = tt
+pub if_ok : {T E : Type 0} (r : Result T E) (A B : T → Type 0) → ((t : T) → A t → B t) → IfOk r A → IfOk r B
+if_ok (Ok t) A B to a = to t a
+if_ok (Err e) A B to a = tt
 
 -- what was read is meant, and so the frame that is appended of it has the mark of where it was read
-pub same_mark_there : (apart : Bool) (x y : ExtentsState) (g h : GraphState) (payload : List ℕ) (from to : Locator) (frame : List (List ℕ)) → frame ≡ chunk_frame x payload
-    → IsMeant (shape x) ChunkFrame from payload → IsAppendedBy apart x g ForMove frame to y h → to.mark ≡ from.mark
-same_mark_there apart x y g h payload from to frame is meant appended =
-    ap (λ (l : Locator). l.mark) appended.place ∙ ap (mark_of (shape x)) is ∙ eqb-true (mark_of (shape x) (chunk_frame x payload)) from.mark meant
+pub same_mark_there : (x y : ExtentsState) (g h : GraphState) (payload : List ℕ) (from to : Locator) → IsMeant (shape x) ChunkFrame from payload
+    → IsAppended x g ForMove (chunk_frame x payload) to y h → to.mark ≡ from.mark
+same_mark_there x y g h payload from to meant appended =
+    ap (λ (l : Locator). l.mark) appended.place ∙ eqb-true (mark_of (shape x) (chunk_frame x payload)) from.mark meant
 
 -- ---- where a frame goes
 
-module _ (apart : Bool) (x : ExtentsState) (s : Staging) where
-  abbrev No : List (List ℕ) → Type 0
-  No frame = NowhereBy apart x (length frame)
+module _ (x : ExtentsState) (s : Staging) (payload : List ℕ) where
+  abbrev pub No : Type 0
+  No = Nowhere x (length (chunk_frame x payload))
 
-  abbrev Worn : List (List ℕ) → Type 0
-  Worn frame = IsFrameWornBy apart x ForMove s (length frame)
+  abbrev pub Worn : Type 0
+  Worn = IsFrameWorn x ForMove s (length (chunk_frame x payload))
 
-  place_of_exact : {T : Type 0} (r : Result T Refusal) (payload : List ℕ) → IsExact r (No (chunk_frame x payload)) (Worn (chunk_frame x payload)) → AnswersPlaceBy apart x s payload r
-  place_of_exact (Ok t) payload exact = exact
-  place_of_exact (Err r) payload exact = inr exact
-
-  pub exact_place : {T : Type 0} (r : Result T Refusal) (frame : List (List ℕ)) (payload : List ℕ) → frame ≡ chunk_frame x payload → IsExact r (No frame) (Worn frame) → AnswersPlaceBy apart x s payload r
-  exact_place r frame payload is exact = place_of_exact r payload (subst (λ (f : List (List ℕ)). IsExact r (No f) (Worn f)) is exact)
+  pub exact_place : {T : Type 0} (r : Result T Refusal) → IsExact r No Worn → AnswersPlace x s payload r
+  exact_place (Ok t) exact = exact
+  exact_place (Err r) exact = inr exact
 
   -- what there is no place or no number for is the frame of a payload, whatever was read
-  pub full_move : {T : Type 0} (r : Result T Refusal) (frame : List (List ℕ)) (payload : List ℕ) → frame ≡ chunk_frame x payload → length (chunk_frame x payload) ≤ x.pages
-      → IsExact r (No frame) (Worn frame) → IfErr r (λ e. e ≡ Full → IsMoveFullBy apart x)
-  full_move (Ok t) frame payload is fits exact = tt
-  full_move (Err e) frame payload is fits exact = λ same. (payload, fits, subst No is (subst (λ f. IsWhy f (No frame) (Worn frame)) same exact))
+  pub full_move : {T : Type 0} (r : Result T Refusal) → length (chunk_frame x payload) ≤ x.pages → IsExact r No Worn → IfErr r (λ e. e ≡ Full → IsMoveFull x)
+  full_move (Ok t) fits exact = tt
+  full_move (Err e) fits exact = λ same. (payload, fits, subst (λ f. IsWhy f No Worn) same exact)
 
-  pub worn_move : {T : Type 0} (r : Result T Refusal) (frame : List (List ℕ)) (payload : List ℕ) → frame ≡ chunk_frame x payload → length (chunk_frame x payload) ≤ x.pages
-      → IsExact r (No frame) (Worn frame) → IfErr r (λ e. e ≡ WornOut → IsMoveWornBy apart x s)
-  worn_move (Ok t) frame payload is fits exact = tt
-  worn_move (Err e) frame payload is fits exact = λ same.
-      let why = subst (λ f. IsWhy f (No frame) (Worn frame)) same exact in (payload, fits, subst Worn is why.1)
+  pub worn_move : {T : Type 0} (r : Result T Refusal) → length (chunk_frame x payload) ≤ x.pages → IsExact r No Worn → IfErr r (λ e. e ≡ WornOut → IsMoveWorn x s)
+  worn_move (Ok t) fits exact = tt
+  worn_move (Err e) fits exact = λ same. let why = subst (λ f. IsWhy f No Worn) same exact in (payload, fits, why.1)
 
 -- a refused read is neither 30 nor 35
 pub not_full : (r : Refusal) → IsReadRefusal r → r ≡ Full → ⊥
@@ -100,7 +94,7 @@ not_none a is = absurd (let wrong : Some a ≡ None = ap answer_of is in cc)
 
 module _ (s t : State) (x y : ExtentsState) (g h : GraphState) (e : ℕ) (live : LiveChunk) (Reads : Locator → List ℕ → Type 0) (first : FirstLive (index_of s) e (id_number live.id) live.chunk (place_of live.place)) where
   abbrev Found : Type 0
-  Found = (payload : List ℕ) × (to : Locator) × IsAppended x g ForMove (chunk_frame x payload) to y h
+  Found = (payload : List ℕ) × (to : Locator) × IsAppendedBy false x g ForMove (chunk_frame x payload) to y h
       × IsSet s (id_number live.id) (replaced (live_at (index_of s) (id_number live.id)) live.chunk (place_of to)) t × (to.mark ≡ live.place.mark)
       × Reads live.place payload
 
@@ -122,17 +116,17 @@ done_cause a b read t caused = record { later = caused.later; failed = λ is. ab
 
 -- an append is refused 30 exactly where there is no place, and 35 where there is one and a number would pass its greatest
 module _ (Placed : ℕ → Type 0) (Worn : Type 0) (has_place : Worn → (e : ℕ) × Placed e) where
-  abbrev Nowhere : Type 0
-  Nowhere = (e : ℕ) → Placed e → ⊥
+  abbrev None_there : Type 0
+  None_there = (e : ℕ) → Placed e → ⊥
 
-  pub append_why : {T : Type 0} (r : Result T Refusal) (place : T → ℕ) → (r ≡ Err Full) ↔ Nowhere → (r ≡ Err WornOut) ↔ Worn
-      → IfErr r (λ f. (f ≡ Full) ⊎ (f ≡ WornOut) ⊎ (f ≡ OutOfMemory)) → IfOk r (λ t. Placed (place t)) → IsExact r Nowhere Worn
+  pub append_why : {T : Type 0} (r : Result T Refusal) (place : T → ℕ) → (r ≡ Err Full) ↔ None_there → (r ≡ Err WornOut) ↔ Worn
+      → IfErr r (λ f. (f ≡ Full) ⊎ (f ≡ WornOut) ⊎ (f ≡ OutOfMemory)) → IfOk r (λ t. Placed (place t)) → IsExact r None_there Worn
   append_why (Ok t) place full worn refusals placed = ((λ none. none (place t) placed), (λ w. absurd (cc (worn.1 w))))
   append_why (Err f) place full worn refusals placed = ⊎_elim
-      (λ (is : f ≡ Full). subst (λ g. IsWhy g Nowhere Worn) (sym is) (full.0 (ap Err is)))
+      (λ (is : f ≡ Full). subst (λ g. IsWhy g None_there Worn) (sym is) (full.0 (ap Err is)))
       (λ (rest : (f ≡ WornOut) ⊎ (f ≡ OutOfMemory)). ⊎_elim
-      (λ (is : f ≡ WornOut). let why = worn.0 (ap Err is) in let there = has_place why in subst (λ g. IsWhy g Nowhere Worn) (sym is) ((λ none. none there.0 there.1), why))
-      (λ (is : f ≡ OutOfMemory). subst (λ g. IsWhy g Nowhere Worn) (sym is) tt)
+      (λ (is : f ≡ WornOut). let why = worn.0 (ap Err is) in let there = has_place why in subst (λ g. IsWhy g None_there Worn) (sym is) ((λ none. none there.0 there.1), why))
+      (λ (is : f ≡ OutOfMemory). subst (λ g. IsWhy g None_there Worn) (sym is) tt)
       rest)
       refusals
 
@@ -141,14 +135,6 @@ pub append_why_of : {T : Type 0} (Placed : ℕ → Type 0) (Worn : Type 0) → (
     → (r ≡ Err Full) ↔ ((e : ℕ) → Placed e → ⊥) → (r ≡ Err WornOut) ↔ Worn → IfErr r (λ f. (f ≡ Full) ⊎ (f ≡ WornOut) ⊎ (f ≡ OutOfMemory)) → IfOk r Given → IsExact r ((e : ℕ) → Placed e → ⊥) Worn
 append_why_of Placed Worn has_place (Ok t) place Given there full worn refusals given = append_why Placed Worn has_place (Ok t) place full worn refusals (there t given)
 append_why_of Placed Worn has_place (Err f) place Given there full worn refusals given = append_why Placed Worn has_place (Err f) place full worn refusals tt
-
--- the same, by a rule that is known to be this one
-pub append_why_by : {T : Type 0} (b apart : Bool) → b ≡ apart → (Placed : Bool → ℕ → Type 0) (Worn : Bool → Type 0) → ((a : Bool) → Worn a → (e : ℕ) × Placed a e)
-    → (r : Result T Refusal) (place : T → ℕ) (Given : Bool → T → Type 0) → ((a : Bool) (t : T) → Given a t → Placed a (place t))
-    → (r ≡ Err Full) ↔ ((e : ℕ) → Placed b e → ⊥) → (r ≡ Err WornOut) ↔ Worn b → IfErr r (λ f. (f ≡ Full) ⊎ (f ≡ WornOut) ⊎ (f ≡ OutOfMemory)) → IfOk r (Given b)
-    → IsExact r ((e : ℕ) → Placed apart e → ⊥) (Worn apart)
-append_why_by b apart rule Placed Worn has_place r place Given there full worn refusals given =
-    subst (λ (a : Bool). IsExact r ((e : ℕ) → Placed a e → ⊥) (Worn a)) rule (append_why_of (Placed b) (Worn b) (has_place b) r place (Given b) (there b) full worn refusals given)
 
 module _ (No Worn : Type 0) where
   why_refusal : (f : Refusal) → IsWhy f No Worn → (f ≡ Full) ⊎ (f ≡ WornOut) ⊎ (f ≡ OutOfMemory)

@@ -1,5 +1,5 @@
 -- A retired extent keeps the chunks of every shard.
-use Rattle.std.proofs.Common.{◌≡◌, ◌≢◌, ◌∙◌, inl, inr, ⊎_elim, ℕ, zero, suc, ◌+◌, ◌<◌, Bool, List, [], ◌∷◌, ◌++◌, Some, length, map, slice_get, refl, sym, ap, subst}
+use Rattle.std.proofs.Common.{◌≡◌, ◌≢◌, ◌∙◌, inl, inr, ⊎_elim, ℕ, zero, suc, ◌+◌, ◌<◌, Bool, false, List, [], ◌∷◌, ◌++◌, Some, length, map, slice_get, refl, sym, ap, subst}
 use Rattle.std.specs.Prelude.{reverse}
 use Rattle.std.proofs.lemmas.Option.{same_Some, some_pair_parts}
 use Rattle.cs_chunk.proofs.Appends.{HasWrites, has_writes}
@@ -21,7 +21,7 @@ use Rattle.cs_extent.specs.Frames.{root_family}
 use Rattle.cs_extent.specs.State.{IsWhole as IsWholeExtents, State as ExtentsState, extents_of, shape}
 use Rattle.cs_frame.specs.declared.locators.Locator.{Locator}
 use Rattle.cs_frame.specs.Formats.{as_locator, formats_of}
-use Rattle.cs_index.specs.Staged.{IsRootOver, IsRunAppended, run_frame}
+use Rattle.cs_index.specs.Staged.{IsRootOver, IsRunAppendedBy, run_frame}
 use Rattle.cs_index.specs.State.{State as IndexState, index_of}
 use Rattle.law_machine.specs.Device.{Shape}
 use Rattle.law_machine.specs.Element.{Entry, Locator as Place}
@@ -112,7 +112,7 @@ module _ (s t : IndexState) (x y : ExtentsState) (g h : Graph) (e v commands : �
   are = under_root x.format (pages_first_in x.format) between h v commands over retired.1.root (has_writes h kept) image now after
 
   abbrev SomeRun : Type 0
-  SomeRun = (entries : List Entry) × (place : Place) × (entries ≢ []) × IsMergedRun (index_of s) entries × IsRunAppended x g ForMove entries place mid between
+  SomeRun = (entries : List Entry) × (place : Place) × (entries ≢ []) × IsMergedRun (index_of s) entries × IsRunAppendedBy false x g ForMove entries place mid between
       × (t.runs ≡ record { place = place; entries = entries } ∷ [])
 
   abbrev NoRun : Type 0

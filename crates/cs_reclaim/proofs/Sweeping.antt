@@ -8,11 +8,11 @@ use Rattle.cs_deps.specs.Named.{Named}
 use Rattle.cs_deps.specs.Staging.{IsVersionStaged, Staging}
 use Rattle.cs_deps.specs.State.{State as GraphState}
 use Rattle.cs_extent.proofs.Fitting.{with_other}
-use Rattle.cs_extent.specs.Appended.{IsAppended}
+use Rattle.cs_extent.specs.Appended.{IsAppendedBy}
 use Rattle.cs_extent.specs.Frames.{AreResetsStaged, root_family}
 use Rattle.cs_extent.specs.State.{State as ExtentsState, extents_of, shape}
 use Rattle.cs_frame.specs.declared.locators.Locator.{Locator}
-use Rattle.cs_index.specs.Staged.{IsMergeStaged, IsRunAppended}
+use Rattle.cs_index.specs.Staged.{IsMergeStaged, IsRunAppendedBy}
 use Rattle.cs_index.specs.State.{State, index_of}
 use Rattle.law_machine.specs.Device.{Shape}
 use Rattle.law_machine.specs.Element.{Entry, Locator as Place}
@@ -53,7 +53,7 @@ taken_stays S x e d k purpose swept placed =
     }
 
 -- an append leaves a swept extent as it is
-module _ (x y : ExtentsState) (g h : GraphState) (reason : Purpose) (frame : List (List ℕ)) (l : Locator) (e : ℕ) (a : IsAppended x g reason frame l y h) (swept : IsSwept (shape x) (extents_of x) e) where
+module _ (x y : ExtentsState) (g h : GraphState) (reason : Purpose) (frame : List (List ℕ)) (l : Locator) (e : ℕ) (a : IsAppendedBy false x g reason frame l y h) (swept : IsSwept (shape x) (extents_of x) e) where
   pub append_stays : IsSwept (shape x) (extents_of y) e
   append_stays = subst (λ (z : Extents). IsSwept (shape x) z e) (sym a.extents) (taken_stays (shape x) (extents_of x) e l.extent (length frame) reason swept a.placed)
 
@@ -66,7 +66,7 @@ module _ (x y : ExtentsState) (g h : GraphState) (reason : Purpose) (frame : Lis
 -- so does the merged run
 module _ (s : State) (x : ExtentsState) (g : GraphState) (reason : Purpose) (v commands : ℕ) (t : State) (y : ExtentsState) (h : GraphState) (e : ℕ) (m : IsMergeStaged s x g reason v commands t y h) where
   abbrev Appended : Type 0
-  Appended = (entries : List Entry) × (place : Place) × (entries ≢ []) × IsMergedRun (index_of s) entries × IsRunAppended x g reason entries place y m.between
+  Appended = (entries : List Entry) × (place : Place) × (entries ≢ []) × IsMergedRun (index_of s) entries × IsRunAppendedBy false x g reason entries place y m.between
       × (t.runs ≡ record { place = place; entries = entries } ∷ [])
 
   abbrev Nothing : Type 0

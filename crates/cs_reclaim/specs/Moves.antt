@@ -5,7 +5,7 @@ use Rattle.cs_refusal.specs.declared.refusals.Refusal.{Refusal}
 use Rattle.cs_refusal.specs.declared.refusals.Refusal.TheVariants.{Full, WornOut}
 use Rattle.cs_deps.specs.Staging.{Staging}
 use Rattle.cs_deps.specs.State.{State as GraphState}
-use Rattle.cs_extent.specs.Appended.{IsAppended}
+use Rattle.cs_extent.specs.Appended.{IsAppendedBy}
 use Rattle.cs_extent.specs.State.{State as ExtentsState, extents_of, shape}
 use Rattle.cs_extent.specs.Worn.{IsFrameWornBy}
 use Rattle.cs_frame.specs.declared.faults.FormatFault.{FormatFault}
@@ -29,7 +29,7 @@ pub record IsMoved (s : State) (x : ExtentsState) (g : GraphState) (e id chunk :
   pub from : Place
   pub to : Locator
   pub first : FirstLive (index_of s) e id chunk from
-  pub appended : IsAppended x g ForMove (chunk_frame x payload) to y h
+  pub appended : IsAppendedBy false x g ForMove (chunk_frame x payload) to y h
   pub mark : to.mark ≡ from.mark
   pub entry : IsSet s id (replaced (live_at (index_of s) id) chunk (place_of to)) t
 
@@ -43,19 +43,23 @@ AnswersMove found result = MatchResult result (λ _. found ≡ None)
 abbrev pub NowhereBy : (apart : Bool) → ExtentsState → (pages : ℕ) → Type 0
 NowhereBy apart x pages = (e : ℕ) → Goes (shape x) apart (extents_of x) ForMove pages e → ⊥
 
+-- so by the extents' own rule, here and below
+abbrev pub Nowhere : ExtentsState → (pages : ℕ) → Type 0
+Nowhere x pages = NowhereBy (shape x).apart x pages
+
 -- no extent takes the frame of some payload, for whose pages an extent has enough
 abbrev pub IsMoveFullBy : (apart : Bool) → ExtentsState → Type 0
 IsMoveFullBy apart x = (payload : List ℕ) × (length (chunk_frame x payload) ≤ x.pages) × NowhereBy apart x (length (chunk_frame x payload))
 
 abbrev pub IsMoveFull : ExtentsState → Type 0
-IsMoveFull x = IsMoveFullBy false x
+IsMoveFull x = IsMoveFullBy (shape x).apart x
 
 -- an extent takes the frame of some payload, and a number would pass its greatest
 abbrev pub IsMoveWornBy : (apart : Bool) → ExtentsState → Staging → Type 0
 IsMoveWornBy apart x s = (payload : List ℕ) × (length (chunk_frame x payload) ≤ x.pages) × IsFrameWornBy apart x ForMove s (length (chunk_frame x payload))
 
 abbrev pub IsMoveWorn : ExtentsState → Staging → Type 0
-IsMoveWorn x s = IsMoveWornBy false x s
+IsMoveWorn x s = IsMoveWornBy (shape x).apart x s
 
 -- a chunk of this payload is moved exactly where there is a place and there are numbers for its frame, unless the device
 -- or memory refuses
@@ -65,4 +69,4 @@ AnswersPlaceBy apart x s payload result =
     (λ r. IsNoAnswer r ⊎ IsWhy r (NowhereBy apart x (length (chunk_frame x payload))) (IsFrameWornBy apart x ForMove s (length (chunk_frame x payload))))
 
 abbrev pub AnswersPlace : {T : Type 0} → ExtentsState → Staging → (payload : List ℕ) → Result T Refusal → Type 0
-AnswersPlace x s payload result = AnswersPlaceBy false x s payload result
+AnswersPlace x s payload result = AnswersPlaceBy (shape x).apart x s payload result

@@ -20,3 +20,11 @@ pub record IsSweptApart (S : Shape) (x : Extents) (e : ℕ) : Type 0 where
   pub marked : x.swept e ≡ true
   pub written : 0 < x.pointer e
   pub of_chunks : x.of_runs e ≡ false
+
+-- an extent that is there and marked as being swept
+abbrev pub IsMarked : Shape → Extents → ℕ → Type 0
+IsMarked S x e = (e < S.extents) × (x.swept e ≡ true)
+
+-- one that isn't
+abbrev pub IsNotMarked : Shape → Extents → ℕ → Type 0
+IsNotMarked S x e = (S.extents ≤ e) ⊎ (x.swept e ≡ false)

@@ -8,14 +8,16 @@
 #![tactic(auto)]
 
 mod copies;
-mod copy_laws;
+mod moves;
 mod roots;
 mod sweep_laws;
 mod sweeps;
 mod sweeps_v2;
 
-pub use copy_laws::{a_sweep_apart_keeps_every_shard, a_swept_extent_stays_apart, copies_stay};
 pub use roots::{free_blank, is_any_swept};
-pub use sweep_laws::{a_sweep_keeps_every_shard, a_swept_extent_stays, moves_keep_marks};
+pub use sweep_laws::{
+    a_sweep_apart_keeps_every_shard, a_sweep_keeps_every_shard, a_swept_extent_stays,
+    a_swept_extent_stays_apart, copies_stay, moves_keep_marks,
+};
 pub use sweeps::Sweeps;
 pub use sweeps_v2::{Sweep, is_sweepable};

@@ -1,11 +1,11 @@
 //! The sweeps of a store: what lives on an extent goes elsewhere chunk by chunk, and then the extent is emptied.
-ghost use Rattle.std.specs.Prelude.{◌≡◌, ◌↔◌, ◌⊎◌, ◌+◌, ◌*◌, ◌<◌, ◌≤◌, ◌^◌, ℕ, List, [], IfErr, IfOk, IsTrue, None, OnErr, OnOk, Some, false, length, option_map, true};
+ghost use Rattle.std.specs.Prelude.{◌≡◌, ◌↔◌, ◌⊎◌, ◌+◌, ◌*◌, ◌<◌, ◌≤◌, ◌^◌, ℕ, List, [], IfErr, IfOk, IsTrue, MatchBool, None, OnErr, OnOk, Some, false, length, option_map, true};
 ghost use Rattle.cs_chunk.specs.Chunks.{IsFrameIn};
 ghost use Rattle.cs_chunk.specs.Newest.{AreNewest};
 ghost use Rattle.cs_chunk.specs.Reads.{IsCaused, IsReadRefusal, fault_in};
 ghost use Rattle.cs_disk.specs.Disk.{seen};
 ghost use Rattle.cs_disk.specs.Reads.{OnlyReads};
-ghost use Rattle.cs_extent.specs.Frames.{AreResetsStaged};
+ghost use Rattle.cs_extent.specs.Appended.{IsReady};
 ghost use Rattle.cs_extent.specs.State.{extents_of, shape};
 ghost use Rattle.cs_frame.specs.declared.frames.FrameKind.TheVariants.{Chunk};
 ghost use Rattle.cs_frame.specs.Formats.{as_locator};
@@ -14,14 +14,16 @@ ghost use Rattle.cs_index.specs.Merges.{deletions_go, stage_takes};
 ghost use Rattle.cs_index.specs.Staged.{IsExact};
 ghost use Rattle.cs_index.specs.State.{id_number, index_of};
 ghost use Rattle.law_machine.specs.Element.{Locator as Place};
+ghost use Rattle.law_machine.specs.Extents.{marked};
 ghost use Rattle.law_machine.specs.Formats.{ChunkFrame};
 ghost use Rattle.law_machine.specs.Index.{live_at, lookup};
 ghost use Rattle.law_machine.specs.Lists.{◌∈◌};
-ghost use Rattle.cs_reclaim.specs.ByRule.{IsBegunBy, IsMovedBy, IsNextBy, IsRetireExactBy, IsRetiredBy, IsSweepStageFullBy, IsSweepStageWornBy, IsSweepStagedBy, IsSweptBy, MayNotBeginBy, MayStageBy, NothingToMoveBy, StaysBy, is_left_over_by};
+ghost use Rattle.cs_reclaim.specs.ByRule.{IsBegunIn, IsMovedIn, IsNextIn, IsRetireExactIn, IsRetiredIn, IsSweepFullIn, IsSweepStagedIn, IsSweepWornIn, IsSweptIn, MayNotBeginIn, MayStageIn, NothingToMoveIn, StaysIn, is_left_over_in};
 ghost use Rattle.cs_reclaim.specs.Copied.{AllUpTo, AreInOrder, last_of};
-ghost use Rattle.cs_reclaim.specs.Moves.{AnswersMove, AnswersPlaceBy, IsMoveFullBy, IsMoveWornBy};
+ghost use Rattle.cs_reclaim.specs.Moves.{AnswersMove, AnswersPlace, IsMoveFull, IsMoveWorn};
+ghost use Rattle.cs_reclaim.specs.Sweeps.{IsMarked, IsNotMarked};
 
-use crate::roots::both;
+use crate::roots::is_any_swept;
 use crate::sweeps_v2::{Sweep, is_sweepable, retire_extent};
 use cs_deps::Graph;
 use cs_disk::PageDisk;
@@ -39,7 +41,7 @@ use std::marker::Model;
 #[derive(Debug, Drop)]
 pub struct Sweeps {
     /// Oldest first.
-    pub(crate) made: Vec<ChunkCopy>,
+    pub(crate) copies: Vec<ChunkCopy>,
 }
 
 impl Model for Sweeps {
@@ -50,9 +52,9 @@ impl Model for Sweeps {
 
     ghost Value = { List Copy };
 
-    ghost view = { λ x. newest_copies x.made.items };
+    ghost view = { λ x. newest_copies x.copies.items };
 
-    ghost invariant = { λ x. AllByRecursion (λ c. c.chunk < 8) x.made.items };
+    ghost invariant = { λ x. AllByRecursion (λ c. c.chunk < 8) x.copies.items };
 }
 
 impl Sweeps {
@@ -61,7 +63,7 @@ impl Sweeps {
         ensures { result ≡ [] }
     {
         Sweeps {
-            made: Vec::new(alloc),
+            copies: Vec::new(alloc),
         }
     }
 
@@ -69,21 +71,21 @@ impl Sweeps {
     pub fn is_empty(&self) -> bool
         ensures { IsTrue result ↔ (self.now ≡ []) }
     {
-        self.made.is_empty()
+        self.copies.is_empty()
     }
 
     /// How many copies are noted.
     pub fn len(&self) -> usize
         ensures { result ≡ length self.now }
     {
-        self.made.len()
+        self.copies.len()
     }
 
     /// Which chunk was copied last, by identifier and number, counted from 0.
     pub fn last(&self) -> Option<(ShardId, usize)>
         ensures { option_map numbered result ≡ last_of self.now }
     {
-        match self.made.last() {
+        match self.copies.last() {
             Some(copy) => Some((copy.id, copy.chunk)),
             None => None,
         }
@@ -94,33 +96,62 @@ impl Sweeps {
     ///
     /// 33 `NotSweepable` if the sweep may not begin, as `may_begin` has it.
     pub fn begin(&self, extents: &mut Extents, extent: usize) -> Result<(), Refusal>
-        ensures begun { OnOk result (IsBegunBy (shape extents.old).apart (shape extents.old) (extents_of extents.old) self.now extent (extents_of extents.new)) }
-        ensures swept { OnOk result (IsSweptBy (shape extents.new).apart (shape extents.new) (extents_of extents.new) extent) }
+        ensures begun { OnOk result (IsBegunIn extents.old self.now extent extents.new) }
+        ensures swept { OnOk result (IsSweptIn extents.new extent) }
         ensures shape { shape extents.new ≡ shape extents.old }
-        ensures refused { (result ≡ Err Refusal.NotSweepable) ↔ MayNotBeginBy (shape extents.old).apart (shape extents.old) (extents_of extents.old) self.now extent }
+        ensures refused { (result ≡ Err Refusal.NotSweepable) ↔ MayNotBeginIn extents.old self.now extent }
         ensures refusals { IfErr result (λ r. r ≡ Refusal.NotSweepable) }
         ensures same { OnErr result (extents.new ≡ extents.old) }
     {
+        if !self.may_begin(extents, extent) {
+            return Err(Refusal::NotSweepable);
+        }
+        extents.set_swept(extent, true);
         if extents.is_apart() {
-            return self.begin_copying(extents, extent);
+            extents.set_aside(extent);
         }
-        match Sweep::begin(extents, extent) {
-            Ok(_) => Ok(()),
-            Err(refusal) => Err(refusal),
-        }
+        Ok(())
     }
 
     /// Whether a sweep of an extent may begin: no other goes on or left copies, and the extent is there, isn't empty and holds chunks.
     /// Costs a pass over the extents. In the older formats: the extent is there, and neither open, empty nor being swept.
     pub fn may_begin(&self, extents: &Extents, extent: usize) -> bool
-        ensures may { IsTrue result → ¬ MayNotBeginBy (shape extents.now).apart (shape extents.now) (extents_of extents.now) self.now extent }
-        ensures not { ¬ (IsTrue result) → MayNotBeginBy (shape extents.now).apart (shape extents.now) (extents_of extents.now) self.now extent }
+        ensures may { IsTrue result → ¬ MayNotBeginIn extents.now self.now extent }
+        ensures not { ¬ (IsTrue result) → MayNotBeginIn extents.now self.now extent }
     {
-        if extents.is_apart() {
-            self.may_begin_copying(extents, extent)
-        } else {
-            is_sweepable(extents, extent)
+        if !extents.is_apart() {
+            return is_sweepable(extents, extent);
         }
+        self.is_empty()
+            && extent < extents.extent_count()
+            && extents.pointer(extent) > 0
+            && !extents.holds_runs(extent)
+            && !is_any_swept(extents)
+    }
+
+    /// Whether an extent is being swept.
+    pub fn is_swept(&self, extents: &Extents, extent: usize) -> bool
+        ensures { MatchBool result (IsMarked (shape extents.now) (extents_of extents.now) extent) (IsNotMarked (shape extents.now) (extents_of extents.now) extent) }
+    {
+        extent < extents.extent_count() && extents.is_swept(extent)
+    }
+
+    /// Gives the sweep of an extent up: what was moved in the older formats stays where it is now, and what was copied in format 3 is left
+    /// over until the next root.
+    ///
+    /// 33 `NotSweepable` if the extent isn't being swept.
+    pub fn abandon(&self, extents: &mut Extents, extent: usize) -> Result<(), Refusal>
+        ensures marked { OnOk result (IsMarked (shape extents.old) (extents_of extents.old) extent) }
+        ensures ended { OnOk result (extents_of extents.new ≡ marked (extents_of extents.old) extent false) }
+        ensures refused { IfErr result (λ r. (r ≡ Refusal.NotSweepable) × IsNotMarked (shape extents.old) (extents_of extents.old) extent) }
+        ensures same { OnErr result (extents.new ≡ extents.old) }
+        ensures shape { shape extents.new ≡ shape extents.old }
+    {
+        if !self.is_swept(extents, extent) {
+            return Err(Refusal::NotSweepable);
+        }
+        extents.set_swept(extent, false);
+        Ok(())
     }
 
     /// Moves the next chunk off an extent, by identifier and then by chunk: appends a frame of the same bytes with `Purpose::Move`.
@@ -140,45 +171,43 @@ impl Sweeps {
         graph: &mut Graph,
         disk: &mut D,
     ) -> Result<Option<(ShardId, usize)>, Refusal>
-        requires swept { IsSweptBy (shape extents.old).apart (shape extents.old) (extents_of extents.old) extent }
+        requires swept { IsSweptIn extents.old extent }
         requires order { (shape extents.old).apart ≡ true → AreInOrder self.old }
         requires up_to { (shape extents.old).apart ≡ true → AllUpTo (index_of index.old) self.old extent }
         requires format { index.old.format ≡ (shape extents.old).format }
         requires there { (id : ℕ) (l : Place) → l ∈ live_at (index_of index.old) id → (l.extent < (shape extents.old).extents) × (l.page < (shape extents.old).pages) }
         requires device { 2 + (shape extents.old).extents * (shape extents.old).pages ≤ D.page_count disk.old }
-        requires families { length graph.old.staging.latest ≡ 1 + (shape extents.old).sections }
-        requires resets { AreResetsStaged (extents_of extents.old) graph.old.staging }
+        requires ready { IsReady extents.old graph.old.staging }
 
         // Nothing is moved exactly where nothing is left to move, and then nothing changes.
-        ensures none { (result ≡ Ok None) ↔ NothingToMoveBy (shape extents.old).apart (index_of index.old) self.old extent }
+        ensures none { (result ≡ Ok None) ↔ NothingToMoveIn extents.old (index_of index.old) self.old extent }
         ensures unchanged { result ≡ Ok None → (self.new ≡ self.old) × (index.new ≡ index.old) × (extents.new ≡ extents.old) × (graph.new ≡ graph.old) × (disk.new ≡ disk.old) }
 
         // Else the next chunk is moved, byte for byte.
         ensures moved { (id : ShardId) (chunk : ℕ) → result ≡ Ok (Some (id, chunk)) → (payload : List ℕ) × (from : Place)
-            × IsMovedBy (shape extents.old).apart index.old extents.old graph.old self.old extent (id_number id) chunk from payload index.new extents.new graph.new self.new
+            × IsMovedIn index.old extents.old graph.old self.old extent (id_number id) chunk from payload index.new extents.new graph.new self.new
             × (D.honest disk.old → (view : ℕ → List ℕ) → AreNewest graph.old (seen (D.state disk.old)) view → IsFrameIn extents.old view ChunkFrame (as_locator from) payload) }
 
         // The refusals of a frame are those of the next chunk's, and the others come where it has no fault.
         ensures damaged { D.honest disk.old → (view : ℕ → List ℕ) → AreNewest graph.old (seen (D.state disk.old)) view
-            → (id chunk : ℕ) (from : Place) → IsNextBy (shape extents.old).apart (index_of index.old) self.old extent id chunk from → AnswersMove (fault_in extents.old view Chunk (as_locator from)) result }
+            → (id chunk : ℕ) (from : Place) → IsNextIn extents.old (index_of index.old) self.old extent id chunk from → AnswersMove (fault_in extents.old view Chunk (as_locator from)) result }
         ensures why { D.honest disk.old → (view : ℕ → List ℕ) → AreNewest graph.old (seen (D.state disk.old)) view
-            → (id chunk : ℕ) (from : Place) (payload : List ℕ) → IsNextBy (shape extents.old).apart (index_of index.old) self.old extent id chunk from
-            → IsFrameIn extents.old view ChunkFrame (as_locator from) payload → AnswersPlaceBy (shape extents.old).apart extents.old graph.old.staging payload result }
-        // Whatever the disk answers, 30 and 35 come only where the frame of some payload finds no place, or no numbers.
-        ensures full { IfErr result (λ r. r ≡ Refusal.Full → IsMoveFullBy (shape extents.old).apart extents.old) }
-        ensures worn { IfErr result (λ r. r ≡ Refusal.WornOut → IsMoveWornBy (shape extents.old).apart extents.old graph.old.staging) }
+            → (id chunk : ℕ) (from : Place) (payload : List ℕ) → IsNextIn extents.old (index_of index.old) self.old extent id chunk from
+            → IsFrameIn extents.old view ChunkFrame (as_locator from) payload → AnswersPlace extents.old graph.old.staging payload result }
+        // Whatever the device returns, 30 and 35 come only where the frame of some payload finds no place, or no numbers.
+        ensures full { IfErr result (λ r. r ≡ Refusal.Full → IsMoveFull extents.old) }
+        ensures worn { IfErr result (λ r. r ≡ Refusal.WornOut → IsMoveWorn extents.old graph.old.staging) }
         ensures refusals { IfErr result (λ r. IsReadRefusal r ⊎ (r ≡ Refusal.Full) ⊎ (r ≡ Refusal.WornOut)) }
-        ensures refused { OnErr result (StaysBy (shape extents.old).apart index.old index.new) }
+        ensures refused { OnErr result (StaysIn extents.old index.old index.new) }
         ensures kept { OnErr result (self.new ≡ self.old) }
         ensures unwritten { OnErr result (extents.new ≡ extents.old) }
         ensures unstaged { OnErr result (graph.new ≡ record graph.old { room = graph.new.room }) }
 
         // Whatever the answer, the sweep goes on, and the next append may be made.
-        ensures still { IsSweptBy (shape extents.new).apart (shape extents.new) (extents_of extents.new) extent }
+        ensures still { IsSweptIn extents.new extent }
         ensures order { (shape extents.old).apart ≡ true → AreInOrder self.new }
         ensures up_to { (shape extents.old).apart ≡ true → AllUpTo (index_of index.new) self.new extent }
-        ensures resets { AreResetsStaged (extents_of extents.new) graph.new.staging }
-        ensures families { length graph.new.staging.latest ≡ length graph.old.staging.latest }
+        ensures ready { IsReady extents.new graph.new.staging }
         ensures shape { shape extents.new ≡ shape extents.old }
         ensures format { index.new.format ≡ index.old.format }
         ensures limit { index.new.limit ≡ index.old.limit }
@@ -187,18 +216,17 @@ impl Sweeps {
         ensures disk { OnlyReads D.PageDisk disk.old disk.new }
         ensures cause { IsCaused (D.failure_count disk.old) (D.failure_count disk.new) result }
     {
-        if extents.is_apart() {
-            self.copy_one(alloc, extent, index, extents, graph, disk)
-        } else {
+        if !extents.is_apart() {
             let sweep = Sweep { extent };
-            sweep.move_one(alloc, index, extents, graph, disk)
+            return sweep.move_one(alloc, index, extents, graph, disk);
         }
+        self.copy_one(alloc, extent, index, extents, graph, disk)
     }
 
     /// Retires an extent that is swept, on which nothing is left to move: it isn't being swept any more, a root is staged, and the extent is
     /// emptied under it. Returns the root's version. `commands` is how many puts and deletes the root includes.
     ///
-    /// In format 3 what was copied counts, where the chunk still lies where it was copied from, the root is staged as by `stage`, and no
+    /// In format 3 what was copied counts, if the chunk still lies where it was copied from, the root is staged as by `stage`, and no
     /// copy is noted after it. The extent is emptied with the other blank ones. In the older formats one run of all that is live is staged
     /// with `Purpose::Move`, and the root over it.
     ///
@@ -213,24 +241,23 @@ impl Sweeps {
         graph: &mut Graph,
         commands: u64,
     ) -> Result<u64, Refusal>
-        requires swept { IsSweptBy (shape extents.old).apart (shape extents.old) (extents_of extents.old) extent }
+        requires swept { IsSweptIn extents.old extent }
         requires order { (shape extents.old).apart ≡ true → AreInOrder self.old }
         requires up_to { (shape extents.old).apart ≡ true → AllUpTo (index_of index.old) self.old extent }
         requires runs { (shape extents.old).apart ≡ true → length index.old.runs ≤ (shape extents.old).most_runs }
         requires format { index.old.format ≡ (shape extents.old).format }
         requires limit { index.old.limit ≡ (shape extents.old).most_weight }
-        requires families { length graph.old.staging.latest ≡ 1 + (shape extents.old).sections }
-        requires resets { AreResetsStaged (extents_of extents.old) graph.old.staging }
+        requires ready { IsReady extents.old graph.old.staging }
         requires commands { commands < 2 ^ 63 }
-        ensures retired { IfOk result (λ v. IsRetiredBy (shape extents.old).apart index.old extents.old graph.old self.old extent v commands index.new extents.new graph.new self.new) }
+        ensures retired { IfOk result (λ v. IsRetiredIn index.old extents.old graph.old self.old extent v commands index.new extents.new graph.new self.new) }
 
-        // Where no copy is to count the map stays.
+        // If no copy is to count, the map stays.
         ensures map { (shape extents.old).apart ≡ false → (id : ℕ) → live_at (index_of index.new) id ≡ live_at (index_of index.old) id }
 
         // Which refusal comes, and 9 may come instead of the others.
-        ensures all { OnOk result (NothingToMoveBy (shape extents.old).apart (index_of index.old) self.old extent) }
-        ensures left { (result ≡ Err Refusal.StillLive) ↔ ¬ NothingToMoveBy (shape extents.old).apart (index_of index.old) self.old extent }
-        ensures why { NothingToMoveBy (shape extents.old).apart (index_of index.old) self.old extent → IsRetireExactBy (shape extents.old).apart result index.old extents.old graph.old self.old extent }
+        ensures all { OnOk result (NothingToMoveIn extents.old (index_of index.old) self.old extent) }
+        ensures left { (result ≡ Err Refusal.StillLive) ↔ ¬ NothingToMoveIn extents.old (index_of index.old) self.old extent }
+        ensures why { NothingToMoveIn extents.old (index_of index.old) self.old extent → IsRetireExactIn result index.old extents.old graph.old self.old extent }
         ensures refusals { IfErr result (λ r. (r ≡ Refusal.StillLive) ⊎ (r ≡ Refusal.Full) ⊎ (r ≡ Refusal.WornOut) ⊎ (r ≡ Refusal.OutOfMemory)) }
         ensures refused { OnErr result (index.new ≡ index.old) }
         ensures kept { OnErr result (self.new ≡ self.old) }
@@ -238,23 +265,21 @@ impl Sweeps {
         ensures unstaged { OnErr result (graph.new ≡ record graph.old { room = graph.new.room }) }
 
         // Whatever the answer, the next append may be made.
-        ensures resets { AreResetsStaged (extents_of extents.new) graph.new.staging }
-        ensures families { length graph.new.staging.latest ≡ length graph.old.staging.latest }
+        ensures ready { IsReady extents.new graph.new.staging }
         ensures shape { shape extents.new ≡ shape extents.old }
         ensures format { index.new.format ≡ index.old.format }
         ensures limit { index.new.limit ≡ index.old.limit }
     {
-        if extents.is_apart() {
-            self.retire_copied(extent, index, extents, graph, commands)
-        } else {
-            retire_extent(extent, index, extents, graph, commands)
+        if !extents.is_apart() {
+            return retire_extent(extent, index, extents, graph, commands);
         }
+        self.retire_copied(extent, index, extents, graph, commands)
     }
 
     /// Stages the table and as many of the newest runs as a Stage merges as one run, and the root over what stands then. `commands` is how
     /// many puts and deletes the root includes. Returns the version of the root, or None if there is nothing to stage: then nothing changes.
     ///
-    /// In format 3 all become one run if that of the newest goes nowhere. If the table is empty a root alone is staged where copies of a
+    /// In format 3 all become one run if that of the newest goes nowhere. If the table is empty a root alone is staged if copies of a
     /// sweep that was given up are noted. If no sweep is unfinished no copy is noted after it, and blank extents are emptied under the root.
     ///
     /// 30 `Full` if no extent takes a run, then 35 `WornOut` if a number would pass 2^63 - 1; 9 `OutOfMemory` may
@@ -269,43 +294,59 @@ impl Sweeps {
         requires runs { (shape extents.old).apart ≡ true → length index.old.runs ≤ (shape extents.old).most_runs }
         requires format { index.old.format ≡ (shape extents.old).format }
         requires limit { index.old.limit ≡ (shape extents.old).most_weight }
-        requires families { length graph.old.staging.latest ≡ 1 + (shape extents.old).sections }
-        requires resets { AreResetsStaged (extents_of extents.old) graph.old.staging }
+        requires ready { IsReady extents.old graph.old.staging }
         requires commands { commands < 2 ^ 63 }
 
         // What is staged.
-        ensures none { IfOk result (λ staged. (staged ≡ None) ↔ ¬ MayStageBy (shape extents.old).apart (shape extents.old) (extents_of extents.old) index.old self.old) }
+        ensures none { IfOk result (λ staged. (staged ≡ None) ↔ ¬ MayStageIn extents.old index.old self.old) }
         ensures unchanged { result ≡ Ok None → (self.new ≡ self.old) × (index.new ≡ index.old) × (extents.new ≡ extents.old) × (graph.new ≡ graph.old) }
-        ensures staged { (v : ℕ) → result ≡ Ok (Some v) → IsSweepStagedBy (shape extents.old).apart index.old extents.old graph.old self.old v commands index.new extents.new graph.new self.new }
+        ensures staged { (v : ℕ) → result ≡ Ok (Some v) → IsSweepStagedIn index.old extents.old graph.old self.old v commands index.new extents.new graph.new self.new }
 
-        // The map stays: where kinds share extents every entry if no merge takes deletions away, and all that is live in any case.
+        // The map stays: in the older formats every entry if no merge takes deletions away, and all that is live in any case.
         ensures lookups { (shape extents.old).apart ≡ false → deletions_go (shape extents.old) index.old (stage_takes (shape extents.old) index.old) ≡ false → (id : ℕ) → lookup id (index_of index.new) ≡ lookup id (index_of index.old) }
         ensures map { (id : ℕ) → live_at (index_of index.new) id ≡ live_at (index_of index.old) id }
 
         // Whatever the answer, the next append may be made.
-        ensures resets { AreResetsStaged (extents_of extents.new) graph.new.staging }
-        ensures families { length graph.new.staging.latest ≡ length graph.old.staging.latest }
+        ensures ready { IsReady extents.new graph.new.staging }
         ensures shape { shape extents.new ≡ shape extents.old }
         ensures format { index.new.format ≡ index.old.format }
         ensures limit { index.new.limit ≡ index.old.limit }
 
-        ensures why { IsExact result (IsSweepStageFullBy (shape extents.old).apart index.old extents.old self.old) (IsSweepStageWornBy (shape extents.old).apart index.old extents.old graph.old.staging self.old) }
+        ensures why { IsExact result (IsSweepFullIn index.old extents.old self.old) (IsSweepWornIn index.old extents.old graph.old.staging self.old) }
         ensures refused { OnErr result (index.new ≡ index.old) }
         ensures kept { OnErr result (self.new ≡ self.old) }
         ensures unwritten { OnErr result (extents.new ≡ extents.old) }
         ensures unstaged { OnErr result (graph.new ≡ record graph.old { room = graph.new.room }) }
     {
-        if extents.is_apart() {
-            self.stage_if_any(index, extents, graph, commands)
-        } else {
-            index.stage(extents, graph, commands)
+        if !self.may_stage(index, extents) {
+            return Ok(None);
+        }
+        if !extents.is_apart() {
+            return match index.stage_v2(extents, graph, commands) {
+                Ok(root) => Ok(Some(root)),
+                Err(refusal) => Err(refusal),
+            };
+        }
+        match index.stage_root(extents, graph, commands) {
+            Ok(root) => {
+                self.end_root(index, extents, root);
+                Ok(Some(root))
+            }
+            Err(refusal) => Err(refusal),
         }
     }
 
     /// Whether copies of a sweep that was given up are noted still. In the older formats none are.
     pub fn are_left_over(&self, extents: &Extents) -> bool
-        ensures { result ≡ is_left_over_by (shape extents.now).apart (shape extents.now) (extents_of extents.now) self.now }
+        ensures { result ≡ is_left_over_in extents.now self.now }
     {
-        both(extents.is_apart(), self.are_idle(extents))
+        extents.is_apart() && !self.is_empty() && !is_any_swept(extents)
+    }
+
+    /// Whether there is something to stage a root for.
+    fn may_stage(&self, index: &Index, extents: &Extents) -> bool
+        ensures { IsTrue result ↔ MayStageIn extents.now index.now self.now }
+    {
+        !index.is_table_empty() || self.are_left_over(extents)
     }
 }

@@ -5,33 +5,30 @@ ghost use Rattle.cs_chunk.specs.Newest.{AreNewest};
 ghost use Rattle.cs_chunk.specs.Reads.{IsCaused, IsReadRefusal, fault_in};
 ghost use Rattle.cs_disk.specs.Disk.{seen};
 ghost use Rattle.cs_disk.specs.Reads.{OnlyReads};
-ghost use Rattle.cs_extent.specs.Appended.{IsAppended};
-ghost use Rattle.cs_extent.specs.Frames.{AreResetsStaged};
+ghost use Rattle.cs_extent.specs.Appended.{IsReady};
 ghost use Rattle.cs_extent.specs.State.{extents_of, shape};
-ghost use Rattle.cs_extent.specs.Worn.{IsFrameWorn};
 ghost use Rattle.cs_frame.specs.declared.frames.FrameKind.TheVariants.{Chunk};
-ghost use Rattle.cs_frame.specs.declared.locators.Locator.{Locator as Spot};
 ghost use Rattle.cs_frame.specs.Formats.{as_locator, place_of};
 ghost use Rattle.cs_frame.specs.Locators.{KeepFormat};
 ghost use Rattle.cs_index.specs.Staged.{IsExact, IsWhy};
 ghost use Rattle.cs_index.specs.State.{IsSet, id_number, index_of};
 ghost use Rattle.law_machine.specs.Element.{Locator as Place};
-ghost use Rattle.law_machine.specs.Extents.{ForMove, NoPlace, marked};
+ghost use Rattle.law_machine.specs.Extents.{marked};
 ghost use Rattle.law_machine.specs.Formats.{ChunkFrame};
-ghost use Rattle.law_machine.specs.Index.{FirstLive, NothingLive, live_at, lookup};
-ghost use Rattle.law_machine.specs.Lists.{◌∈◌, nth, replaced};
-ghost use Rattle.cs_reclaim.specs.Moves.{AnswersMove, AnswersPlace, IsMoveFull, IsMoveWorn, IsMoved, chunk_frame};
+ghost use Rattle.law_machine.specs.Index.{FirstLive, NothingLive, live_at};
+ghost use Rattle.law_machine.specs.Lists.{◌∈◌};
+ghost use Rattle.cs_reclaim.specs.Moves.{AnswersMove, AnswersPlace, IsMoveFull, IsMoveWorn, IsMoved};
 ghost use Rattle.cs_reclaim.specs.Retired.{IsRetireFull, IsRetireWorn, IsRetired};
-ghost use Rattle.cs_reclaim.specs.Sweeps.{IsNotSweepable, IsSwept};
+ghost use Rattle.cs_reclaim.specs.Sweeps.{IsMarked, IsNotMarked, IsNotSweepable, IsSwept};
 
-use cs_chunk::read_frame;
+use crate::moves::append_again;
 use cs_deps::Graph;
 use cs_disk::PageDisk;
 use cs_extent::{Extents, LAST_GENERATION, Purpose};
-use cs_frame::{FrameKind, Locator, Places, ShardId, encode_frame};
-use cs_index::{Index, LiveChunk};
+use cs_frame::{Places, ShardId};
+use cs_index::Index;
 use cs_refusal::Refusal;
-use std::alloc::Global;
+use std::alloc::{AllocError, Global};
 use std::marker::Model;
 
 /// A sweep of one extent, which is marked as being swept until the sweep is abandoned or has retired it.
@@ -49,7 +46,7 @@ impl Model for Sweep {
 }
 
 impl Sweep {
-    /// Begins to sweep an extent. 33 `NotSweepable` where it is open, empty or being swept, or there is no such extent.
+    /// Begins to sweep an extent. 33 `NotSweepable` if it is open, empty or being swept, or there is no such extent.
     pub fn begin(extents: &mut Extents, extent: usize) -> Result<Sweep, Refusal>
         ensures sweep { IfOk result (λ s. s ≡ extent) }
         ensures marked { OnOk result (extents_of extents.new ≡ marked (extents_of extents.old) extent true) }
@@ -66,10 +63,10 @@ impl Sweep {
         Ok(Sweep { extent })
     }
 
-    /// The sweep of an extent that is marked, None where it isn't marked or isn't there. The mark is all there is to a sweep, so a
+    /// The sweep of an extent that is marked, None if it isn't marked or isn't there. The mark is all there is to a sweep, so a
     /// caller keeps either the value from `begin` or the number alone, as the core does.
     pub fn resume(extents: &Extents, extent: usize) -> Option<Sweep>
-        ensures { MatchOption result (((shape extents.now).extents ≤ extent) ⊎ ((extents_of extents.now).swept extent ≡ false)) (λ s. (s ≡ extent) × (extent < (shape extents.now).extents) × ((extents_of extents.now).swept extent ≡ true)) }
+        ensures { MatchOption result (IsNotMarked (shape extents.now) (extents_of extents.now) extent) (λ s. (s ≡ extent) × IsMarked (shape extents.now) (extents_of extents.now) extent) }
     {
         if extent < extents.extent_count() && extents.is_swept(extent) {
             Some(Sweep { extent })
@@ -86,8 +83,8 @@ impl Sweep {
     }
 
     /// Moves the first live chunk, by identifier and then by chunk, off the extent: appends a frame of the same
-    /// bytes with `Purpose::Move`, and points the shard at it. Answers the identifier and the number of the chunk,
-    /// counted from 0, or None where nothing is live there. Frames of other extents aren't read. The search goes on in the
+    /// bytes with `Purpose::Move`, and points the shard at it. Returns the identifier and the number of the chunk,
+    /// counted from 0, or None if nothing is live there. Frames of other extents aren't read. The search goes on in the
     /// index from where the last one on this extent ended, as `Index::first_live` does.
     ///
     /// 1 `DeviceFault`, 20 to 24 and 26 as `read_frame`, then 30 `Full`, then 35 `WornOut`; 9 `OutOfMemory` may come instead of
@@ -105,8 +102,7 @@ impl Sweep {
         requires format { index.old.format ≡ (shape extents.old).format }
         requires there { (id : ℕ) (l : Place) → l ∈ live_at (index_of index.old) id → (l.extent < (shape extents.old).extents) × (l.page < (shape extents.old).pages) }
         requires device { 2 + (shape extents.old).extents * (shape extents.old).pages ≤ D.page_count disk.old }
-        requires families { length graph.old.staging.latest ≡ 1 + (shape extents.old).sections }
-        requires resets { AreResetsStaged (extents_of extents.old) graph.old.staging }
+        requires ready { IsReady extents.old graph.old.staging }
 
         // Nothing is moved exactly where nothing is live there, and then nothing changes.
         ensures none { (result ≡ Ok None) ↔ NothingLive (index_of index.old) self.now }
@@ -123,7 +119,7 @@ impl Sweep {
         ensures why { D.honest disk.old → (view : ℕ → List ℕ) → AreNewest graph.old (seen (D.state disk.old)) view
             → (id chunk : ℕ) (from : Place) (payload : List ℕ) → FirstLive (index_of index.old) self.now id chunk from
             → IsFrameIn extents.old view ChunkFrame (as_locator from) payload → AnswersPlace extents.old graph.old.staging payload result }
-        // Whatever the disk answers, 30 and 35 come only where the frame of some payload finds no place, or no numbers.
+        // Whatever the device returns, 30 and 35 come only where the frame of some payload finds no place, or no numbers.
         ensures full { IfErr result (λ r. r ≡ Refusal.Full → IsMoveFull extents.old) }
         ensures worn { IfErr result (λ r. r ≡ Refusal.WornOut → IsMoveWorn extents.old graph.old.staging) }
         ensures refusals { IfErr result (λ r. IsReadRefusal r ⊎ (r ≡ Refusal.Full) ⊎ (r ≡ Refusal.WornOut)) }
@@ -133,8 +129,7 @@ impl Sweep {
 
         // Whatever the answer, the sweep goes on, and the next append may be made.
         ensures still { IsSwept (shape extents.new) (extents_of extents.new) self.now }
-        ensures resets { AreResetsStaged (extents_of extents.new) graph.new.staging }
-        ensures families { length graph.new.staging.latest ≡ length graph.old.staging.latest }
+        ensures ready { IsReady extents.new graph.new.staging }
         ensures shape { shape extents.new ≡ shape extents.old }
         ensures format { index.new.format ≡ index.old.format }
         ensures limit { index.new.limit ≡ index.old.limit }
@@ -146,18 +141,25 @@ impl Sweep {
         let Some(live) = index.first_live(self.extent) else {
             return Ok(None);
         };
-        match move_live(alloc, index, extents, graph, disk, &live) {
-            Ok(()) => Ok(Some((live.id, live.chunk))),
+        let Ok(mut places) = places_with_room(alloc, index, live.id) else {
+            return Err(Refusal::OutOfMemory);
+        };
+        match append_again(alloc, extents, graph, disk, live.place) {
+            Ok(to) => {
+                places.set(live.chunk, to);
+                point_at(index, live.id, places);
+                Ok(Some((live.id, live.chunk)))
+            }
             Err(refusal) => Err(refusal),
         }
     }
 
     /// Retires the extent, on which nothing may be live: stages one run of all that is live, with `Purpose::Move`, and the
-    /// root over it, and empties the extent under that root. Answers the root's version. The extent isn't being swept any
+    /// root over it, and empties the extent under that root. Returns the root's version. The extent isn't being swept any
     /// more. `commands` is how many puts and deletes the root includes.
     ///
-    /// 34 `StillLive` where something is live there, then 30 `Full` where no extent takes the run, then 35 `WornOut`, also
-    /// where the extent's generation is the greatest; 9 `OutOfMemory` may come instead of any. After a refusal nothing has
+    /// 34 `StillLive` if something is live there, then 30 `Full` if no extent takes the run, then 35 `WornOut`, also
+    /// if the extent's generation is the greatest; 9 `OutOfMemory` may come instead of any. After a refusal nothing has
     /// changed but room for more, and the sweep comes back.
     pub fn retire(
         self,
@@ -170,8 +172,7 @@ impl Sweep {
         requires swept { IsSwept (shape extents.old) (extents_of extents.old) self }
         requires format { index.old.format ≡ (shape extents.old).format }
         requires limit { index.old.limit ≡ (shape extents.old).most_weight }
-        requires families { length graph.old.staging.latest ≡ 1 + (shape extents.old).sections }
-        requires resets { AreResetsStaged (extents_of extents.old) graph.old.staging }
+        requires ready { IsReady extents.old graph.old.staging }
         requires commands { commands < 2 ^ 63 }
         ensures retired { IfOk result (λ v. IsRetired index.old extents.old graph.old self v commands index.new extents.new graph.new) }
 
@@ -190,8 +191,7 @@ impl Sweep {
         ensures unstaged { OnErr result (graph.new ≡ record graph.old { room = graph.new.room }) }
 
         // Whatever the answer, the next append may be made.
-        ensures resets { AreResetsStaged (extents_of extents.new) graph.new.staging }
-        ensures families { length graph.new.staging.latest ≡ length graph.old.staging.latest }
+        ensures ready { IsReady extents.new graph.new.staging }
         ensures shape { shape extents.new ≡ shape extents.old }
         ensures format { index.new.format ≡ index.old.format }
         ensures limit { index.new.limit ≡ index.old.limit }
@@ -223,157 +223,34 @@ pub fn is_sweepable(extents: &Extents, extent: usize) -> bool
         && !extents.is_swept(extent)
 }
 
-/// Reads the frame of a live chunk, and appends it again.
-fn move_live<D: PageDisk>(
-    alloc: Global,
-    index: &mut Index,
-    extents: &mut Extents,
-    graph: &mut Graph,
-    disk: &mut D,
-    live: &LiveChunk,
-) -> Result<(), Refusal>
-    requires together { (shape extents.old).apart ≡ false }
-    requires there { nth (live_at (index_of index.old) (id_number live.now.id)) live.now.chunk ≡ Some (place_of live.now.place) }
-    requires format { index.old.format ≡ (shape extents.old).format }
-    requires extent { live.now.place.extent < (shape extents.old).extents }
-    requires page { live.now.place.page < (shape extents.old).pages }
-    requires device { 2 + (shape extents.old).extents * (shape extents.old).pages ≤ D.page_count disk.old }
-    requires families { length graph.old.staging.latest ≡ 1 + (shape extents.old).sections }
-    requires resets { AreResetsStaged (extents_of extents.old) graph.old.staging }
-    ensures moved { OnOk result ((payload : List ℕ) × (to : Spot) × IsAppended extents.old graph.old ForMove (chunk_frame extents.old payload) to extents.new graph.new
-        × IsSet index.old (id_number live.now.id) (replaced (live_at (index_of index.old) (id_number live.now.id)) live.now.chunk (place_of to)) index.new
-        × (to.mark ≡ live.now.place.mark)
-        × (D.honest disk.old → (view : ℕ → List ℕ) → AreNewest graph.old (seen (D.state disk.old)) view → IsFrameIn extents.old view ChunkFrame live.now.place payload)) }
-    ensures damaged { D.honest disk.old → (view : ℕ → List ℕ) → AreNewest graph.old (seen (D.state disk.old)) view → AnswersMove (fault_in extents.old view Chunk live.now.place) result }
-    ensures why { D.honest disk.old → (view : ℕ → List ℕ) (payload : List ℕ) → AreNewest graph.old (seen (D.state disk.old)) view
-        → IsFrameIn extents.old view ChunkFrame live.now.place payload → AnswersPlace extents.old graph.old.staging payload result }
-    ensures full { IfErr result (λ r. r ≡ Refusal.Full → IsMoveFull extents.old) }
-    ensures worn { IfErr result (λ r. r ≡ Refusal.WornOut → IsMoveWorn extents.old graph.old.staging) }
-    ensures refusals { IfErr result (λ r. IsReadRefusal r ⊎ (r ≡ Refusal.Full) ⊎ (r ≡ Refusal.WornOut)) }
-    ensures refused { OnErr result (index.new ≡ record index.old { room = index.new.room }) }
-    ensures unwritten { OnErr result (extents.new ≡ extents.old) }
-    ensures unstaged { OnErr result (graph.new ≡ record graph.old { room = graph.new.room }) }
-    ensures resets { AreResetsStaged (extents_of extents.new) graph.new.staging }
-    ensures families { length graph.new.staging.latest ≡ length graph.old.staging.latest }
-    ensures shape { shape extents.new ≡ shape extents.old }
-    ensures format { index.new.format ≡ index.old.format }
-    ensures limit { index.new.limit ≡ index.old.limit }
-    ensures disk { OnlyReads D.PageDisk disk.old disk.new }
-    ensures cause { IsCaused (D.failure_count disk.old) (D.failure_count disk.new) result }
-{
-    let payload = match read_frame(alloc, extents, graph, disk, FrameKind::Chunk, live.place) {
-        Ok(payload) => payload,
-        Err(refusal) => return Err(refusal),
-    };
-    match encode_frame(alloc, FrameKind::Chunk, &payload) {
-        Ok(frame) => move_to(alloc, index, extents, graph, live, &frame),
-        Err(_) => Err(Refusal::OutOfMemory),
-    }
-}
-
-/// Appends the frame of a live chunk, and points its shard there.
-fn move_to(
-    alloc: Global,
-    index: &mut Index,
-    extents: &mut Extents,
-    graph: &mut Graph,
-    live: &LiveChunk,
-    frame: &[[u8; 4096]],
-) -> Result<(), Refusal>
-    requires together { (shape extents.old).apart ≡ false }
-    requires there { nth (live_at (index_of index.old) (id_number live.now.id)) live.now.chunk ≡ Some (place_of live.now.place) }
-    requires format { index.old.format ≡ (shape extents.old).format }
-    requires pages { (1 ≤ length frame.now) × (length frame.now ≤ (shape extents.old).pages) }
-    requires families { length graph.old.staging.latest ≡ 1 + (shape extents.old).sections }
-    requires resets { AreResetsStaged (extents_of extents.old) graph.old.staging }
-    ensures moved { OnOk result ((to : Spot) × IsAppended extents.old graph.old ForMove frame.now to extents.new graph.new × IsSet index.old (id_number live.now.id) (replaced (live_at (index_of index.old) (id_number live.now.id)) live.now.chunk (place_of to)) index.new) }
-    ensures why { IsExact result (NoPlace (shape extents.old) (extents_of extents.old) ForMove (length frame.now)) (IsFrameWorn extents.old ForMove graph.old.staging (length frame.now)) }
-    ensures refused { OnErr result (index.new ≡ record index.old { room = index.new.room }) }
-    ensures unwritten { OnErr result (extents.new ≡ extents.old) }
-    ensures unstaged { OnErr result (graph.new ≡ record graph.old { room = graph.new.room }) }
-    ensures resets { AreResetsStaged (extents_of extents.new) graph.new.staging }
-    ensures families { length graph.new.staging.latest ≡ length graph.old.staging.latest }
-    ensures shape { shape extents.new ≡ shape extents.old }
-    ensures format { index.new.format ≡ index.old.format }
-    ensures limit { index.new.limit ≡ index.old.limit }
-{
-    let before = match places_with_room(alloc, index, live.id) {
-        Ok(places) => places,
-        Err(refusal) => return Err(refusal),
-    };
-    let mut after = Places::from_slice(alloc, before.as_slice())?;
-    let place = match append_moved(extents, graph, frame) {
-        Ok(place) => place,
-        Err(refusal) => return Err(refusal),
-    };
-    after.set(live.chunk, place);
-    point_at(index, live.id, before.as_slice(), after);
-    Ok(())
-}
-
-/// Appends a frame for a move, and answers where it begins.
-fn append_moved(
-    extents: &mut Extents,
-    graph: &mut Graph,
-    frame: &[[u8; 4096]],
-) -> Result<Locator, Refusal>
-    requires together { (shape extents.old).apart ≡ false }
-    requires pages { (1 ≤ length frame.now) × (length frame.now ≤ (shape extents.old).pages) }
-    requires families { length graph.old.staging.latest ≡ 1 + (shape extents.old).sections }
-    requires resets { AreResetsStaged (extents_of extents.old) graph.old.staging }
-    ensures appended { IfOk result (λ to. IsAppended extents.old graph.old ForMove frame.now to extents.new graph.new) }
-    ensures why { IsExact result (NoPlace (shape extents.old) (extents_of extents.old) ForMove (length frame.now)) (IsFrameWorn extents.old ForMove graph.old.staging (length frame.now)) }
-    ensures unwritten { OnErr result (extents.new ≡ extents.old) }
-    ensures unstaged { OnErr result (graph.new ≡ record graph.old { room = graph.new.room }) }
-    ensures resets { AreResetsStaged (extents_of extents.new) graph.new.staging }
-    ensures families { length graph.new.staging.latest ≡ length graph.old.staging.latest }
-    ensures shape { shape extents.new ≡ shape extents.old }
-{
-    let made = match extents.append(graph, frame, Purpose::Move) {
-        Ok(made) => made,
-        Err(refusal) => return Err(refusal),
-    };
-    Ok(made.0)
-}
-
-/// Gives a shard these places, where the index has room for the entry.
-fn point_at(index: &mut Index, id: ShardId, before: &[Locator], after: Places)
-    requires before { lookup (id_number id) (index_of index.old) ≡ Some (map place_of before.now) }
-    requires after { (1 ≤ length after.items) × (length after.items ≤ 8) }
-    requires no_more { length after.items ≤ length before.now }
-    requires marks { KeepFormat index.old.format after.items }
-    requires room { 0 < index.old.room }
-    ensures { IsSet index.old (id_number id) (map place_of after.items) index.new }
-{
-    match index.replace_if(id, before, after) {
-        Ok(_) => {}
-        Err(_) => unreachable!(),
-    }
-}
-
 /// Where the chunks of a shard are, with room in the index for another entry of it.
-fn places_with_room(alloc: Global, index: &mut Index, id: ShardId) -> Result<Places, Refusal>
+fn places_with_room(alloc: Global, index: &mut Index, id: ShardId) -> Result<Places, AllocError>
     ensures places { IfOk result (λ places. map place_of places.items ≡ live_at (index_of index.old) (id_number id)) }
     ensures short { IfOk result (λ places. length places.items ≤ 8) }
     ensures marks { IfOk result (λ places. KeepFormat index.old.format places.items) }
     ensures room { OnOk result (0 < index.new.room) }
     ensures rest { index.new ≡ record index.old { room = index.new.room } }
-    ensures refusals { IfErr result (λ r. r ≡ Refusal.OutOfMemory) }
 {
     index.reserve(1)?;
-    places_of(alloc, index, id)
+    match index.lookup(id) {
+        Some(places) => Places::from_slice(alloc, places),
+        None => Ok(Places::none()),
+    }
 }
 
-/// Where the chunks of a shard are.
-fn places_of(alloc: Global, index: &Index, id: ShardId) -> Result<Places, Refusal>
-    ensures places { IfOk result (λ places. map place_of places.items ≡ live_at (index_of index.now) (id_number id)) }
-    ensures short { IfOk result (λ places. length places.items ≤ 8) }
-    ensures marks { IfOk result (λ places. KeepFormat index.now.format places.items) }
-    ensures refusals { IfErr result (λ r. r ≡ Refusal.OutOfMemory) }
+/// Gives a shard as many places as it has, once the index has room for the entry.
+fn point_at(index: &mut Index, id: ShardId, places: Places)
+    requires some { (1 ≤ length places.items) × (length places.items ≤ 8) }
+    requires marks { KeepFormat index.old.format places.items }
+    requires as_many { length (live_at (index_of index.old) (id_number id)) ≡ length places.items }
+    requires room { 0 < index.old.room }
+    ensures { IsSet index.old (id_number id) (map place_of places.items) index.new }
 {
-    match index.lookup(id) {
-        Some(places) => Ok(Places::from_slice(alloc, places)?),
-        None => Ok(Places::none()),
+    // Called for its contract alone: what every index keeps.
+    index.run_count();
+    match index.set(id, places) {
+        Ok(()) => {}
+        Err(_) => unreachable!(),
     }
 }
 
@@ -389,8 +266,7 @@ pub(crate) fn retire_extent(
     requires swept { IsSwept (shape extents.old) (extents_of extents.old) extent }
     requires format { index.old.format ≡ (shape extents.old).format }
     requires limit { index.old.limit ≡ (shape extents.old).most_weight }
-    requires families { length graph.old.staging.latest ≡ 1 + (shape extents.old).sections }
-    requires resets { AreResetsStaged (extents_of extents.old) graph.old.staging }
+    requires ready { IsReady extents.old graph.old.staging }
     requires commands { commands < 2 ^ 63 }
     ensures retired { IfOk result (λ v. IsRetired index.old extents.old graph.old extent v commands index.new extents.new graph.new) }
     ensures map { (id : ℕ) → live_at (index_of index.new) id ≡ live_at (index_of index.old) id }
@@ -401,8 +277,7 @@ pub(crate) fn retire_extent(
     ensures refused { OnErr result (index.new ≡ index.old) }
     ensures unwritten { OnErr result (extents.new ≡ extents.old) }
     ensures unstaged { OnErr result (graph.new ≡ record graph.old { room = graph.new.room }) }
-    ensures resets { AreResetsStaged (extents_of extents.new) graph.new.staging }
-    ensures families { length graph.new.staging.latest ≡ length graph.old.staging.latest }
+    ensures ready { IsReady extents.new graph.new.staging }
     ensures shape { shape extents.new ≡ shape extents.old }
     ensures format { index.new.format ≡ index.old.format }
     ensures limit { index.new.limit ≡ index.old.limit }
@@ -423,7 +298,7 @@ pub(crate) fn retire_extent(
     Ok(root)
 }
 
-/// Why an extent of the greatest generation isn't retired: 30 `Full` comes before 35 `WornOut`, and 9 where memory ran out.
+/// Why an extent of the greatest generation isn't retired: 30 `Full` comes before 35 `WornOut`, and 9 if memory ran out.
 fn why_worn(index: &Index, extents: &Extents) -> Refusal
     requires together { (shape extents.now).apart ≡ false }
     requires format { index.now.format ≡ (shape extents.now).format }

@@ -17,8 +17,8 @@ use Rattle.cs_index.specs.State.{index_of}
 use Rattle.law_machine.specs.Element.{Locator as Place}
 use Rattle.law_machine.specs.Index.{joined_bodies, live, live_at, lookup}
 use Rattle.cs_reader.proofs.Lists.{there_and_back}
-use Rattle.cs_salvage.specs.declared.rescue_refusals.RescueRefusal.{RescueRefusal}
-use Rattle.cs_salvage.specs.declared.rescue_refusals.RescueRefusal.TheVariants.{Refused, RunLost}
+use Rattle.cs_salvage.specs.declared.rescues.RescueRefusal.{RescueRefusal}
+use Rattle.cs_salvage.specs.declared.rescues.RescueRefusal.TheVariants.{Refused, RunLost}
 use Rattle.cs_salvage.specs.Answers.{AreMeantBytes, AreReadBytes, IsAbsent, IsUnknown, IsWhyNoChunks, places_of}
 use Rattle.cs_salvage.specs.Founds.{Found}
 

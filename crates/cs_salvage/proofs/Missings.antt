@@ -9,7 +9,7 @@ use Rattle.std.proofs.lemmas.List.Elements.{All-contains, All-push, Contains-app
 use Rattle.std.proofs.lemmas.List.Quantifiers.{all_pairs_push}
 use Rattle.std.proofs.lemmas.List.Sorted.{Contains-permutation, IsPermutation-sym}
 use Rattle.cs_frame.specs.declared.identifiers.ShardId.{ShardId}
-use Rattle.cs_salvage.specs.declared.missing.Missing.{Missing}
+use Rattle.cs_salvage.specs.declared.whole_shards.Missing.{Missing}
 use Rattle.cs_salvage.specs.declared.parts.Part.{Part}
 use Rattle.cs_salvage.specs.declared.parts.Put.{Put}
 use Rattle.cs_salvage.specs.Missing.{AreMissing, HasPart, IsMissing, IsNewestPut, LastIsOther}

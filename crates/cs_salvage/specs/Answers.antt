@@ -32,6 +32,10 @@ places_of f id = map as_locator (live_at (index_of f.index) id)
 abbrev pub AreMeantBytes : Found → (id : ℕ) → (bytes : List ℕ) → Type 0
 AreMeantBytes f id bytes = (cs : List (List ℕ)) × AreMeant (shape f.extents) (places_of f id) cs × (bytes ≡ joined_bodies (formats_of (shape f.extents)) cs)
 
+-- this is so of any chunks that lie at the places of the identifier, where it has places and all of them are located
+abbrev pub WhereTheyLie : Found → (view : ℕ → List ℕ) → (id : ℕ) → (List (List ℕ) → Type 0) → Type 0
+WhereTheyLie f view id P = (cs : List (List ℕ)) → live_at (index_of f.index) id ≢ [] → AllByRecursion (IsLocated f.extents) (places_of f id) → AreChunksIn f.extents view (places_of f id) cs → P cs
+
 -- the bytes are those of chunks that lie there
 abbrev pub AreReadBytes : Found → (view : ℕ → List ℕ) → (id : ℕ) → (bytes : List ℕ) → Type 0
 AreReadBytes f view id bytes = (cs : List (List ℕ)) × AreChunksIn f.extents view (places_of f id) cs × (bytes ≡ joined_bodies (formats_of (shape f.extents)) cs)

@@ -3,7 +3,7 @@ use Rattle.std.specs.Prelude.{◌≡◌, ◌≢◌, ◌↔◌, ◌-◌, ◌<◌,
 use Rattle.std.specs.List.{AllPairs}
 use Rattle.cs_frame.specs.declared.identifiers.ShardId.{ShardId}
 use Rattle.cs_salvage.specs.Shards.{ComesBefore, IsAmbiguous, IsWhole, put_of}
-use Rattle.cs_salvage.specs.declared.missing.Missing.{Missing}
+use Rattle.cs_salvage.specs.declared.whole_shards.Missing.{Missing}
 use Rattle.cs_salvage.specs.declared.parts.Part.{Part}
 use Rattle.cs_salvage.specs.declared.parts.Put.{Put}
 

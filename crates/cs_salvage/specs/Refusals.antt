@@ -1,8 +1,8 @@
 -- The number and the name of each refusal of a get.
 use Rattle.std.specs.Prelude.{ℕ, List, codes}
 use Rattle.cs_refusal.specs.Refusals.{name_of as refusal_name, number_of as refusal_number}
-use Rattle.cs_salvage.specs.declared.rescue_refusals.RescueRefusal.{RescueRefusal}
-use Rattle.cs_salvage.specs.declared.rescue_refusals.RescueRefusal.TheVariants.{Refused, RunLost}
+use Rattle.cs_salvage.specs.declared.rescues.RescueRefusal.{RescueRefusal}
+use Rattle.cs_salvage.specs.declared.rescues.RescueRefusal.TheVariants.{Refused, RunLost}
 
 -- the number that operators see
 abbrev pub number_of : RescueRefusal → ℕ

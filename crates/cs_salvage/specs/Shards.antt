@@ -7,7 +7,9 @@ use Rattle.std.specs.Ordering.{nat_cmp}
 use Rattle.cs_disk.specs.Disk.{Image}
 use Rattle.cs_frame.specs.declared.identifiers.ShardId.{ShardId}
 use Rattle.cs_frame.specs.Geometries.{Dimensions}
-use Rattle.cs_salvage.specs.Parts.{IsChunkAt, IsPart}
+use Rattle.cs_frame.specs.Identifiers.{id_number}
+use Rattle.law_machine.specs.Events.{ArePayloads}
+use Rattle.cs_salvage.specs.Parts.{IsChunkAt, IsPart, formats_in, shape_in}
 use Rattle.cs_salvage.specs.declared.parts.Part.{Part}
 use Rattle.cs_salvage.specs.declared.parts.Put.{Put}
 use Rattle.cs_salvage.specs.declared.whole_shards.WholeShard.{WholeShard}
@@ -15,6 +17,10 @@ use Rattle.cs_salvage.specs.declared.whole_shards.WholeShard.{WholeShard}
 -- the put that a part is of, by its head
 abbrev pub put_of : Part → Put
 put_of part = record { id = part.head.id; command = part.head.command }
+
+-- a put of these bytes has chunks with these payloads, in a store of these dimensions
+abbrev pub HasPayloads : Dimensions → Put → (bytes : List ℕ) → (payloads : List (List ℕ)) → Type 0
+HasPayloads g put bytes payloads = ArePayloads (shape_in g) (formats_in g) (id_number put.id) put.command bytes payloads
 
 -- Two parts can't be of the same bytes: they say different numbers of chunks, or have different payloads of one number.
 abbrev pub Conflict : Part → Part → Type 0

@@ -9,32 +9,19 @@
 //! begin with, and of each identifier the newest put all of whose parts are there.
 #![tactic(auto)]
 
-mod finds;
-mod founds;
-mod greatest;
-mod missing;
-mod part_reads;
 mod parts;
-mod rescue_laws;
-mod rescue_openings;
-mod rescue_refusals;
 mod rescued_runs;
 mod rescues;
 mod salvage_laws;
-mod salvaged_frames;
 mod scans;
 mod whole_shards;
 
-pub use finds::find_parts;
-pub use missing::{Missing, missing_puts};
-pub use part_reads::read_whole;
-pub use parts::{Part, Put};
-pub use rescue_laws::{what_is_whole_is_got, what_newer_runs_name_is_right};
-pub use rescue_refusals::RescueRefusal;
+pub use parts::{Part, Put, find_parts, read_whole};
 pub use rescued_runs::DamagedRun;
-pub use rescues::Rescue;
+pub use rescues::{Rescue, RescueRefusal};
 pub use salvage_laws::{
-    what_a_part_means_is_one, what_stands_is_whole, whole_shards_are_what_was_put,
+    what_a_part_means_is_one, what_is_whole_is_got, what_newer_runs_name_is_right,
+    what_stands_is_whole, whole_shards_are_what_was_put,
 };
 pub use scans::{Patience, Scanned, scan_commands};
-pub use whole_shards::{WholeShard, ambiguous, newest_whole};
+pub use whole_shards::{Missing, WholeShard, ambiguous, missing_puts, newest_whole};

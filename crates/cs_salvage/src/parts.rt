@@ -1,8 +1,22 @@
-//! Parts of shards.
-ghost use Rattle.std.specs.Prelude.{◌≡◌};
+//! Parts of shards: the whole frames of chunks that are on a device, and what they hold.
+ghost use Rattle.std.specs.Prelude.{◌*◌, ◌+◌, ◌-◌, ◌<◌, ◌^◌, ◌≡◌, ◌≤◌, All, IfOk, IfSome, List, MatchBool, MatchOption, OnOk, length, ℕ};
+ghost use Rattle.std.specs.List.{AllZip};
+ghost use Rattle.cs_disk.specs.Disk.{HasCause, page as device_page, seen};
+ghost use Rattle.cs_disk.specs.Reads.{OnlyReads};
+ghost use Rattle.cs_frame.specs.Frames.{SpellsFrame};
+ghost use Rattle.cs_frame.specs.Geometries.{IsGeometry};
+ghost use Rattle.cs_salvage.specs.Frames.{AreReadAs, IsFrontOf, IsMeant, IsOfFrame, IsPartIn, IsSpelled, pages_at};
+ghost use Rattle.cs_salvage.specs.Parts.{AreParts, ArePartsBefore, BeginsWith, IsChunkAt, IsNumbered, IsPart, IsSpellable, NoPartAt, formats_in};
 ghost use Rattle.cs_salvage.specs.Shards.{put_of};
+ghost use Rattle.law_machine.specs.Index.{joined_bodies};
 
-use cs_frame::{ChunkHead, ShardId};
+use crate::whole_shards::WholeShard;
+use cs_disk::{DiskFault, PageDisk};
+use cs_frame::{
+    ChunkHead, FormatFault, FrameKind, Geometry, ShardId, chunk_body, decode_frame,
+    decode_frame_header, decode_head, frame_pages,
+};
+use std::alloc::{AllocError, Global};
 
 /// A put of a shard, as the heads of its chunks name it.
 #[derive(Clone, Copy, Debug, PartialEq, Eq)]
@@ -38,4 +52,314 @@ impl Part {
             command: self.head.command,
         }
     }
+}
+
+/// The payload of a part, where it is as it was found.
+fn payload_of<D: PageDisk>(
+    alloc: Global,
+    disk: &mut D,
+    geometry: Geometry,
+    part: Part,
+) -> Result<Option<Vec<u8>>, DiskFault>
+    requires { 2 + geometry.extents * geometry.pages ≤ D.page_count disk.old }
+    ensures payload { D.honest disk.old → IfOk result (λ found. MatchOption found
+        ((payload : List ℕ) → IsPart geometry (seen (D.state disk.old)) part payload → ⊥)
+        (λ payload. IsPart geometry (seen (D.state disk.old)) part payload.items)) }
+    ensures meant { IfOk result (λ found. IfSome found (λ payload. IsMeant part payload.items)) }
+    ensures disk { OnlyReads D.PageDisk disk.old disk.new }
+    ensures cause { HasCause (D.failure_count disk.old) (D.failure_count disk.new) result }
+{
+    let found = match part_at(alloc, disk, geometry, part.extent, part.page) {
+        Ok(Some(found)) => found,
+        Ok(None) => return Ok(None),
+        Err(fault) => return Err(fault),
+    };
+    if found.part == part {
+        Ok(Some(found.payload))
+    } else {
+        Ok(None)
+    }
+}
+
+/// The bytes of a whole shard: what is behind the heads of its parts' payloads, which are read again, one after another. None where a part
+/// isn't there any more as it was found.
+///
+/// 1 `DeviceFault` where a read failed, 9 `OutOfMemory`. The disk holds what it held.
+pub fn read_whole<D: PageDisk>(
+    alloc: Global,
+    disk: &mut D,
+    geometry: Geometry,
+    shard: &WholeShard,
+) -> Result<Option<Vec<u8>>, DiskFault>
+    requires { 2 + geometry.extents * geometry.pages ≤ D.page_count disk.old }
+    ensures bytes { D.honest disk.old → IfOk result (λ found. MatchOption found
+        ((payloads : List (List ℕ)) → AllZip (IsPart geometry (seen (D.state disk.old))) shard.now.parts.items payloads → ⊥)
+        (λ bytes. (payloads : List (List ℕ)) × AllZip (IsPart geometry (seen (D.state disk.old))) shard.now.parts.items payloads
+        × (bytes.items ≡ joined_bodies (formats_in geometry) payloads))) }
+    // Whatever the disk answers, they are bytes that the parts mean, by their digests and their heads.
+    ensures meant { IfOk result (λ found. IfSome found (λ bytes. (payloads : List (List ℕ)) × AllZip IsMeant shard.now.parts.items payloads
+        × (bytes.items ≡ joined_bodies (formats_in geometry) payloads))) }
+    ensures disk { OnlyReads D.PageDisk disk.old disk.new }
+    ensures cause { HasCause (D.failure_count disk.old) (D.failure_count disk.new) result }
+{
+    let mut bytes = Vec::new(alloc);
+    let format = geometry.format();
+    for part in &shard.parts {
+        match payload_of(alloc, disk, geometry, *part) {
+            Ok(Some(payload)) => bytes.extend_from_slice(chunk_body(format, &payload))?,
+            Ok(None) => return Ok(None),
+            Err(fault) => return Err(fault),
+        }
+    }
+    Ok(Some(bytes))
+}
+
+/// The most chunks of a shard.
+const MOST_CHUNKS: u8 = 8;
+
+/// A part, and the payload of its frame.
+#[derive(Drop)]
+pub struct FoundPart {
+    pub part: Part,
+    pub payload: Vec<u8>,
+}
+
+/// Reads so many pages from a number on; the first of them was read already.
+fn read_pages<D: PageDisk>(
+    alloc: Global,
+    disk: &mut D,
+    first: u64,
+    page: &[u8; 4096],
+    count: usize,
+) -> Result<Vec<[u8; 4096]>, DiskFault>
+    requires there { first + count ≤ D.page_count disk.old }
+    requires some { 1 ≤ count }
+    requires small { first + count < 2 ^ 63 }
+    ensures pages { D.honest disk.old → page.now ≡ device_page (seen (D.state disk.old)) first
+        → IfOk result (λ pages. AreReadAs (seen (D.state disk.old)) first count pages.items) }
+    ensures size { IfOk result (λ pages. length pages.items ≡ count) }
+    ensures disk { OnlyReads D.PageDisk disk.old disk.new }
+    ensures cause { HasCause (D.failure_count disk.old) (D.failure_count disk.new) result }
+{
+    let mut pages = Vec::with_capacity(alloc, count)?;
+    pages.push_reserved(*page);
+    for i in 1..count {
+        let mut buffer = [0; 4096];
+        match disk.read(first + i as u64, &mut buffer) {
+            Ok(()) => {}
+            Err(fault) => return Err(fault),
+        }
+        pages.push_reserved(buffer);
+    }
+    Ok(pages)
+}
+
+/// As many pages from a place on as the header of a chunk's frame counts, where there is a header and they end on the extent. The header
+/// is tested before the second page is read; digest and padding aren't tested.
+fn read_frame_pages<D: PageDisk>(
+    alloc: Global,
+    disk: &mut D,
+    geometry: Geometry,
+    extent: u16,
+    page: u16,
+) -> Result<Option<Vec<[u8; 4096]>>, DiskFault>
+    requires extent { extent < geometry.extents }
+    requires page { page < geometry.pages }
+    requires device { 2 + geometry.extents * geometry.pages ≤ D.page_count disk.old }
+    ensures pages { D.honest disk.old → IfOk result (λ found. MatchOption found
+        ((payload : List ℕ) → IsChunkAt geometry (seen (D.state disk.old)) extent page payload → ⊥)
+        (λ pages. IsFrontOf (pages_at geometry (seen (D.state disk.old)) extent page) pages.items)) }
+    ensures some { IfOk result (λ found. IfSome found (λ pages. 0 < length pages.items)) }
+    ensures disk { OnlyReads D.PageDisk disk.old disk.new }
+    ensures cause { HasCause (D.failure_count disk.old) (D.failure_count disk.new) result }
+{
+    let number = geometry.device_page(extent, page);
+    let mut first = [0; 4096];
+    match disk.read(number, &mut first) {
+        Ok(()) => {}
+        Err(fault) => return Err(fault),
+    }
+    let there = usize::from(geometry.pages() - page);
+    let Ok(header) = decode_frame_header(FrameKind::Chunk, &first, there) else {
+        return Ok(None);
+    };
+    match read_pages(alloc, disk, number, &first, header.pages()) {
+        Ok(pages) => Ok(Some(pages)),
+        Err(fault) => Err(fault),
+    }
+}
+
+/// The payload of the chunk's frame that begins in these pages, where a whole one does.
+fn payload_in(alloc: Global, pages: &[[u8; 4096]]) -> Result<Option<Vec<u8>>, AllocError>
+    requires { 0 < length pages.now }
+    ensures { IfOk result (λ found. MatchOption found
+        ((payload : List ℕ) → SpellsFrame 0 pages.now payload → ⊥)
+        (λ payload. SpellsFrame 0 pages.now payload.items)) }
+{
+    match decode_frame(alloc, FrameKind::Chunk, pages) {
+        Ok(payload) => Ok(Some(payload)),
+        Err(FormatFault::OutOfMemory) => Err(AllocError),
+        Err(_) => Ok(None),
+    }
+}
+
+/// Whether a chunk can have this head.
+fn is_of_chunk(head: ChunkHead) -> bool
+    ensures numbered { MatchBool result (IsNumbered head) (IsNumbered head → ⊥) }
+    ensures spellable { IsSpellable head }
+{
+    head.number < head.count && head.count <= MOST_CHUNKS
+}
+
+/// The part that these pages of a frame and its payload are, where the payload begins with a head that a chunk can have.
+fn part_of(extent: u16, page: u16, pages: &[[u8; 4096]], payload: &[u8]) -> Option<Part>
+    requires some { 0 < length pages.now }
+    requires spelled { SpellsFrame 0 pages.now payload.now }
+    ensures part { MatchOption result
+        ((part : Part) → BeginsWith part.head payload.now → IsNumbered part.head → ⊥)
+        (λ part. IsPartIn pages.now part payload.now) }
+    ensures place { IfSome result (λ part. (part.extent ≡ extent) × (part.page ≡ page)) }
+{
+    let head = decode_head(payload)?;
+    if !is_of_chunk(head) {
+        return None;
+    }
+    let mut digest = [0; 32];
+    digest.copy_from_slice(&pages[0][9..41]);
+    Some(Part {
+        extent,
+        page,
+        pages: frame_pages(payload.len()),
+        head,
+        digest,
+    })
+}
+
+/// The part whose frame begins in these pages, with its payload, where a whole one does.
+fn part_in(
+    alloc: Global,
+    extent: u16,
+    page: u16,
+    pages: &[[u8; 4096]],
+) -> Result<Option<FoundPart>, AllocError>
+    requires { 0 < length pages.now }
+    ensures part { IfOk result (λ found. MatchOption found
+        ((part : Part) (payload : List ℕ) → IsPartIn pages.now part payload → ⊥)
+        (λ it. IsPartIn pages.now it.part it.payload.items)) }
+    ensures place { IfOk result (λ found. IfSome found (λ it. (it.part.extent ≡ extent) × (it.part.page ≡ page))) }
+{
+    let Some(payload) = payload_in(alloc, pages)? else {
+        return Ok(None);
+    };
+    match part_of(extent, page, pages, &payload) {
+        Some(part) => Ok(Some(FoundPart { part, payload })),
+        None => Ok(None),
+    }
+}
+
+/// The part that begins at a place, with its payload, where one does.
+pub fn part_at<D: PageDisk>(
+    alloc: Global,
+    disk: &mut D,
+    geometry: Geometry,
+    extent: u16,
+    page: u16,
+) -> Result<Option<FoundPart>, DiskFault>
+    requires { 2 + geometry.extents * geometry.pages ≤ D.page_count disk.old }
+    ensures part { D.honest disk.old → IfOk result (λ found. MatchOption found
+        (NoPartAt geometry (seen (D.state disk.old)) extent page)
+        (λ it. IsPart geometry (seen (D.state disk.old)) it.part it.payload.items)) }
+    // Whatever the disk answers, it is the part of a frame.
+    ensures spelled { IfOk result (λ found. IfSome found (λ it. IsSpelled it.part it.payload.items)) }
+    ensures place { IfOk result (λ found. IfSome found (λ it. (it.part.extent ≡ extent) × (it.part.page ≡ page))) }
+    ensures known { IsGeometry geometry.format geometry.extents geometry.pages geometry.sections }
+    ensures disk { OnlyReads D.PageDisk disk.old disk.new }
+    ensures cause { HasCause (D.failure_count disk.old) (D.failure_count disk.new) result }
+{
+    if !geometry.format().has_heads() || extent >= geometry.extents() || page >= geometry.pages() {
+        return Ok(None);
+    }
+    match read_frame_pages(alloc, disk, geometry, extent, page) {
+        Ok(Some(pages)) => Ok(part_in(alloc, extent, page, &pages)?),
+        Ok(None) => Ok(None),
+        Err(fault) => Err(fault),
+    }
+}
+
+/// Adds the part that begins at a place to those before it, where one does.
+fn add_part_at<D: PageDisk>(
+    alloc: Global,
+    disk: &mut D,
+    geometry: Geometry,
+    extent: u16,
+    page: u16,
+    parts: &mut Vec<Part>,
+) -> Result<(), DiskFault>
+    requires { 2 + geometry.extents * geometry.pages ≤ D.page_count disk.old }
+    ensures parts { D.honest disk.old → ArePartsBefore geometry (seen (D.state disk.old)) extent page parts.old.items
+        → OnOk result (ArePartsBefore geometry (seen (D.state disk.old)) extent (page + 1) parts.new.items) }
+    ensures spelled { All IsOfFrame parts.old.items → OnOk result (All IsOfFrame parts.new.items) }
+    ensures disk { OnlyReads D.PageDisk disk.old disk.new }
+    ensures cause { HasCause (D.failure_count disk.old) (D.failure_count disk.new) result }
+{
+    match part_at(alloc, disk, geometry, extent, page) {
+        Ok(Some(found)) => Ok(parts.push(found.part)?),
+        Ok(None) => Ok(()),
+        Err(fault) => Err(fault),
+    }
+}
+
+/// Adds the parts on an extent to those before it.
+fn add_parts_on<D: PageDisk>(
+    alloc: Global,
+    disk: &mut D,
+    geometry: Geometry,
+    extent: u16,
+    parts: &mut Vec<Part>,
+) -> Result<(), DiskFault>
+    requires { 2 + geometry.extents * geometry.pages ≤ D.page_count disk.old }
+    ensures parts { D.honest disk.old → ArePartsBefore geometry (seen (D.state disk.old)) extent 0 parts.old.items
+        → OnOk result (ArePartsBefore geometry (seen (D.state disk.old)) (extent + 1) 0 parts.new.items) }
+    ensures spelled { All IsOfFrame parts.old.items → OnOk result (All IsOfFrame parts.new.items) }
+    ensures disk { OnlyReads D.PageDisk disk.old disk.new }
+    ensures cause { HasCause (D.failure_count disk.old) (D.failure_count disk.new) result }
+{
+    for page in 0..geometry.pages() {
+        match add_part_at(alloc, disk, geometry, extent, page, parts) {
+            Ok(()) => {}
+            Err(fault) => return Err(fault),
+        }
+    }
+    Ok(())
+}
+
+/// All parts on a device of this geometry: the whole frames of chunks whose payload begins with a head that a chunk can have, as each does
+/// that a put wrote in a format that has heads. In an older format there are none.
+///
+/// Superblock, root and runs aren't looked at: so there are chunks among them that were overwritten by a later put, deleted, or put by
+/// a command that was never acknowledged, and each copy that a sweep made. Each page of each extent is read once, and where the header
+/// of a chunk's frame is there the other pages of that frame once more: a shard whose bytes are pages that look like headers costs as many
+/// reads for each of them as it says, up to the end of its extent. Each part takes some 90 bytes of memory.
+///
+/// 1 `DeviceFault` where a read failed, 9 `OutOfMemory`. The disk holds what it held.
+pub fn find_parts<D: PageDisk>(
+    alloc: Global,
+    disk: &mut D,
+    geometry: Geometry,
+) -> Result<Vec<Part>, DiskFault>
+    requires { 2 + geometry.extents * geometry.pages ≤ D.page_count disk.old }
+    ensures parts { D.honest disk.old → IfOk result (λ parts. AreParts geometry (seen (D.state disk.old)) parts.items) }
+    // Whatever the disk answers, no part is made up: each is of a frame that some pages spell.
+    ensures spelled { IfOk result (λ parts. All IsOfFrame parts.items) }
+    ensures disk { OnlyReads D.PageDisk disk.old disk.new }
+    ensures cause { HasCause (D.failure_count disk.old) (D.failure_count disk.new) result }
+{
+    let mut parts = Vec::new(alloc);
+    for extent in 0..geometry.extents() {
+        match add_parts_on(alloc, disk, geometry, extent, &mut parts) {
+            Ok(()) => {}
+            Err(fault) => return Err(fault),
+        }
+    }
+    Ok(parts)
 }

@@ -1,24 +1,37 @@
-//! What salvaged shards have to do with puts.
-ghost use Rattle.std.specs.Prelude.{◌≡◌, ◌⊎◌, ◌^◌, ◌*◌, ◌<◌, ◌≤◌, ℕ, List, length, true};
+//! What salvaged shards have to do with puts, and rescued ones with the map that the store had. The functions do nothing; their contracts are the laws.
+ghost use Rattle.std.specs.Prelude.{◌*◌, ◌<◌, ◌^◌, ◌≡◌, ◌≢◌, ◌≤◌, ◌⊎◌, List, None, Some, false, length, true, ℕ};
 ghost use Rattle.std.specs.List.{AllZip};
-ghost use Rattle.cs_disk.specs.Disk.{Image};
+ghost use Rattle.cs_disk.specs.Disk.{Image, page, seen};
+ghost use Rattle.cs_extent.specs.State.{shape};
+ghost use Rattle.cs_frame.specs.Formats.{formats_of};
 ghost use Rattle.cs_frame.specs.Geometries.{Dimensions, IsGeometry};
-ghost use Rattle.cs_frame.specs.Identifiers.{id_number};
-ghost use Rattle.law_machine.specs.Events.{ArePayloads};
-ghost use Rattle.law_machine.specs.Geometry.{heads_in};
-ghost use Rattle.law_machine.specs.Index.{joined_bodies};
-ghost use Rattle.cs_salvage.specs.declared.parts.Part.{Part as SomePart};
-ghost use Rattle.cs_salvage.specs.declared.parts.Put.{Put as SomePut};
+ghost use Rattle.cs_index.specs.State.{index_of};
+ghost use Rattle.cs_reader.specs.ImageReads.{ArePages};
+ghost use Rattle.cs_salvage.specs.Answers.{HasContent, IsRefusedFor};
+ghost use Rattle.cs_salvage.specs.Founds.{Found};
 ghost use Rattle.cs_salvage.specs.Frames.{IsMeant, TwoWithOneDigest};
 ghost use Rattle.cs_salvage.specs.Parts.{AreParts, IsIdentifier, IsPart, formats_in, shape_in};
-ghost use Rattle.cs_salvage.specs.Shards.{AreAllOf, HasFrames, HasOnly, IsWhole};
+ghost use Rattle.cs_salvage.specs.Rescued.{IsRescued};
+ghost use Rattle.cs_salvage.specs.Shards.{AreAllOf, HasFrames, HasOnly, HasPayloads, IsWhole};
+ghost use Rattle.cs_salvage.specs.Spared.{IsSpared};
+ghost use Rattle.cs_salvage.specs.declared.parts.Part.{Part as SomePart};
+ghost use Rattle.cs_salvage.specs.declared.parts.Put.{Put as SomePut};
+ghost use Rattle.law_machine.specs.Element.{Damaged, Map};
+ghost use Rattle.law_machine.specs.Geometry.{heads_in};
+ghost use Rattle.law_machine.specs.Index.{joined_bodies, lookup};
+ghost use Rattle.law_machine.specs.Recovery.{Recovers};
+ghost use Rattle.law_machine.specs.Refusal.{Refusal as Ground};
+
+use crate::rescued_runs::DamagedRun;
+use cs_disk::PageDisk;
+use cs_refusal::Refusal;
 
 /// What is read of a whole shard is what was put, where all its parts on the device are of one put of these bytes: a crash that lost a put
 /// of the same identifier and number has left none of it.
 pub fn whole_shards_are_what_was_put()
     ensures { (g : Dimensions) (image : Image) (parts pieces : List SomePart) (put : SomePut) (bytes : List ℕ) (payloads read : List (List ℕ))
         → IsGeometry g.format g.extents g.pages g.sections
-        → ArePayloads (shape_in g) (formats_in g) (id_number put.id) put.command bytes payloads → HasOnly g image put payloads
+        → HasPayloads g put bytes payloads → HasOnly g image put payloads
         → AreAllOf parts put pieces → AllZip (IsPart g image) pieces read → joined_bodies (formats_in g) read ≡ bytes }
 {}
 
@@ -27,7 +40,7 @@ pub fn what_stands_is_whole()
     ensures { (g : Dimensions) (image : Image) (parts : List SomePart) (put : SomePut) (bytes : List ℕ) (payloads : List (List ℕ))
         → heads_in g.format ≡ true → IsIdentifier put.id → put.command < 2 ^ 64
         → length bytes ≤ (shape_in g).most_chunks * (shape_in g).chunk_bytes
-        → ArePayloads (shape_in g) (formats_in g) (id_number put.id) put.command bytes payloads
+        → HasPayloads g put bytes payloads
         → HasFrames g image payloads → HasOnly g image put payloads → AreParts g image parts → IsWhole parts put }
 {}
 
@@ -38,4 +51,30 @@ pub fn what_a_part_means_is_one()
     ensures one { (parts : List SomePart) (a b : List (List ℕ)) → AllZip IsMeant parts a → AllZip IsMeant parts b
         → (a ≡ b) ⊎ TwoWithOneDigest a b }
     ensures found { (g : Dimensions) (image : Image) (part : SomePart) (payload : List ℕ) → IsPart g image part payload → IsMeant part payload }
+{}
+
+/// Where an honest disk recovers a map, all runs were read, unless the device failed for one. Where all were, no later root is recorded, the
+/// root counts the map's commands, and what is there of each identifier is what the map has. By the clauses `absent` and `read` of
+/// `Rescue::get` the answer is None then where the map has nothing, and the map's bytes where it has bytes, unless the device or memory
+/// refuses; by `bytes` and `why` what the map has damaged is refused as the damage is.
+pub fn what_is_whole_is_got<D: PageDisk>()
+    ensures got { (disk : D) (f : Found) (n : ℕ) (m : Map) → D.honest disk → IsRescued (D.honest disk) (D.page_count disk) (page (seen (D.state disk))) f → f.damaged ≡ None
+        → Recovers (shape f.extents) (formats_of (shape f.extents)) (page (seen (D.state disk))) n m
+        → (f.lost ≡ false) × (f.commands ≡ n) × ((id : ℕ) → HasContent f (page (seen (D.state disk))) id (m id)) }
+    ensures all_read { (disk : D) (f : Found) (n : ℕ) (m : Map) → D.honest disk → IsRescued (D.honest disk) (D.page_count disk) (page (seen (D.state disk))) f
+        → Recovers (shape f.extents) (formats_of (shape f.extents)) (page (seen (D.state disk))) n m
+        → (f.damaged ≡ None) ⊎ ((d : DamagedRun) × (f.damaged ≡ Some d) × (d.refusal ≡ Refusal.DeviceFault)) }
+    ensures damaged { (disk : D) (f : Found) (n : ℕ) (m : Map) (id : ℕ) (reason : Ground) → D.honest disk → IsRescued (D.honest disk) (D.page_count disk) (page (seen (D.state disk))) f → f.damaged ≡ None
+        → Recovers (shape f.extents) (formats_of (shape f.extents)) (page (seen (D.state disk))) n m
+        → m id ≡ Some (Damaged reason) → IsRefusedFor f (page (seen (D.state disk))) id reason }
+{}
+
+/// Where the pages of an honest disk recovered a map before some of them were damaged, and damage spared superblock, root, the runs that were
+/// read and the chunks of an identifier which these runs name, what is there of it is what the map has. By the clauses `absent` and `read` of
+/// `Rescue::get` the answer is None then where it was deleted, and the map's bytes where it has bytes, unless the device or memory refuses.
+/// Runs that couldn't be read may be damaged in any way.
+pub fn what_newer_runs_name_is_right<D: PageDisk>()
+    ensures { (disk : D) (f : Found) (whole : ℕ → List ℕ) (n : ℕ) (m : Map) (id : ℕ) → D.honest disk → IsRescued (D.honest disk) (D.page_count disk) (page (seen (D.state disk))) f
+        → ArePages (D.page_count disk) whole → Recovers (shape f.extents) (formats_of (shape f.extents)) whole n m
+        → IsSpared f whole (page (seen (D.state disk))) id → lookup id (index_of f.index) ≢ None → HasContent f (page (seen (D.state disk))) id (m id) }
 {}

@@ -1,10 +1,10 @@
 //! Scans of a device for the greatest number of a command, which take time and can be cut short.
-ghost use Rattle.std.specs.Prelude.{◌≡◌, ◌+◌, ◌*◌, ◌<◌, ◌≤◌, IfOk};
+ghost use Rattle.std.specs.Prelude.{◌*◌, ◌+◌, ◌<◌, ◌≤◌, IfOk};
 ghost use Rattle.cs_disk.specs.Disk.{HasCause, seen};
 ghost use Rattle.cs_disk.specs.Reads.{OnlyReads};
-ghost use Rattle.cs_salvage.specs.Greatest.{IsOfAFrame, IsScanOf, IsScanUpTo};
+ghost use Rattle.cs_salvage.specs.Greatest.{IsGreatestOn, IsOfAFrame, IsScanOf, IsScanUpTo, IsScannedTo};
 
-use crate::greatest::greatest_command_on;
+use crate::parts::part_at;
 use cs_disk::{DiskFault, PageDisk};
 use cs_frame::Geometry;
 use std::alloc::Global;
@@ -82,4 +82,75 @@ pub fn scan_commands<D: PageDisk, P: Patience>(
         }
     }
     Ok(scanned)
+}
+
+/// How far an extent was read, and what was found.
+#[derive(Clone, Copy)]
+struct Scan {
+    /// The greatest number so far, 0 if there was no part.
+    greatest: u64,
+    /// The page after the last part.
+    end: usize,
+}
+
+/// What is known with a page more: pages of a part that was found aren't looked at.
+fn scan_at<D: PageDisk>(
+    alloc: Global,
+    disk: &mut D,
+    geometry: Geometry,
+    extent: u16,
+    page: u16,
+    scan: Scan,
+) -> Result<Scan, DiskFault>
+    requires { 2 + geometry.extents * geometry.pages ≤ D.page_count disk.old }
+    ensures scanned { D.honest disk.old → IsScannedTo geometry (seen (D.state disk.old)) extent page scan.greatest scan.end
+        → IfOk result (λ now. IsScannedTo geometry (seen (D.state disk.old)) extent (page + 1) now.greatest now.end) }
+    ensures spelled { IsOfAFrame scan.greatest → IfOk result (λ now. IsOfAFrame now.greatest) }
+    ensures disk { OnlyReads D.PageDisk disk.old disk.new }
+    ensures cause { HasCause (D.failure_count disk.old) (D.failure_count disk.new) result }
+{
+    if usize::from(page) < scan.end {
+        return Ok(scan);
+    }
+    match part_at(alloc, disk, geometry, extent, page) {
+        Ok(Some(found)) => Ok(Scan {
+            greatest: scan.greatest.max(found.part.head.command),
+            end: usize::from(page).saturating_add(found.part.pages),
+        }),
+        Ok(None) => Ok(scan),
+        Err(fault) => Err(fault),
+    }
+}
+
+/// The greatest number of a command that the head of a part on an extent names, and 0 if no part is on it; commands are
+/// counted from 1. A part that begins within another one, in the bytes of a shard, doesn't count. So a store whose root
+/// counts fewer commands than this has lost some of them, or they were never acknowledged.
+///
+/// Each page of the extent is read once, those of a part that isn't whole twice, and each part's digest is tested.
+///
+/// 1 `DeviceFault` where a read failed, 9 `OutOfMemory`. The disk holds what it held.
+pub fn greatest_command_on<D: PageDisk>(
+    alloc: Global,
+    disk: &mut D,
+    geometry: Geometry,
+    extent: u16,
+) -> Result<u64, DiskFault>
+    requires { 2 + geometry.extents * geometry.pages ≤ D.page_count disk.old }
+    ensures greatest { D.honest disk.old → IfOk result (IsGreatestOn geometry (seen (D.state disk.old)) extent) }
+    // Whatever the disk answers, no number is made up: it is that of a part of a frame that some pages spell.
+    ensures spelled { IfOk result IsOfAFrame }
+    ensures disk { OnlyReads D.PageDisk disk.old disk.new }
+    ensures cause { HasCause (D.failure_count disk.old) (D.failure_count disk.new) result }
+{
+    let mut scan = Scan {
+        greatest: 0,
+        end: 0,
+    };
+    for page in 0..geometry.pages() {
+        match scan_at(alloc, disk, geometry, extent, page, scan) {
+            Ok(now) => scan = now,
+            Err(fault) => return Err(fault),
+        }
+    }
+    Ok(scan.greatest)
 }

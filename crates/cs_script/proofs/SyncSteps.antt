@@ -12,8 +12,8 @@ use Rattle.cs_writeback.specs.cs_core.declared.events.Event.TheVariants.{Stage}
 use Rattle.cs_writeback.specs.cs_core.declared.events.Reply.{Reply}
 use Rattle.cs_writeback.specs.cs_core.Replies.{MayAnswer}
 use Rattle.cs_writeback.specs.cs_core.Views.{View}
-use Rattle.cs_writeback.specs.declared.stops.Stop.{Stop}
-use Rattle.cs_writeback.specs.declared.stops.Stop.TheVariants.{Refused, Untold}
+use Rattle.cs_writeback.specs.declared.syncs.Stop.{Stop}
+use Rattle.cs_writeback.specs.declared.syncs.Stop.TheVariants.{Refused, Untold}
 use Rattle.cs_writeback.specs.Histories.{Goes, IsNoRefusal, IsStopped, Went}
 use Rattle.cs_writeback.specs.Rounds.{Finishes, Turn, events_of_all, rounds_of}
 use Rattle.cs_writeback.specs.Syncs.{AreTold, StopsInRounds}

@@ -3,8 +3,8 @@ use Rattle.std.specs.Prelude.{ℕ, List, [], Option}
 use Rattle.std.specs.Io.KnownBytes.{Appends}
 use Rattle.cs_disk.specs.declared.disk.PageDisk.{Ghosts as PageDisk}
 use Rattle.cs_writeback.specs.cs_core.Views.{View}
-use Rattle.cs_writeback.specs.declared.stops.Stop.{Stop}
-use Rattle.cs_writeback.specs.declared.stops.Stop.TheVariants.{Refused, Untold}
+use Rattle.cs_writeback.specs.declared.syncs.Stop.{Stop}
+use Rattle.cs_writeback.specs.declared.syncs.Stop.TheVariants.{Refused, Untold}
 use Rattle.cs_writeback.specs.Rounds.{StopsFirst}
 use Rattle.cs_script.specs.Scripts.{PrintsStop}
 

@@ -1,9 +1,9 @@
 //! Why calls were refused: for each call an enum of just the refusals that it may have, under the numbers and names that all layers share. Each
 //! error prints as the refusal does.
 ghost use Rattle.std.specs.Prelude.{◌≡◌};
+ghost use Rattle.cs_store.specs.Errors.{IsDeleteRefusal, IsGetRefusal, IsOpenRefusal, IsPutRefusal, delete_refusal, get_refusal, open_refusal, put_refusal, sweep_refusal, sync_refusal};
 ghost use Rattle.cs_writeback.specs.Sweeps.{MayRefuseSweep};
 ghost use Rattle.cs_writeback.specs.Syncs.{MayRefuseSync};
-ghost use Rattle.cs_store.specs.Errors.{IsDeleteRefusal, IsGetRefusal, IsOpenRefusal, IsPutRefusal, delete_refusal, get_refusal, open_refusal, put_refusal, sweep_refusal, sync_refusal};
 
 use cs_refusal::Refusal;
 use thiserror::Error;
@@ -288,5 +288,53 @@ impl OpenError {
         same_name!(refusal, Refusal => OpenError;
             DeviceFault, OddLength, OutOfMemory, BadMagic, BadDigest, BadLength, BadPadding,
             BadVersion, OutOfOrder, Misplaced, RootLost, NotAStore, Occupied, NotEmpty; no other)
+    }
+}
+
+impl From<PutError> for Refusal {
+    ghost from_gives = { λ error refusal. refusal ≡ put_refusal error };
+
+    fn from(error: PutError) -> Self {
+        error.refusal()
+    }
+}
+
+impl From<DeleteError> for Refusal {
+    ghost from_gives = { λ error refusal. refusal ≡ delete_refusal error };
+
+    fn from(error: DeleteError) -> Self {
+        error.refusal()
+    }
+}
+
+impl From<GetError> for Refusal {
+    ghost from_gives = { λ error refusal. refusal ≡ get_refusal error };
+
+    fn from(error: GetError) -> Self {
+        error.refusal()
+    }
+}
+
+impl From<SyncError> for Refusal {
+    ghost from_gives = { λ error refusal. refusal ≡ sync_refusal error };
+
+    fn from(error: SyncError) -> Self {
+        error.refusal()
+    }
+}
+
+impl From<SweepError> for Refusal {
+    ghost from_gives = { λ error refusal. refusal ≡ sweep_refusal error };
+
+    fn from(error: SweepError) -> Self {
+        error.refusal()
+    }
+}
+
+impl From<OpenError> for Refusal {
+    ghost from_gives = { λ error refusal. refusal ≡ open_refusal error };
+
+    fn from(error: OpenError) -> Self {
+        error.refusal()
     }
 }

@@ -6,32 +6,17 @@
 //! the persistent ones left out.
 #![tactic(auto)]
 
-mod counts;
-mod deletes;
 mod errors;
-mod extents;
 mod figures;
-mod files;
 mod gets;
-mod lists;
-mod memories;
-mod mounts;
-mod older_stores;
 mod options;
 mod puts;
 mod reclaims;
-mod rooms;
-mod scrubs;
 mod sizes;
-mod store_events;
-mod store_refusals;
-mod store_sweeps;
 mod stores;
-mod syncs;
 
 pub use errors::{DeleteError, GetError, OpenError, PutError, SweepError, SyncError};
-pub use extents::ExtentLook;
-pub use figures::StoreStats;
+pub use figures::{ExtentLook, StoreStats};
 pub use options::OpenOptions;
 pub use reclaims::Reclaimed;
 pub use sizes::SizeError;

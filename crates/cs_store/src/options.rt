@@ -1,11 +1,36 @@
-//! Options for making or opening a store.
-ghost use Rattle.std.specs.Prelude.{◌≡◌};
+//! How stores are made and opened: by methods of one type, `OpenOptions`.
+ghost use Rattle.std.specs.Prelude.{◌+◌, ◌<◌, ◌↔◌, ◌≡◌, ◌≢◌, ◌≤◌, ◌⊎◌, Err, IfErr, IfOk, MatchResult, None, OnOk, Some, []};
+ghost use Rattle.cs_chunk.specs.Reads.{IsNoAnswer};
+ghost use Rattle.cs_core.specs.Openings.{IfStoreOn, IsOpened};
+ghost use Rattle.cs_core.specs.Started.{IsNewOn, new_stored};
+ghost use Rattle.cs_disk.specs.Disk.{Image, MayLeave, Rises, flushed, page, seen};
+ghost use Rattle.cs_disk.specs.Files.{file_pages};
+ghost use Rattle.cs_extent.specs.State.{shape};
+ghost use Rattle.cs_mount.specs.Looks.{IsTaken};
+ghost use Rattle.cs_mount.specs.Older.{older_on};
+ghost use Rattle.cs_mount.specs.OlderDisks.{shown_below, state_lowered};
+ghost use Rattle.cs_mount.specs.Showing.{ShowsOn, findings_on, shown_on};
+ghost use Rattle.cs_mount.specs.StorePairs.{blank_disk, dimensions_on, pages_of, store_pairs, store_version};
+ghost use Rattle.cs_reader.specs.Counts.{HasCount};
+ghost use Rattle.cs_reader.specs.Openings.{IsOpeningRefusal, IsWhyNotOpened};
+ghost use Rattle.cs_store.specs.Maps.{HasMap};
+ghost use Rattle.cs_twin.specs.Paired.{disk_below, left_as_shown, state_shown};
+ghost use Rattle.cs_twin.specs.Pairs.{shown_state};
 
+use crate::errors::OpenError;
+use crate::stores::Store;
 use cs_core::Limits;
+use cs_disk::{FileDisk, FileFault, MemoryDisk, OpenFault, PageDisk};
 use cs_frame::{Format, Geometry};
-use cs_mount::LIMITS;
+use cs_mount::{AsOf, Finding, LIMITS, MountOptions, Mounted};
+use cs_refusal::Refusal;
 use std::alloc::Global;
+use std::fs::File;
 use std::marker::Model;
+use std::rt::Files;
+
+/// The permissions of a new file, less those that the process gives to no file.
+const MODE: u32 = 0o666;
 
 /// Options for making or opening a store, and the calls that do it: the one way to a store. Contracts see the limits
 /// and the geometry.
@@ -81,6 +106,267 @@ impl OpenOptions {
             alloc: self.alloc,
             limits: self.limits,
             geometry,
+        }
+    }
+
+    /// Makes a new store of the options' geometry on a disk, with nothing in it: flushes the disk, writes the
+    /// superblock and the root, and makes them durable. Each section and the root have two pages, but in the older
+    /// formats, and one of each is written.
+    ///
+    /// If the call is refused, it returns the disk. 43 NotAStore: the disk hasn't the geometry's pages. 45 Occupied: a
+    /// store is on it, or what is left of one (`MountOptions::create` of cs_mount), and nothing is written or flushed.
+    /// 1 DeviceFault: the disk refused a call; and 9 OutOfMemory.
+    pub fn create<D: PageDisk + Drop>(self, disk: D) -> Result<Store<Mounted<D>>, (Refusal, D)>
+        ensures new { IfOk result (λ made. (made.history ≡ []) × (made.base ≡ 0) × (made.limit ≡ self.limits.history)) }
+        ensures store { IfOk result (λ made. made.store ≡ new_stored self.geometry.format self.geometry.extents self.geometry.pages self.geometry.sections) }
+        ensures found { IfOk result (λ made. made.found ≡ (0, 0)) }
+        // It has no shard.
+        ensures map { D.honest disk → IfOk result (λ made. HasMap made (λ id. None)) }
+        ensures written { D.honest disk → IfOk result (λ made. IsNewOn self.geometry.format self.geometry.extents self.geometry.pages self.geometry.sections (shown_state (store_version (Some self.geometry)) (store_pairs self.geometry) (flushed (D.state disk))) (state_shown made.disk)) }
+        // So it is on pages of zeros.
+        ensures zeros { D.honest disk → D.state disk ≡ blank_disk self.geometry → IfOk result (λ made. IsNewOn self.geometry.format self.geometry.extents self.geometry.pages self.geometry.sections (blank_disk self.geometry) (state_shown made.disk)) }
+        ensures not_a_store { IfErr result (λ refused. (refused.0 ≡ Refusal.NotAStore) ↔ (D.page_count disk ≢ pages_of self.geometry)) }
+        ensures pages { MatchResult result (λ made. D.page_count (disk_below made.disk) ≡ D.page_count disk) (λ refused. D.page_count refused.1 ≡ D.page_count disk) }
+        ensures honest { MatchResult result (λ made. D.honest disk ↔ D.honest (disk_below made.disk)) (λ refused. D.honest disk ↔ D.honest refused.1) }
+        ensures sized { OnOk result (D.page_count disk ≡ pages_of self.geometry) }
+        ensures refusals { IfErr result (λ refused. (refused.0 ≡ Refusal.NotAStore) ⊎ (refused.0 ≡ Refusal.Occupied) ⊎ (refused.0 ≡ Refusal.DeviceFault) ⊎ (refused.0 ≡ Refusal.OutOfMemory)) }
+        ensures same { D.page_count disk ≢ pages_of self.geometry → result ≡ Err (Refusal.NotAStore, disk) }
+        // It is refused 45 only where a store is there, or what is left of one.
+        ensures occupied { D.honest disk → IfErr result (λ refused. refused.0 ≡ Refusal.Occupied → IsTaken (D.page_count disk) (seen (D.state disk)) (store_version (Some self.geometry)) (store_pairs self.geometry)) }
+        // Of an honest disk the device alone refuses it 1.
+        ensures cause { D.honest disk → IfErr result (λ refused. refused.0 ≡ Refusal.DeviceFault → Rises (D.failure_count disk) (D.failure_count refused.1)) }
+        // No store is made there, and it is as it was then.
+        ensures taken { D.honest disk → IsTaken (D.page_count disk) (seen (D.state disk)) (store_version (Some self.geometry)) (store_pairs self.geometry) → MatchResult result (λ made. ⊥) (λ refused. D.state refused.1 ≡ D.state disk) }
+    {
+        let OpenOptions {
+            alloc,
+            limits,
+            geometry,
+        } = self;
+        let options = MountOptions::new(alloc).limits(limits);
+        match options.create(disk, geometry) {
+            Ok(core) => Ok(Store {
+                alloc,
+                core,
+                findings: Vec::new(alloc),
+            }),
+            Err(refused) => Err(refused),
+        }
+    }
+
+    /// Opens the store on a disk, as it was made persistent or as a crash left it: flushes, and reads the superblock,
+    /// the root and the index's runs. Each section and the root have two pages, but in the older formats, and it takes the newest
+    /// that is whole. It also returns what these pages hold: `Finding::passed_over` names a page that wasn't taken.
+    ///
+    /// Nothing is written. If the call is refused, it returns the disk. 43 NotAStore: no store of that many pages is on
+    /// it. 20 to 26: a page is damaged, and if the store has two of it, both are. 27 RootLost: the newest root that is
+    /// whole is older than one that was persistent. 1 DeviceFault, and 9 OutOfMemory.
+    pub fn open<D: PageDisk + Drop>(
+        self,
+        disk: D,
+    ) -> Result<(Store<Mounted<D>>, Vec<Finding>), (Refusal, D)>
+        ensures new { IfOk result (λ opened. (opened.0.history ≡ []) × (opened.0.base ≡ 0) × (opened.0.limit ≡ self.limits.history)) }
+        ensures image { D.honest disk → IfOk result (λ opened. (opened.0.opened ≡ shown_on (D.page_count disk) (seen (D.state disk))) × (state_shown opened.0.disk ≡ record { durable = shown_on (D.page_count disk) (seen (D.state disk)); volatile = [] })) }
+        ensures store { IfOk result (λ opened. IsOpened (D.honest disk) opened.0.opened opened.0.found opened.0.store) }
+        // Where the disk shows a store of some geometry with this map, that store is opened and has this map.
+        ensures recovers { D.honest disk → IfStoreOn (D.page_count disk) (page (shown_on (D.page_count disk) (seen (D.state disk))))
+            (λ S n m. MatchResult result (λ opened. (shape opened.0.store.extents ≡ S) × (opened.0.found.0 ≡ n) × HasCount (λ id. m id ≢ None) opened.0.found.1 × HasMap opened.0 m) (λ refused. IsNoAnswer refused.0)) }
+        ensures findings { D.honest disk → IfOk result (λ opened. opened.1.items ≡ findings_on (D.page_count disk) (seen (D.state disk))) }
+        ensures refusals { D.honest disk → IfErr result (λ refused. IsNoAnswer refused.0 ⊎ IsWhyNotOpened (D.page_count disk) (page (shown_on (D.page_count disk) (seen (D.state disk)))) refused.0) }
+        // Whatever the disk answers.
+        ensures number { IfErr result (λ refused. IsOpeningRefusal refused.0) }
+        ensures small { D.page_count disk < 10 → result ≡ Err (Refusal.NotAStore, disk) }
+        // 1 is an answer of the device.
+        ensures cause { IfErr result (λ refused. refused.0 ≡ Refusal.DeviceFault → Rises (D.failure_count disk) (D.failure_count refused.1)) }
+        // Nothing is written, whether it is opened or not: the device holds what it held, or that made durable.
+        ensures unwritten { D.honest disk → MatchResult result (λ opened. D.state (disk_below opened.0.disk) ≡ flushed (D.state disk)) (λ refused. (D.state refused.1 ≡ D.state disk) ⊎ (D.state refused.1 ≡ flushed (D.state disk))) }
+        // Two flushes, and no write; if it is refused, two at most.
+        ensures calls { D.honest disk → MatchResult result (λ opened. D.moment (disk_below opened.0.disk) ≡ D.moment disk + 2) (λ refused. D.moment refused.1 ≤ D.moment disk + 2) }
+        // A crash meanwhile leaves what shows as what one before it might have left.
+        ensures crash { D.honest disk → IfOk result (λ opened. (left : Image) → left_as_shown opened.0.disk (D.moment disk) left → ShowsOn (D.page_count disk) (seen (D.state disk)) (MayLeave (D.state disk)) left) }
+        ensures honest { MatchResult result (λ opened. D.honest disk ↔ D.honest (disk_below opened.0.disk)) (λ refused. D.honest disk ↔ D.honest refused.1) }
+        ensures pages { MatchResult result (λ opened. D.page_count (disk_below opened.0.disk) ≡ D.page_count disk) (λ refused. D.page_count refused.1 ≡ D.page_count disk) }
+    {
+        let OpenOptions { alloc, limits, .. } = self;
+        let options = MountOptions::new(alloc).limits(limits);
+        match options.open(disk) {
+            Ok((core, findings)) => {
+                let store = Store {
+                    alloc,
+                    core,
+                    findings: Vec::new(alloc),
+                };
+                Ok((store, findings))
+            }
+            Err(refused) => Err(refused),
+        }
+    }
+
+    // No clause can say what the operating system answers, so bodies of `create_file`, `open_file` and `open_older_file` that always refuse, or take
+    // another file, would be proved too. A program that is tested makes a file, and opens it again.
+
+    /// Makes a new store in a new file, with nothing in it. A file that is there is taken if it is empty, and refused
+    /// if something is in it. The file is locked as long as the store lives. It is synced, 4,096 bytes for each page of
+    /// the disk. All of them are written up to a gibibyte; a larger file takes room as its pages are written.
+    ///
+    /// The process has to have its descriptors 0 to 2 open, on whatever: else the file gets the number of a standard
+    /// stream, and what is printed is written into the store.
+    ///
+    /// Refused 46 NotEmpty if a file with something in it is there, or what is there is no file: nothing is written
+    /// then. Refused 1 DeviceFault, 9 OutOfMemory, and 45 Occupied if another process wrote a store into it meanwhile,
+    /// which asked for no lock. After these three the file may be there, with anything in it.
+    pub fn create_file<R: Files<File = File>>(
+        self,
+        rt: &R,
+        path: &str,
+    ) -> Result<Store<Mounted<FileDisk>>, OpenError>
+        ensures new { IfOk result (λ made. (made.history ≡ []) × (made.base ≡ 0) × (made.limit ≡ self.limits.history)) }
+        ensures store { IfOk result (λ made. made.store ≡ new_stored self.geometry.format self.geometry.extents self.geometry.pages self.geometry.sections) }
+        ensures found { IfOk result (λ made. made.found ≡ (0, 0)) }
+        ensures pages { IfOk result (λ made. file_pages (disk_below made.disk) ≡ pages_of self.geometry) }
+        ensures refusals { IfErr result (λ error. (error ≡ OpenError.DeviceFault) ⊎ (error ≡ OpenError.OutOfMemory) ⊎ (error ≡ OpenError.Occupied) ⊎ (error ≡ OpenError.NotEmpty)) }
+    {
+        let pages = self.geometry.device_pages();
+        let disk = match FileDisk::create_new(rt, self.alloc, path, pages, MODE) {
+            Ok(disk) => disk,
+            Err(FileFault::NotEmpty) => return Err(OpenError::NotEmpty),
+            Err(_) => return Err(OpenError::DeviceFault),
+        };
+        match self.create(disk) {
+            Ok(store) => Ok(store),
+            Err((refusal, _)) => Err(OpenError::of(refusal)),
+        }
+    }
+
+    /// Opens the store that is in a file, as it was made persistent or as a crash left it. The file is locked as long
+    /// as the store lives. `findings` reports pages of which it has two and one is damaged. Descriptors 0 to 2 have to
+    /// be open, as at `create_file`.
+    ///
+    /// Refused 1 DeviceFault if the operating system refuses a call, for example if there is no such file or another
+    /// process has it; 6 OddLength; 43 NotAStore if no store of that many pages is in it; 20 to 26 for a page that is
+    /// damaged; 27 RootLost if the root is older than one that was persistent; and 9 OutOfMemory. The file
+    /// is as it was then.
+    pub fn open_file<R: Files<File = File>>(
+        self,
+        rt: &R,
+        path: &str,
+    ) -> Result<Store<Mounted<FileDisk>>, OpenError>
+        ensures new { IfOk result (λ opened. (opened.history ≡ []) × (opened.base ≡ 0) × (opened.limit ≡ self.limits.history)) }
+        ensures store { IfOk result (λ opened. IsOpened ⊥ opened.opened opened.found opened.store) }
+        ensures refusals { IfErr result (λ error. (error ≢ OpenError.Occupied) × (error ≢ OpenError.NotEmpty)) }
+    {
+        let disk = match FileDisk::open(rt, self.alloc, path) {
+            Ok(disk) => disk,
+            Err(OpenFault::DeviceFault) => return Err(OpenError::DeviceFault),
+            Err(OpenFault::OddLength) => return Err(OpenError::OddLength),
+        };
+        match self.open(disk) {
+            Ok((mut store, findings)) => {
+                store.findings = findings;
+                Ok(store)
+            }
+            Err((refusal, _)) => Err(OpenError::of(refusal)),
+        }
+    }
+
+    /// Makes a new store in memory, with nothing in it. It takes 4,096 bytes for each page of the disk. Refused 9
+    /// OutOfMemory alone.
+    pub fn create_in_memory(self) -> Result<Store<Mounted<MemoryDisk>>, OpenError>
+        ensures new { IfOk result (λ made. (made.history ≡ []) × (made.base ≡ 0) × (made.limit ≡ self.limits.history)) }
+        ensures store { IfOk result (λ made. made.store ≡ new_stored self.geometry.format self.geometry.extents self.geometry.pages self.geometry.sections) }
+        ensures found { IfOk result (λ made. made.found ≡ (0, 0)) }
+        // It has no shard.
+        ensures map { IfOk result (λ made. HasMap made (λ id. None)) }
+        // The superblock and the root are written and durable, on pages of zeros.
+        ensures written { IfOk result (λ made. IsNewOn self.geometry.format self.geometry.extents self.geometry.pages self.geometry.sections (blank_disk self.geometry) (state_shown made.disk)) }
+        ensures refusals { IfErr result (λ error. error ≡ OpenError.OutOfMemory) }
+    {
+        let OpenOptions {
+            alloc,
+            limits,
+            geometry,
+        } = self;
+        let options = MountOptions::new(alloc).limits(limits);
+        match options.create_in_memory(geometry) {
+            Ok(core) => Ok(Store {
+                alloc,
+                core,
+                findings: Vec::new(alloc),
+            }),
+            Err(_) => Err(OpenError::OutOfMemory),
+        }
+    }
+
+    /// Opens the store of format 3 on a disk as of the newest root that is whole, though a newer one was persistent, so
+    /// that `open` refuses it 27 RootLost. What was put and acknowledged since is lost, and what was there before may
+    /// be written over. Nothing is written: a sync is refused 1 DeviceFault, after which the store is halted. It also
+    /// returns what the pages hold of which the store has two, as `open` does.
+    ///
+    /// If the call is refused, it returns the disk. 43 NotAStore: there is no store of format 3. The other refusals are
+    /// those of `open`, but for 27 RootLost.
+    pub fn open_older<D: PageDisk + Drop>(
+        self,
+        disk: D,
+    ) -> Result<(Store<AsOf<Mounted<D>>>, Vec<Finding>), (Refusal, D)>
+        ensures new { IfOk result (λ opened. (opened.0.history ≡ []) × (opened.0.base ≡ 0) × (opened.0.limit ≡ self.limits.history)) }
+        // What it shows, by which it is opened: no section of it records a later root than the newest that is whole.
+        ensures image { D.honest disk → IfOk result (λ opened. (opened.0.opened ≡ older_on (D.page_count disk) (seen (D.state disk))) × (state_lowered opened.0.disk ≡ record { durable = older_on (D.page_count disk) (seen (D.state disk)); volatile = [] })) }
+        ensures store { IfOk result (λ opened. IsOpened (D.honest disk) opened.0.opened opened.0.found opened.0.store) }
+        ensures there { D.honest disk → OnOk result (dimensions_on (D.page_count disk) (seen (D.state disk)) ≢ None) }
+        ensures findings { D.honest disk → IfOk result (λ opened. opened.1.items ≡ findings_on (D.page_count disk) (seen (D.state disk))) }
+        // No store of format 3 is there, or what it shows is refused by the first test that fails.
+        ensures refusals { D.honest disk → IfErr result (λ refused. IsNoAnswer refused.0 ⊎ ((refused.0 ≡ Refusal.NotAStore) × (dimensions_on (D.page_count disk) (seen (D.state disk)) ≡ None)) ⊎ IsWhyNotOpened (D.page_count disk) (page (older_on (D.page_count disk) (seen (D.state disk)))) refused.0) }
+        ensures number { IfErr result (λ refused. IsOpeningRefusal refused.0) }
+        ensures small { D.page_count disk < 10 → result ≡ Err (Refusal.NotAStore, disk) }
+        // 1 is an answer of the device.
+        ensures cause { IfErr result (λ refused. refused.0 ≡ Refusal.DeviceFault → Rises (D.failure_count disk) (D.failure_count refused.1)) }
+        // Nothing is written, whether it is opened or not: the device holds what it held, or that made durable.
+        ensures unwritten { D.honest disk → MatchResult result (λ opened. D.state (disk_below (shown_below opened.0.disk)) ≡ flushed (D.state disk)) (λ refused. (D.state refused.1 ≡ D.state disk) ⊎ (D.state refused.1 ≡ flushed (D.state disk))) }
+        // Two flushes, and no write; if it is refused, two at most.
+        ensures calls { D.honest disk → MatchResult result (λ opened. D.moment (disk_below (shown_below opened.0.disk)) ≡ D.moment disk + 2) (λ refused. D.moment refused.1 ≤ D.moment disk + 2) }
+        ensures honest { MatchResult result (λ opened. D.honest disk ↔ D.honest (disk_below (shown_below opened.0.disk))) (λ refused. D.honest disk ↔ D.honest refused.1) }
+        ensures pages { MatchResult result (λ opened. D.page_count (disk_below (shown_below opened.0.disk)) ≡ D.page_count disk) (λ refused. D.page_count refused.1 ≡ D.page_count disk) }
+    {
+        let OpenOptions { alloc, limits, .. } = self;
+        let options = MountOptions::new(alloc).limits(limits);
+        match options.open_older(disk) {
+            Ok((core, findings)) => {
+                let older = Store {
+                    alloc,
+                    core,
+                    findings: Vec::new(alloc),
+                };
+                Ok((older, findings))
+            }
+            Err(refused) => Err(refused),
+        }
+    }
+
+    /// Opens the store of format 3 that is in a file as `open_older` does. The file is locked as long as the store
+    /// lives.
+    ///
+    /// The refusals are those of `open_file`, but for 27 RootLost; 43 NotAStore also means that the store isn't of
+    /// format 3. As at `open_file`, no clause can say what the operating system answers.
+    pub fn open_older_file<R: Files<File = File>>(
+        self,
+        rt: &R,
+        path: &str,
+    ) -> Result<Store<AsOf<Mounted<FileDisk>>>, OpenError>
+        ensures new { IfOk result (λ opened. (opened.history ≡ []) × (opened.base ≡ 0) × (opened.limit ≡ self.limits.history)) }
+        ensures store { IfOk result (λ opened. IsOpened ⊥ opened.opened opened.found opened.store) }
+        ensures refusals { IfErr result (λ error. (error ≢ OpenError.Occupied) × (error ≢ OpenError.NotEmpty)) }
+    {
+        let disk = match FileDisk::open(rt, self.alloc, path) {
+            Ok(disk) => disk,
+            Err(OpenFault::DeviceFault) => return Err(OpenError::DeviceFault),
+            Err(OpenFault::OddLength) => return Err(OpenError::OddLength),
+        };
+        match self.open_older(disk) {
+            Ok((mut store, findings)) => {
+                store.findings = findings;
+                Ok(store)
+            }
+            Err((refusal, _)) => Err(OpenError::of(refusal)),
         }
     }
 }

@@ -1,26 +1,28 @@
-//! Puts.
-ghost use Rattle.std.specs.Prelude.{◌≡◌, ◌≤◌, ◌↔◌, ◌∷◌, [], Err, IfErr, IfOk, MatchResult, Some, suc, true};
-ghost use Rattle.cs_disk.specs.Disk.{Leaves, LeavesOnly, page};
-ghost use Rattle.cs_extent.specs.State.{shape};
+//! Puts and deletes, and the room for further events that they make.
+ghost use Rattle.std.specs.Prelude.{◌↔◌, ◌∷◌, ◌≡◌, ◌≤◌, ◌⊎◌, Err, IfErr, IfOk, IfSome, MatchOption, MatchResult, None, OnOk, Some, [], suc, true};
+ghost use Rattle.cs_core.specs.Meanings.{command_said};
+ghost use Rattle.cs_core.specs.Prefixes.{IsPrefixBetween, IsPrefixOf};
+ghost use Rattle.cs_core.specs.Replies.{MayAnswer, MayRefuse};
+ghost use Rattle.cs_core.specs.declared.events.Event.TheVariants.{Delete, Put};
+ghost use Rattle.cs_core.specs.declared.events.Reply.TheVariants.{Absent, Accepted};
+ghost use Rattle.cs_disk.specs.Disk.{Leaves, LeavesOnly};
 ghost use Rattle.cs_index.specs.State.{id_number};
+ghost use Rattle.cs_store.specs.Errors.{IsDeleteRefusal, delete_refusal, put_refusal};
+ghost use Rattle.cs_store.specs.Events.{Declines, DeclinesCopy, Does, DoesFrom, IsHalted};
+ghost use Rattle.cs_store.specs.Maps.{Accepts, HasMap};
+ghost use Rattle.cs_store.specs.Rooms.{Empties, HasNoRoom, IsMadeReady, IsNoRoom, IsSweeping, StaysFull, room_refusal};
+ghost use Rattle.cs_writeback.specs.Histories.{IsNoRefusal};
+ghost use Rattle.cs_writeback.specs.Runs.{Ran};
 ghost use Rattle.law_machine.specs.Element.{Map};
 ghost use Rattle.law_machine.specs.State.{changed};
-ghost use Rattle.law_refinement.specs.Crashes.{IsPrefix};
-ghost use Rattle.cs_core.specs.declared.events.Event.TheVariants.{Put};
-ghost use Rattle.cs_core.specs.declared.events.Reply.TheVariants.{Accepted};
-ghost use Rattle.cs_core.specs.Meanings.{commands_said};
-ghost use Rattle.cs_writeback.specs.Runs.{Ran};
-ghost use Rattle.cs_store.specs.Errors.{put_refusal};
-ghost use Rattle.cs_store.specs.Events.{DeclinesCopy, Does};
-ghost use Rattle.cs_store.specs.Maps.{Accepts, HasMap};
-ghost use Rattle.cs_store.specs.Rooms.{HasNoRoom};
 
-use crate::errors::PutError;
-use crate::store_events::ask_ready;
+use crate::errors::{DeleteError, PutError};
 use crate::stores::Store;
-use cs_core::{Bytes, Event, Reply};
+use cs_core::{Bytes, Core, Event, Reply};
 use cs_disk::PageDisk;
 use cs_frame::ShardId;
+use cs_refusal::Refusal;
+use cs_writeback::{ask, make_room, sync};
 use std::alloc::{AllocError, Global};
 
 /// A copy of these bytes.
@@ -56,9 +58,9 @@ impl<D: PageDisk> Store<D> {
         ensures ran { Ran D.PageDisk self.old self.new }
         ensures rises { self.old.store.frontier ≤ self.new.store.frontier }
         // A crash at any moment of it leaves the map after some of the commands, none of those left out that were persistent before.
-        ensures crash { D.honest self.old.disk → LeavesOnly D.moment D.left_since self.old.disk self.new.disk (IsPrefix (shape self.old.store.extents) (page self.old.opened) (commands_said self.new.history) self.old.store.frontier self.new.store.accepted) }
+        ensures crash { D.honest self.old.disk → LeavesOnly D.moment D.left_since self.old.disk self.new.disk (IsPrefixBetween self.old self.new) }
         // A crash after it does so for the commands and the frontier then.
-        ensures left { D.honest self.new.disk → Leaves (D.state self.new.disk) (IsPrefix (shape self.new.store.extents) (page self.new.opened) (commands_said self.new.history) self.new.store.frontier self.new.store.accepted) }
+        ensures left { D.honest self.new.disk → Leaves (D.state self.new.disk) (IsPrefixOf self.new) }
         ensures honest { D.honest self.old.disk ↔ D.honest self.new.disk }
     {
         // Called for its contract alone: which state of the machine the store is in.
@@ -74,5 +76,127 @@ impl<D: PageDisk> Store<D> {
             Ok(_) => unreachable!(),
             Err(refusal) => Err(PutError::of(refusal)),
         }
+    }
+
+    /// Deletes what is under an identifier, and gives the number that the delete has among the commands accepted since the store was opened; None
+    /// where there is nothing under it, and then nothing is accepted. It is persistent once `sync` answers that number or a greater one.
+    ///
+    /// The disk is asked for nothing, but where as many events are kept as may be, when all that was accepted is made persistent first, as by `sync`.
+    ///
+    /// Refused 35 WornOut, 40 Halted, 9 OutOfMemory; 1 DeviceFault or 30 Full from that sync; and 41 HistoryFull where as many events are kept as
+    /// may be and an extent is being swept still. The map is as it was then.
+    pub fn delete(&mut self, id: ShardId) -> Result<Option<u64>, DeleteError>
+        ensures done { IfOk result (λ deleted. MatchOption deleted (Does D.PageDisk self.old (Delete id) Absent self.new) (λ n. Does D.PageDisk self.old (Delete id) (Accepted n) self.new)) }
+        ensures refused { IfErr result (λ error. IsHalted self.old (delete_refusal error) self.new ⊎ Declines D.PageDisk self.old (Delete id) (delete_refusal error) self.new) }
+        // A halted store refuses it, and nothing is asked of the core: no event more is kept.
+        ensures halted { self.old.store.halted ≡ true → (result ≡ Err DeleteError.Halted) × (self.new ≡ self.old) }
+        // It is refused 41 only where no event may be kept at all, or an extent is being swept.
+        ensures full { D.honest self.old.disk → IfErr result (λ error. error ≡ DeleteError.HistoryFull → HasNoRoom self.new) }
+        ensures number { D.honest self.old.disk → IfOk result (λ deleted. MatchOption deleted (self.new.store.accepted ≡ self.old.store.accepted) (λ n. n ≡ suc self.old.store.accepted)) }
+        ensures accepted { IfOk result (λ deleted. IfSome deleted (λ n. self.new.store.accepted ≡ n)) }
+        // It alone was accepted where it has a number, and nothing where it has none or is refused.
+        ensures accepts { MatchResult result (λ deleted. MatchOption deleted (Accepts D.PageDisk [] self.old self.new) (λ _. Accepts D.PageDisk ((id_number id, None) ∷ []) self.old self.new)) (λ _. Accepts D.PageDisk [] self.old self.new) }
+        // Where there is nothing under it the map stays as it was.
+        ensures map { (m : Map) → HasMap self.old m → MatchResult result (λ deleted. MatchOption deleted (HasMap self.new m) (λ _. HasMap self.new (changed m (id_number id, None)))) (λ _. HasMap self.new m) }
+        // Nothing is accepted just where there is nothing under the identifier.
+        ensures absent { (m : Map) → HasMap self.old m → D.honest self.old.disk → IfOk result (λ deleted. (deleted ≡ None) ↔ (m (id_number id) ≡ None)) }
+        // It is made of calls of the core, one after another.
+        ensures ran { Ran D.PageDisk self.old self.new }
+        ensures rises { self.old.store.frontier ≤ self.new.store.frontier }
+        // A crash at any moment of it leaves the map after some of the commands, none of those left out that were persistent before.
+        ensures crash { D.honest self.old.disk → LeavesOnly D.moment D.left_since self.old.disk self.new.disk (IsPrefixBetween self.old self.new) }
+        // A crash after it does so for the commands and the frontier then.
+        ensures left { D.honest self.new.disk → Leaves (D.state self.new.disk) (IsPrefixOf self.new) }
+        ensures honest { D.honest self.old.disk ↔ D.honest self.new.disk }
+    {
+        // Called for their contracts alone: which state of the machine the store is in, and what all extents keep.
+        self.core.progress();
+        self.core.extents().extent_count();
+        if self.core.is_halted() {
+            return Err(DeleteError::Halted);
+        }
+        match ask_ready(&mut self.core, &Event::Delete(id)) {
+            Ok(Reply::Accepted(number)) => Ok(Some(number)),
+            Ok(Reply::Absent) => Ok(None),
+            Ok(_) => unreachable!(),
+            Err(refusal) => Err(DeleteError::of(refusal)),
+        }
+    }
+}
+
+/// Makes room for an event and has the core do it.
+pub(crate) fn ask_ready<D: PageDisk>(core: &mut Core<D>, event: &Event) -> Result<Reply, Refusal>
+    ensures done { IfOk result (λ reply. Does D.PageDisk core.old event.now reply core.new) }
+    ensures machine { D.honest core.old.disk → IfOk result (λ reply. DoesFrom D.PageDisk core.old event.now reply core.new) }
+    ensures answers { IfOk result (λ reply. MayAnswer event.now reply) }
+    ensures no_refusal { IfOk result IsNoRefusal }
+    ensures declined { IfErr result (λ refusal. Declines D.PageDisk core.old event.now refusal core.new) }
+    ensures refusals { IfErr result (λ refusal. IsDeleteRefusal refusal ⊎ MayRefuse event.now refusal) }
+    ensures full { D.honest core.old.disk → IfErr result (λ refusal. refusal ≡ Refusal.HistoryFull → HasNoRoom core.new) }
+    ensures accepts { MatchResult result (λ reply. Accepts D.PageDisk (command_said event.now reply) core.old core.new) (λ _. Accepts D.PageDisk [] core.old core.new) }
+    ensures ran { Ran D.PageDisk core.old core.new }
+    ensures left { D.honest core.new.disk → Leaves (D.state core.new.disk) (IsPrefixOf core.new) }
+{
+    match make_ready(core) {
+        Ok(()) => {
+            // Called for its contract alone: which state of the machine the core is in.
+            core.progress();
+            let asked = ask(core, event);
+            // And what a crash leaves now.
+            core.progress();
+            asked
+        }
+        Err(refusal) => {
+            core.progress();
+            Err(refusal)
+        }
+    }
+}
+
+/// Makes room for an event: takes a checkpoint where at least half as many events are kept as may be and the store is settled; and where as many
+/// are kept as may be all the same, syncs and then takes one. So most calls cost nothing, one in so many goes through the events that are kept,
+/// and who never syncs pays for a sync once in as many events as may be kept.
+///
+/// Refused as a sync is, 1 DeviceFault, 9 OutOfMemory, 30 Full, 35 WornOut or 40 Halted; and 41 HistoryFull where an extent is being swept still.
+pub(crate) fn make_ready<D: PageDisk>(core: &mut Core<D>) -> Result<(), Refusal>
+    ensures ready { OnOk result (IsMadeReady D.PageDisk core.old core.new) }
+    ensures no_room { IfErr result (λ refusal. IsNoRoom D.PageDisk core.old refusal core.new) }
+    ensures refusals { IfErr result IsDeleteRefusal }
+    ensures full { IfErr result (λ refusal. refusal ≡ Refusal.HistoryFull → IsSweeping core.new) }
+    ensures accepts { Accepts D.PageDisk [] core.old core.new }
+    ensures ran { Ran D.PageDisk core.old core.new }
+{
+    make_room(core);
+    if core.history().len() < core.limit() {
+        return Ok(());
+    }
+    empty(core)
+}
+
+/// Makes all persistent, and replaces the events that are kept.
+fn empty<D: PageDisk>(core: &mut Core<D>) -> Result<(), Refusal>
+    ensures empties { OnOk result (Empties D.PageDisk core.old core.new) }
+    ensures stays { IfErr result (λ refusal. StaysFull D.PageDisk core.old refusal core.new) }
+    ensures refusals { IfErr result IsDeleteRefusal }
+    ensures full { IfErr result (λ refusal. refusal ≡ Refusal.HistoryFull → IsSweeping core.new) }
+    ensures ran { Ran D.PageDisk core.old core.new }
+{
+    match sync(core) {
+        Ok(_) => {}
+        Err(refusal) => return Err(refusal),
+    }
+    match core.checkpoint() {
+        Ok(_) => Ok(()),
+        Err(refusal) => Err(told(refusal)),
+    }
+}
+
+/// How it is told that no checkpoint could be taken.
+fn told(refusal: Refusal) -> Refusal
+    ensures { result ≡ room_refusal refusal }
+{
+    match refusal {
+        Refusal::Unsettled => Refusal::HistoryFull,
+        other => other,
     }
 }

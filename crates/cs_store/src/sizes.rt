@@ -1,18 +1,16 @@
 //! How many bytes a shard has.
-ghost use Rattle.std.specs.Prelude.{◌≡◌, ◌↔◌, IfErr, List, None, [], map, ℕ};
+ghost use Rattle.std.specs.Prelude.{◌↔◌, ◌≡◌, IfErr, List, None, [], map, ℕ};
 ghost use Rattle.cs_chunk.specs.Lengths.{IsHeaderRefusal};
 ghost use Rattle.cs_chunk.specs.Newest.{AreNewest};
-ghost use Rattle.cs_disk.specs.Disk.{LeavesOnly, Rises, page, seen};
+ghost use Rattle.cs_core.specs.Prefixes.{IsPrefixOf};
+ghost use Rattle.cs_disk.specs.Disk.{LeavesOnly, Rises, seen};
 ghost use Rattle.cs_disk.specs.Reads.{OnlyReads};
-ghost use Rattle.cs_extent.specs.State.{shape};
 ghost use Rattle.cs_frame.specs.Formats.{as_locator};
 ghost use Rattle.cs_index.specs.State.{id_number, index_of};
-ghost use Rattle.law_machine.specs.Element.{Map};
-ghost use Rattle.law_machine.specs.Index.{live_at};
-ghost use Rattle.law_refinement.specs.Crashes.{IsPrefix};
-ghost use Rattle.cs_core.specs.Meanings.{commands_said};
 ghost use Rattle.cs_store.specs.Maps.{HasMap};
 ghost use Rattle.cs_store.specs.Sizes.{IsSaidByHeaders, IsSized, size_refusal};
+ghost use Rattle.law_machine.specs.Element.{Map};
+ghost use Rattle.law_machine.specs.Index.{live_at};
 
 use crate::errors::same_name;
 use crate::stores::Store;
@@ -88,7 +86,7 @@ impl<D: PageDisk> Store<D> {
         // 1 is answered only where the disk's count of failures rose, or stood at its end.
         ensures cause { IfErr result (λ error. error ≡ SizeError.DeviceFault → Rises (D.failure_count self.old.disk) (D.failure_count self.new.disk)) }
         // A crash meanwhile leaves what one before it might have left.
-        ensures crash { D.honest self.old.disk → LeavesOnly D.moment D.left_since self.old.disk self.new.disk (IsPrefix (shape self.old.store.extents) (page self.old.opened) (commands_said self.old.history) self.old.store.frontier self.old.store.accepted) }
+        ensures crash { D.honest self.old.disk → LeavesOnly D.moment D.left_since self.old.disk self.new.disk (IsPrefixOf self.old) }
     {
         // Called for their contracts alone: which state of the machine the store is in, and what all extents keep.
         self.core.progress();

@@ -1,9 +1,19 @@
-//! Stores, and how they are closed. `OpenOptions` makes and opens them.
-ghost use Rattle.std.specs.Prelude.{◌≡◌};
+//! Stores, how they are synced, and how they are closed. `OpenOptions` makes and opens them.
+ghost use Rattle.std.specs.Prelude.{◌↔◌, ◌≡◌, ◌≤◌, ◌⊎◌, Err, IfErr, IfOk, [], true};
+ghost use Rattle.cs_core.specs.Prefixes.{IsPrefixBetween, IsPrefixOf};
+ghost use Rattle.cs_disk.specs.Disk.{Leaves, LeavesOnly};
+ghost use Rattle.cs_store.specs.Errors.{sync_refusal};
+ghost use Rattle.cs_store.specs.Events.{IsHalted};
+ghost use Rattle.cs_store.specs.Maps.{Accepts, HasMap};
+ghost use Rattle.cs_writeback.specs.Runs.{Ran};
+ghost use Rattle.cs_writeback.specs.Syncs.{StopsSync, Syncs};
+ghost use Rattle.law_machine.specs.Element.{Map};
 
+use crate::errors::SyncError;
 use cs_core::Core;
 use cs_disk::PageDisk;
 use cs_mount::Finding;
+use cs_writeback::sync;
 use std::alloc::Global;
 use std::marker::Model;
 
@@ -25,6 +35,14 @@ impl<D: PageDisk> Model for Store<D> {
 }
 
 impl<D: PageDisk> Store<D> {
+    /// What the pages held of which the store has two, as it was opened by `open_file` or `open_older_file`: those of
+    /// the root, which show as page 1, and of each section of the superblock. `Finding::passed_over` names a page that
+    /// is damaged. The list is empty for a store that was made, for one of the older formats, and for one that `open` or `open_older`
+    /// opened, which return it beside the store, with a contract. The value of a store is its core's, so no clause speaks of this list.
+    pub fn findings(&self) -> &[Finding] {
+        &self.findings
+    }
+
     /// The disk, with which the store ends. Nothing is written: what isn't persistent is lost, so `sync` first.
     pub fn close(self) -> D
         ensures { result ≡ self.disk }
@@ -35,5 +53,44 @@ impl<D: PageDisk> Store<D> {
             findings: _,
         } = self;
         core.into_disk()
+    }
+
+    /// Makes all accepted commands persistent, and gives how many they are since the store was opened. It is a write for each element that waits, and
+    /// a flush a round.
+    ///
+    /// Refused 1 DeviceFault, 9 OutOfMemory, 30 Full, 35 WornOut or 40 Halted. The map is as it was then, and what was persistent stays so; the
+    /// next sync goes on where this one stopped, unless the store is halted.
+    pub fn sync(&mut self) -> Result<u64, SyncError>
+        ensures done { IfOk result (λ frontier. Syncs D.PageDisk self.old self.new × (frontier ≡ self.new.store.frontier)) }
+        // What it gives is the number of commands accepted, so the whole map is persistent.
+        ensures all { D.honest self.old.disk → IfOk result (λ frontier. frontier ≡ self.new.store.accepted) }
+        ensures refused { IfErr result (λ error. IsHalted self.old (sync_refusal error) self.new ⊎ StopsSync D.PageDisk self.old (sync_refusal error) self.new) }
+        // A halted store refuses it, and nothing is asked of the core: no event more is kept.
+        ensures halted { self.old.store.halted ≡ true → (result ≡ Err SyncError.Halted) × (self.new ≡ self.old) }
+        ensures same { D.honest self.old.disk → self.new.store.accepted ≡ self.old.store.accepted }
+        // No command is accepted.
+        ensures accepts { Accepts D.PageDisk [] self.old self.new }
+        ensures map { (m : Map) → HasMap self.old m → HasMap self.new m }
+        // It is made of calls of the core, one after another.
+        ensures ran { Ran D.PageDisk self.old self.new }
+        ensures rises { self.old.store.frontier ≤ self.new.store.frontier }
+        // A crash at any moment of it leaves the map after some of the commands, none of those left out that were persistent before.
+        ensures crash { D.honest self.old.disk → LeavesOnly D.moment D.left_since self.old.disk self.new.disk (IsPrefixBetween self.old self.new) }
+        // A crash after it does so for the commands and the frontier then.
+        ensures left { D.honest self.new.disk → Leaves (D.state self.new.disk) (IsPrefixOf self.new) }
+        ensures honest { D.honest self.old.disk ↔ D.honest self.new.disk }
+    {
+        // Called for its contract alone: which state of the machine the store is in.
+        self.core.progress();
+        if self.core.is_halted() {
+            return Err(SyncError::Halted);
+        }
+        let synced = sync(&mut self.core);
+        // Called for its contract alone: what a crash leaves now.
+        self.core.progress();
+        match synced {
+            Ok(frontier) => Ok(frontier),
+            Err(refusal) => Err(SyncError::of(refusal)),
+        }
     }
 }

@@ -4,7 +4,7 @@ use Rattle.cs_extent.specs.State.{State as ExtentsState}
 use Rattle.cs_index.specs.State.{State as Index}
 use Rattle.cs_twin.specs.declared.findings.Finding.{Finding}
 use Rattle.cs_inspect.specs.Scrubs.{AreCaused, IsScrubbed, device_faults}
-use Rattle.cs_inspect.specs.declared.damages.Scrubbed.{Scrubbed}
+use Rattle.cs_inspect.specs.declared.scrubs.Scrubbed.{Scrubbed}
 use Rattle.cs_inspect.specs.Failures.{RisesBy}
 use Rattle.cs_tools.specs.Pages.{AreWhole}
 use Rattle.cs_tools.specs.Scrubs.{Scrubs}

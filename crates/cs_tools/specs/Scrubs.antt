@@ -6,7 +6,7 @@ use Rattle.cs_index.specs.State.{State as Index}
 use Rattle.cs_twin.specs.declared.findings.Finding.{Finding}
 use Rattle.cs_inspect.specs.Scrubs.{AreCaused, IsScrubbed, device_faults}
 use Rattle.cs_inspect.specs.Failures.{RisesBy}
-use Rattle.cs_inspect.specs.declared.damages.Scrubbed.{Scrubbed}
+use Rattle.cs_inspect.specs.declared.scrubs.Scrubbed.{Scrubbed}
 use Rattle.cs_tools.specs.Pages.{AreWhole}
 use Rattle.cs_tools.specs.declared.outcomes.Outcome.{Outcome}
 use Rattle.cs_tools.specs.declared.outcomes.Outcome.TheVariants.{Absent, Damaged, Done, Failed, MayBeLost, NoStore, Refused, Unopened, Unread}

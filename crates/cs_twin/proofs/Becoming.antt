@@ -5,8 +5,8 @@ use Rattle.std.proofs.lemmas.List.{length-set, set_past}
 use Rattle.cs_disk.specs.Disk.{Image, State, Write, applied, crashed, flushed, kept, page, seen, written}
 use Rattle.cs_disk.proofs.Images.{applied_push, length-applied, page_other, page_same}
 use Rattle.cs_twin.specs.declared.pairs.Pair.{Pair}
-use Rattle.cs_twin.specs.declared.fates.Fate.{Fate}
-use Rattle.cs_twin.specs.declared.fates.Fate.TheVariants.{Kept, Lost, Torn}
+use Rattle.cs_twin.specs.declared.tears.Fate.{Fate}
+use Rattle.cs_twin.specs.declared.tears.Fate.TheVariants.{Kept, Lost, Torn}
 use Rattle.cs_twin.specs.Pairs.{Versions}
 use Rattle.cs_twin.specs.Tears.{IsTornBy, MayTear, NoneLooksWhole, after_fate, left_by, spliced}
 

@@ -4,8 +4,8 @@ use Rattle.cs_disk.specs.Disk.{State, Write, seen}
 use Rattle.cs_twin.specs.declared.notes.Notes.{Notes}
 use Rattle.cs_twin.specs.declared.notes.Trust.TheVariants.{Doubted, Read, Unread}
 use Rattle.cs_twin.specs.declared.pairs.Pair.{Pair}
-use Rattle.cs_twin.specs.declared.twin_places.Place.{Place}
-use Rattle.cs_twin.specs.declared.twin_places.Place.TheVariants.{Own, OfPair, OfTwin}
+use Rattle.cs_twin.specs.declared.pairs.Place.{Place}
+use Rattle.cs_twin.specs.declared.pairs.Place.TheVariants.{Own, OfPair, OfTwin}
 use Rattle.cs_twin.specs.Pairs.{AreNoOlder, Versions, half, held_in}
 
 -- what a page number is among the pairs: no half of any, the number of the pair at a place, or a twin

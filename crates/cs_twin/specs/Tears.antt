@@ -2,8 +2,8 @@
 use Rattle.std.specs.Prelude.{◌≡◌, ◌⊎◌, ◌<◌, ◌++◌, ℕ, Bool, List, ◌∷◌, Some, length, slice_get, slice_set, take, drop}
 use Rattle.cs_disk.specs.Disk.{Image, State, Write, applied, kept, page}
 use Rattle.cs_twin.specs.declared.pairs.Pair.{Pair}
-use Rattle.cs_twin.specs.declared.fates.Fate.{Fate}
-use Rattle.cs_twin.specs.declared.fates.Fate.TheVariants.{Lost, Kept, Torn}
+use Rattle.cs_twin.specs.declared.tears.Fate.{Fate}
+use Rattle.cs_twin.specs.declared.tears.Fate.TheVariants.{Lost, Kept, Torn}
 use Rattle.cs_twin.specs.Pairs.{Versions, half}
 
 -- a page holds what some of the volatile writes to it leave there, in order

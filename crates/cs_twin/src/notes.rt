@@ -1,8 +1,7 @@
-// What is noted of pairs.
+//! What is noted of pairs.
 
-use crate::half_repairs::{read_damaged, write_through};
+use crate::findings::{read_damaged, read_held, write_through};
 use crate::pairs::{Held, PageRules, Pair, half_of};
-use crate::readings::read_held;
 use cs_disk::{DiskFault, PageDisk};
 use std::alloc::{AllocError, Global};
 

@@ -1,4 +1,4 @@
-// A disk in pairs.
+//! A disk in pairs.
 ghost use Rattle.std.specs.Prelude.{◌≡◌};
 ghost use Rattle.cs_disk.specs.Disk.{IsWhole, seen};
 ghost use Rattle.cs_twin.specs.Fitting.{IsFit};
@@ -7,11 +7,9 @@ ghost use Rattle.cs_twin.specs.Kept.{TakesWrite};
 ghost use Rattle.cs_twin.specs.Noted.{AreNotes, AreRight, IsUndoubted, failed, refused_of};
 ghost use Rattle.cs_twin.specs.Pairs.{ArePairs, left_shown, shown_state};
 
-use crate::findings::Finding;
+use crate::findings::{Finding, read_findings};
 use crate::notes::Notes;
-use crate::pairs::{PageRules, Pair};
-use crate::readings::read_findings;
-use crate::twin_places::Place;
+use crate::pairs::{PageRules, Pair, Place};
 use cs_disk::{CrashDisk, DiskFault, PageDisk};
 use std::alloc::Global;
 

@@ -1,4 +1,4 @@
-// Pairs of pages, and what tells of a page whether it is whole.
+//! Pairs of pages, what a page number is among them, and what tells of a page whether it is whole.
 ghost use Rattle.std.specs.Prelude.{◌≡◌, ℕ, Bool, List, IfErr, IfOk, length};
 ghost use Rattle.cs_disk.specs.declared.fault.DiskFault.TheVariants.{OutOfMemory};
 ghost use Rattle.cs_disk.specs.Disk.{Image, MayLeave, State};
@@ -58,4 +58,34 @@ pub trait PageRules {
     fn keep(&self)
         ensures left { (pairs : List Pair) (pages : ℕ) (s : State) (c : Image) → ArePairs pairs pages → length s.durable ≡ pages → AreNoOlder (version self.now) pairs s
             → AreAllowed (allowed self.now) pairs s → fits self.now pairs pages s.durable → MayLeave s c → fits self.now pairs pages c };
+}
+
+/// What a page number is among pairs.
+#[derive(Clone, Copy)]
+pub enum Place {
+    /// No half of any of them.
+    Own,
+    /// The number under which the pair at this place shows.
+    OfPair(usize),
+    /// The twin of one of them.
+    OfTwin,
+}
+
+impl Place {
+    ghost use Rattle.cs_twin.specs.Noted.{IsPlace};
+
+    /// What this page number is.
+    pub fn of(pairs: &[Pair], number: u64) -> Place
+        ensures { IsPlace pairs.now number result }
+    {
+        for (k, pair) in pairs.iter().enumerate() {
+            if pair.twin == number {
+                return Place::OfTwin;
+            }
+            if pair.page == number {
+                return Place::OfPair(k);
+            }
+        }
+        Place::Own
+    }
 }

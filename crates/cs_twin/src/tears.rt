@@ -1,8 +1,11 @@
-// A disk in memory that tears pages.
-ghost use Rattle.std.specs.Prelude.{◌≡◌};
+//! A disk in memory that tears pages, and what a crash leaves of pairs where it tears them.
+ghost use Rattle.std.specs.Prelude.{◌≡◌, IsOkUnless, OnOk, length, ℕ, List};
 ghost use Rattle.cs_disk.specs.Memory.{memory_state};
+ghost use Rattle.cs_disk.specs.Disk.{seen, Image, MayLeave, State};
+ghost use Rattle.cs_twin.specs.Tears.{after_fate, left_by, spliced, IsTornBeside, MayTear};
+ghost use Rattle.cs_twin.specs.Pairs.{AreNoOlder, ArePairs, shown, shown_state};
+ghost use Rattle.cs_twin.specs.declared.pairs.Pair.{Pair};
 
-use crate::fates::{Fate, lay_all};
 use cs_disk::{CrashDisk, DiskFault, MemoryDisk, PageDisk};
 use std::alloc::Global;
 
@@ -165,3 +168,65 @@ impl CrashDisk for TearDisk {
 
     ghost counted = { λ d h can. refl };
 }
+
+/// What a crash makes of a volatile write.
+#[derive(Clone, Copy, Debug, PartialEq, Eq)]
+pub enum Fate {
+    /// It is lost.
+    Lost,
+    /// It is kept.
+    Kept,
+    /// So many bytes of it are kept, from its front, and the page has after them what it had before.
+    Torn(usize),
+}
+
+/// Makes of a page what it has once so many bytes of a write to it are kept.
+fn splice(page: &mut [u8; 4096], bytes: &[u8; 4096], at: usize)
+    ensures { page.new ≡ spliced at bytes.now page.old }
+{
+    let front = at.min(4096);
+    page[..front].copy_from_slice(&bytes[..front]);
+}
+
+/// Makes of a page of a disk what becomes of a write to it.
+fn lay(disk: &mut MemoryDisk, write: &(u64, [u8; 4096]), fate: Fate) -> Result<(), DiskFault>
+    ensures laid { OnOk result (seen (memory_state disk.new) ≡ after_fate (seen (memory_state disk.old)) write.now fate) }
+    ensures memory { IsOkUnless result DiskFault.OutOfMemory }
+{
+    if write.0 >= disk.pages() {
+        return Ok(());
+    }
+    match fate {
+        Fate::Lost => Ok(()),
+        Fate::Kept => disk.write(write.0, &write.1),
+        Fate::Torn(at) => {
+            let mut page = [0; 4096];
+            disk.read(write.0, &mut page)?;
+            splice(&mut page, &write.1, at);
+            disk.write(write.0, &page)
+        }
+    }
+}
+
+/// Makes of the pages of a disk what becomes of these writes.
+pub fn lay_all(
+    disk: &mut MemoryDisk,
+    writes: &[(u64, [u8; 4096])],
+    fates: &[Fate],
+) -> Result<(), DiskFault>
+    requires { length fates.now ≡ length writes.now }
+    ensures laid { OnOk result (seen (memory_state disk.new) ≡ left_by (seen (memory_state disk.old)) writes.now fates.now) }
+    ensures memory { IsOkUnless result DiskFault.OutOfMemory }
+{
+    for (i, write) in writes.iter().enumerate() {
+        lay(disk, write, fates[i])?;
+    }
+    Ok(())
+}
+
+/// Where a crash tears the pages that were being written, and no torn half of a pair is whole, what is left shows as what a crash of the disk as it
+/// shows might leave, which tears nothing: but for pages of no pair that were being written.
+pub fn torn_pages_show_a_crash()
+    ensures { (V : ℕ → List ℕ → ℕ) (pairs : List Pair) (s : State) (c : Image) → ArePairs pairs (length s.durable) → AreNoOlder V pairs s → MayTear V pairs s c
+        → (d : Image) × MayLeave (shown_state V pairs s) d × IsTornBeside pairs (shown_state V pairs s) d (shown V pairs c) }
+{}

@@ -12,8 +12,8 @@ use Rattle.cs_core.specs.declared.events.Reply.TheVariants.{Ended}
 use Rattle.cs_core.specs.Replies.{MayAnswer}
 use Rattle.cs_core.specs.Stored.{Stored}
 use Rattle.cs_core.specs.Views.{View, kept}
-use Rattle.cs_writeback.specs.declared.stops.Stop.{Stop}
-use Rattle.cs_writeback.specs.declared.stops.Stop.TheVariants.{Refused}
+use Rattle.cs_writeback.specs.declared.syncs.Stop.{Stop}
+use Rattle.cs_writeback.specs.declared.syncs.Stop.TheVariants.{Refused}
 use Rattle.cs_writeback.specs.Histories.{Goes, IsNoRefusal, IsStopped, Went}
 use Rattle.cs_writeback.specs.Rounds.{Finishes, IsPart, IsStoppedAtDue, Turn, elements_of, events_of, events_of_all, issues, rounds_of}
 use Rattle.cs_writeback.specs.Runs.{Ran}

@@ -9,8 +9,8 @@ use Rattle.cs_core.specs.declared.events.Event.TheVariants.{Stage}
 use Rattle.cs_core.specs.declared.events.Reply.{Reply}
 use Rattle.cs_core.specs.declared.events.Reply.TheVariants.{Staged, Unchanged}
 use Rattle.cs_core.specs.Views.{View}
-use Rattle.cs_writeback.specs.declared.stops.Stop.{Stop}
-use Rattle.cs_writeback.specs.declared.stops.Stop.TheVariants.{Refused, Untold}
+use Rattle.cs_writeback.specs.declared.syncs.Stop.{Stop}
+use Rattle.cs_writeback.specs.declared.syncs.Stop.TheVariants.{Refused, Untold}
 use Rattle.cs_writeback.specs.Histories.{IsStopped, Went}
 use Rattle.cs_writeback.specs.Rounds.{Finishes, IsPart, IsStoppedAtDue, StopsFirst, Turn, events_of_all, rounds_of}
 

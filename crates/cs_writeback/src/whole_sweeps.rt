@@ -24,17 +24,18 @@ pub struct Swept {
     pub root: u64,
 }
 
-/// Moves what is live on an extent and retires it, and gives how many chunks were moved and under which root it was retired. A sweep that is
-/// refused after it began is abandoned. What was copied counts where it lay then, and the copies are garbage, with which no sweep begins
-/// before the next root; in the older formats it stays where it was moved to.
+/// Moves what is live on an extent and retires it. Returns how many chunks were moved, and under which root the extent
+/// was retired. It reads each chunk that it moves. What it stages waits until it is written back.
 ///
-/// Refused 33 NotSweepable where the extent is empty, being swept or not there, where it holds runs, or where another sweep goes on or was
-/// given up since the last root (in the older formats where it is open); 41 HistoryFull where as many events are kept as may be;
-/// 40 Halted; 20 BadMagic, 21 BadDigest, 22 BadLength, 23 BadPadding or 24 BadVersion where a chunk that is to be moved is damaged; 26 Misplaced
-/// where another frame lies in its place; 30 Full;
-/// 34 StillLive, by the Retire; 35 WornOut; 1 DeviceFault; and 9 OutOfMemory, also where there was none for the Abandon: the extent is being
-/// swept still then. Whatever the disk does, it is refused for nothing else. It reads each chunk that it moves; what it stages waits until it is
-/// written back.
+/// A sweep that is refused after it began is abandoned. What was copied still counts where it lay. The copies are
+/// garbage, and no sweep begins before the next root. In the older formats a chunk stays where it was moved to.
+///
+/// 33 `NotSweepable` if the extent is empty, being swept or not there, if it holds runs, or if another sweep goes on or
+/// was given up since the last root (in the older formats: if it is open). 41 `HistoryFull` if as many events are kept
+/// as may be; 40 `Halted`. 20 to 24 if a chunk that is to be moved is damaged, and 26 `Misplaced` if another frame lies
+/// in its place. 30 `Full`; 34 `StillLive`, by the Retire; 35 `WornOut`; 1 `DeviceFault`. 9 `OutOfMemory`, also if
+/// there was none for the Abandon: the extent is still being swept then. Whatever the disk does, no other refusal
+/// comes.
 pub fn sweep<D: PageDisk>(core: &mut Core<D>, extent: usize) -> Result<Swept, Refusal>
     ensures done { IfOk result (λ swept. Sweeps D.PageDisk extent core.old core.new swept.moved swept.root) }
     ensures refused { IfErr result (λ refusal. IsSweepRefused D.PageDisk extent core.old core.new refusal) }
@@ -47,7 +48,7 @@ pub fn sweep<D: PageDisk>(core: &mut Core<D>, extent: usize) -> Result<Swept, Re
     }
 }
 
-/// The events of a sweep that began. Where one is refused, the sweep is abandoned.
+/// The events of a sweep that began. If one is refused the sweep is abandoned.
 fn empty_or_abandon<D: PageDisk>(core: &mut Core<D>, extent: usize) -> Result<Swept, Refusal>
     ensures done { IfOk result (λ swept. (moved : List (ShardId × ℕ)) × (swept.moved ≡ length moved)
         × Went D.PageDisk core.old (moves extent moved ++ (MoveOne extent, NoneLive) ∷ (Retire extent, Retired swept.root) ∷ []) core.new) }
@@ -61,8 +62,8 @@ fn empty_or_abandon<D: PageDisk>(core: &mut Core<D>, extent: usize) -> Result<Sw
     }
 }
 
-/// Abandons a sweep that was refused, and gives the refusal to tell: that one, also where the Abandon is refused too, but 9
-/// OutOfMemory where there was no memory for it.
+/// Abandons a sweep that was refused. Returns that refusal, also if the Abandon is refused too, but 9 `OutOfMemory` if
+/// there was no memory for the Abandon.
 fn abandon<D: PageDisk>(core: &mut Core<D>, extent: usize, refusal: Refusal) -> Refusal
     requires { MayRefuseSweep refusal }
     ensures abandons { Abandons D.PageDisk extent core.old core.new refusal result }
@@ -95,7 +96,7 @@ fn empty_extent<D: PageDisk>(core: &mut Core<D>, extent: usize) -> Result<Swept,
     }
 }
 
-/// Moves chunk after chunk off an extent until none is live there, and gives how many they were.
+/// Moves chunk after chunk off an extent until none is live there. Returns how many they were.
 fn move_all<D: PageDisk>(core: &mut Core<D>, extent: usize) -> Result<usize, Refusal>
     ensures done { IfOk result (λ count. (moved : List (ShardId × ℕ)) × (count ≡ length moved)
         × Went D.PageDisk core.old (moves extent moved ++ (MoveOne extent, NoneLive) ∷ []) core.new) }

@@ -18,7 +18,7 @@ use Rattle.law_machine.proofs.Waiting.{listed, write_in}
 use Rattle.cs_frame.specs.declared.locators.Locator.{Locator}
 use Rattle.cs_frame.specs.Formats.{place_of}
 use Rattle.cs_frame.specs.Geometries.{IsGeometry}
-use Rattle.cs_extent.specs.Appended.{IsAppended, IsAppendedBy}
+use Rattle.cs_extent.specs.Appended.{IsAppendedBy}
 use Rattle.cs_extent.specs.Frames.{next_place, own_first}
 use Rattle.cs_extent.specs.State.{State, extents_of, need_of, shape}
 use Rattle.law_refinement.specs.Stores.{AreWritesOf, IsRecorded, IsStagingOf, IsWorldOf}
@@ -242,6 +242,6 @@ module _ (x : State) (g : GraphState) (w : World) (geometry : IsGeometry x.forma
 
 -- without the rule that keeps chunks and runs apart
 pub after_append : (x : State) (g : GraphState) (w : World) → IsGeometry x.format (length x.written) x.pages x.sections → IsWorldOf x g w
-    → (reason : Reason) (frame : List (List ℕ)) (l : Locator) (y : State) (h : GraphState) → IsAppended x g reason frame l y h
+    → (reason : Reason) (frame : List (List ℕ)) (l : Locator) (y : State) (h : GraphState) → IsAppendedBy false x g reason frame l y h
     → (v : World) × Append (shape x) w reason frame (place_of l) v × IsWorldOf y h v
 after_append x g w geometry is reason frame l y h a = after_append_by x g w geometry is false reason frame l y h a

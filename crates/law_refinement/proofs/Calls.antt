@@ -3,13 +3,13 @@ use Rattle.std.proofs.Common.{◌≡◌, ◌≢◌, inl, inr, ℕ, suc, ◌+◌,
 use Rattle.std.proofs.lemmas.Bool.{cases_lt, false_from_ne_true}
 use Rattle.std.specs.Prelude.{if◌then◌else◌}
 use Rattle.cs_deps.specs.State.{State as GraphState}
-use Rattle.cs_extent.specs.Appended.{AreAppended}
+use Rattle.cs_extent.specs.Appended.{AreAppendedBy}
 use Rattle.cs_extent.specs.State.{IsWhole, State as ExtentsState, extents_of, shape}
 use Rattle.cs_frame.specs.declared.locators.Locator.{Locator}
 use Rattle.cs_frame.specs.Formats.{as_locator, formats_of, place_of}
 use Rattle.cs_index.proofs.Cases.{merged_exactly, reached_exactly, table_exactly}
 use Rattle.cs_index.specs.Merges.{deletions_go as index_deletions_go, reached, stage_takes as index_takes}
-use Rattle.cs_index.specs.Staged.{IsMergeAppended, IsMergeStaged, IsNewestStaged, IsPartAppended, IsPartStaged, IsRootStaged, IsRunAppended, IsTableStaged, run_frame}
+use Rattle.cs_index.specs.Staged.{IsMergeAppended, IsMergeStaged, IsNewestStaged, IsRootStaged, IsTableStaged, run_frame, IsPartAppendedBy, IsPartStagedBy, IsRunAppendedBy}
 use Rattle.cs_index.specs.State.{IsSet, State as IndexState, index_of}
 use Rattle.law_machine.specs.Append.{Append, AppendsChunksBy, MergesTo, chunk_frames}
 use Rattle.law_machine.specs.Device.{Shape}
@@ -42,7 +42,7 @@ use Rattle.law_refinement.proofs.Shapes.{some_sections, store_shape}
 module _ (x : ExtentsState) (g : GraphState) (i : IndexState) (s : State) (are : ArePartsOf x g i s) where
   pub put : (y : ExtentsState) (h : GraphState) (j : IndexState) (id : ℕ) (bytes : List ℕ) (cs : List (List ℕ)) (ls : List Locator)
       → (shape x).apart ≡ false → IsWhole x → ArePayloads (shape x) (formats_of (shape x)) id (next_command s) bytes cs
-      → AreAppended x g ForPut (chunk_frames (shape x) (formats_of (shape x)) cs) ls y h → IsSet i id (map place_of ls) j
+      → AreAppendedBy false x g ForPut (chunk_frames (shape x) (formats_of (shape x)) cs) ls y h → IsSet i id (map place_of ls) j
       → (t : State) × Does (shape x) (formats_of (shape x)) s (Put id bytes) (Accepted (suc (length s.commands))) t × ArePartsOf y h j t
   put y h j id bytes cs ls together whole cut all set =
       let done = after_appends x y g h s.world ForPut (chunk_frames (shape x) (formats_of (shape x)) cs) ls whole.geometry are.world all in (
@@ -66,7 +66,7 @@ module _ (x : ExtentsState) (g : GraphState) (i : IndexState) (s : State) (are :
 -- ---- runs and roots
 
 run_append : (x y : ExtentsState) (g h : GraphState) (w : World) (reason : Reason) (entries : List Entry) (place : Place)
-    → IsWhole x → IsWorldOf x g w → IsRunAppended x g reason entries place y h
+    → IsWhole x → IsWorldOf x g w → IsRunAppendedBy false x g reason entries place y h
     → (v : World) × Append (shape x) w reason ((formats_of (shape x)).frame RunFrame ((formats_of (shape x)).run entries)) place v × IsWorldOf y h v
 unfolding run_frame
 run_append x y g h w reason entries place whole is a =
@@ -111,7 +111,7 @@ module _ (x : ExtentsState) (g : GraphState) (i : IndexState) (s : State) (whole
 
   -- so is the run of a part
   module _ (go : Bool) (k : ℕ) (runs : List Run) (mid : ExtentsState) (between : GraphState) where
-    part_merges : IsPartAppended go i k x g ForRun runs mid between
+    part_merges : IsPartAppendedBy false go i k x g ForRun runs mid between
         → (w : World) × MergesPart (shape x) (formats_of (shape x)) false go s ForRun k (record s { world = w }) runs × IsWorldOf mid between w
         × (w.root ≡ s.world.root) × (shape mid ≡ shape x)
     part_merges (inl (entries, place, some, run, appended, one)) =
@@ -154,7 +154,7 @@ module _ (x : ExtentsState) (g : GraphState) (i : IndexState) (s : State) (whole
 
   -- where a Stage merges by size, as much is merged as is reached
   pub sized_staged : (y : ExtentsState) (h : GraphState) (j : IndexState) (v : ℕ) → (shape x).apart ≡ false → (shape x).by_size ≡ true → i.table ≢ []
-      → IsPartStaged (nat_le (length i.runs) (reached (shape x) i)) (reached (shape x) i) i x g ForRun v commands j y h
+      → IsPartStagedBy false (nat_le (length i.runs) (reached (shape x) i)) (reached (shape x) i) i x g ForRun v commands j y h
       → (t : State) × Does (shape x) (formats_of (shape x)) s Stage (Staged v) t × ArePartsOf y h j t
   sized_staged y h j v together sized some done = newest_staged y h j v together some ((reached_exactly i x g v commands j y h sized).1 done)
 

@@ -20,7 +20,7 @@ use Rattle.law_machine.specs.State.{State}
 use Rattle.cs_frame.specs.Formats.{formats_of, place_of}
 use Rattle.cs_frame.specs.Geometries.{IsGeometry}
 use Rattle.cs_frame.specs.declared.locators.Locator.{Locator}
-use Rattle.cs_extent.specs.Appended.{AreAppended, AreAppendedBy}
+use Rattle.cs_extent.specs.Appended.{AreAppendedBy}
 use Rattle.cs_extent.specs.State.{State as ExtentsState, extents_of, need_of, shape}
 use Rattle.law_refinement.specs.Bridge.{AreNames, IsWaiting, name, waiting_in}
 use Rattle.law_refinement.specs.Stores.{AreMemberNames, AreWritesOf, IsRecorded, IsStagingOf, IsWorldOf}
@@ -159,7 +159,7 @@ after_appends_by apart x y g h w reason (frame ∷ frames) (l ∷ ls) geometry i
     (rest.0, (one.0, one.1, subst (λ (S : Shape). AppendAllBy S apart one.0 reason frames (map place_of ls) rest.0) same rest.1), rest.2)
 
 pub after_appends : (x y : ExtentsState) (g h : GraphState) (w : World) (reason : Reason) (frames : List (List (List ℕ))) (ls : List Locator)
-    → IsGeometry (shape x).format (shape x).extents (shape x).pages (shape x).sections → IsWorldOf x g w → AreAppended x g reason frames ls y h
+    → IsGeometry (shape x).format (shape x).extents (shape x).pages (shape x).sections → IsWorldOf x g w → AreAppendedBy false x g reason frames ls y h
     → (v : World) × AppendAll (shape x) w reason frames (map place_of ls) v × IsWorldOf y h v
 after_appends x y g h w reason frames ls geometry is all = after_appends_by false x y g h w reason frames ls geometry is all
 

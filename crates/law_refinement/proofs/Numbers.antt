@@ -16,7 +16,7 @@ use Rattle.law_machine.specs.Machine.{World}
 use Rattle.law_machine.specs.State.{State}
 use Rattle.cs_extent.proofs.Worn.{in_section_here, in_section_other}
 use Rattle.cs_extent.specs.State.{State as ExtentsState, shape}
-use Rattle.cs_extent.specs.Worn.{ArePlaced, ArePlacedBy, in_section}
+use Rattle.cs_extent.specs.Worn.{ArePlacedBy, in_section}
 
 module _ (S : Shape) where
   -- of the places of frames, those in a section are counted one by one
@@ -93,7 +93,7 @@ module _ (S : Shape) where
     append_numbers w v purpose bs l a = append_numbers_by false w v purpose bs l a
 
     pub all_numbers : (w v : World) (purpose : Purpose) (frames : List (List Page)) (ls : List Locator) → AppendAll S w purpose frames ls v
-        → (places : List ℕ) × ArePlaced S w.extents purpose (page_counts frames) places × (v.written ≡ w.written + sum (page_counts frames))
+        → (places : List ℕ) × ArePlacedBy S false w.extents purpose (page_counts frames) places × (v.written ≡ w.written + sum (page_counts frames))
         × ((j : ℕ) → v.superblocks j ≡ w.superblocks j + in_section S j places) × (v.root ≡ w.root)
     all_numbers w v purpose frames ls all = all_numbers_by false w v purpose frames ls all
 

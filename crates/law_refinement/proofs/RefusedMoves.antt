@@ -3,7 +3,7 @@ use Rattle.std.proofs.Common.{◌≡◌, ◌↔◌, inl, inr, ⊎_elim, ℕ, ◌
 use Rattle.cs_deps.specs.State.{State as GraphState}
 use Rattle.cs_extent.specs.Frames.{IsWorn}
 use Rattle.cs_extent.specs.State.{IsWhole, State as ExtentsState, extents_of, shape}
-use Rattle.cs_extent.specs.Worn.{IsFrameWorn, in_section}
+use Rattle.cs_extent.specs.Worn.{in_section, IsFrameWornBy}
 use Rattle.cs_frame.specs.Formats.{formats_of}
 use Rattle.cs_index.specs.State.{State as IndexState, index_of}
 use Rattle.law_machine.proofs.Needs.{append_there}
@@ -82,29 +82,29 @@ module _ (x : ExtentsState) (g : GraphState) (i : IndexState) (s : State) (whole
           (frame_generations (shape x) (formats_of (shape x)) (store_shape x whole) (store_format x whole) s (record s { world = v }) ForMove ChunkFrame payload new (v, a, refl))))
           (young x s sound bounded d)
 
-      worn : IsOver x g i s whole are sound bounded a.extent (length (chunk_frame x payload)) 0 0 → IsFrameWorn x ForMove g.staging (length (chunk_frame x payload))
+      worn : IsOver x g i s whole are sound bounded a.extent (length (chunk_frame x payload)) 0 0 → IsFrameWornBy false x ForMove g.staging (length (chunk_frame x payload))
       worn (inl over) = (a.extent, placed_at, over)
       worn (inr (inl over)) = absurd (no_root x s sound bounded over)
       worn (inr (inr over)) = absurd (no_command x s sound bounded over)
 
       -- there is one extent that the frame goes to
-      worn_here : IsFrameWorn x ForMove g.staging (length (chunk_frame x payload)) → IsWorn g.staging ((shape x).section a.extent) (length (chunk_frame x payload))
+      worn_here : IsFrameWornBy false x ForMove g.staging (length (chunk_frame x payload)) → IsWorn g.staging ((shape x).section a.extent) (length (chunk_frame x payload))
       worn_here (d, placed, over) = subst (λ (k : ℕ). IsWorn g.staging ((shape x).section k) (length (chunk_frame x payload)))
           (placed_one (shape x) (extents_of x) ForMove (length (chunk_frame x payload)) d a.extent placed placed_at) over
 
-      move_past : PastLimit (shape x) (formats_of (shape x)) (after_move new v) → IsFrameWorn x ForMove g.staging (length (chunk_frame x payload))
+      move_past : PastLimit (shape x) (formats_of (shape x)) (after_move new v) → IsFrameWornBy false x ForMove g.staging (length (chunk_frame x payload))
       move_past over = worn (of_frame x g i s whole are sound bounded a.extent (length (chunk_frame x payload)) 0 0
           (past x (formats_of (shape x)) s (after_move new v) (length (chunk_frame x payload)) (λ j. in_section (shape x) j (a.extent ∷ [])) 0 0
           numbers.0 numbers.1 root_stays commands_stay move_young over))
 
-      move_past_back : IsFrameWorn x ForMove g.staging (length (chunk_frame x payload)) → PastLimit (shape x) (formats_of (shape x)) (after_move new v)
+      move_past_back : IsFrameWornBy false x ForMove g.staging (length (chunk_frame x payload)) → PastLimit (shape x) (formats_of (shape x)) (after_move new v)
       move_past_back over = past_too x (formats_of (shape x)) s (after_move new v) (length (chunk_frame x payload)) (λ j. in_section (shape x) j (a.extent ∷ [])) 0 0
           numbers.0 numbers.1 root_stays commands_stay
           (to_frame x g i s whole are sound bounded a.extent (length (chunk_frame x payload)) 0 0 (inl (worn_here over)))
 
     -- the numbers of a state don't hang on its table
     moved_past : (d k : ℕ) (t : State) → Moves (shape x) (formats_of (shape x)) s t e d k → PastLimit (shape x) (formats_of (shape x)) t
-        → IsFrameWorn x ForMove g.staging (length (chunk_frame x payload))
+        → IsFrameWornBy false x ForMove g.staging (length (chunk_frame x payload))
     moved_past d k t (m, new, bytes, mid, swept, other, undamaged, there, (v, a, same), is) over =
         move_past new v (subst (λ (b : List ℕ). Append (shape x) s.world ForMove (chunk_frame x b) new v) (same_payload d k m bytes other there) a)
         (of_table (subst (λ (u : State). PastLimit (shape x) (formats_of (shape x)) u)
@@ -115,14 +115,14 @@ module _ (x : ExtentsState) (g : GraphState) (i : IndexState) (s : State) (whole
         of_table over = over
 
     would : (shape x).apart ≡ false → (reply : Reply) (t : State) → Does (shape x) (formats_of (shape x)) s (MoveOne e) reply t → PastLimit (shape x) (formats_of (shape x)) t
-        → IsFrameWorn x ForMove g.staging (length (chunk_frame x payload))
+        → IsFrameWornBy false x ForMove g.staging (length (chunk_frame x payload))
     would together NoneLive t does over = absurd (not_nothing (shape x) (formats_of (shape x)) (store_shape x whole) (store_format x whole) s e id chunk l first
         (none_moved (shape x) (formats_of (shape x)) together s t e does).1)
     would together (Moved d k) t does over = moved_past d k t (moved (shape x) (formats_of (shape x)) together s t e d k does) over
     would together reply t d over = absurd d
 
     pub move_worn : (shape x).apart ≡ false → s.world.extents.swept e ≡ true → s.opening.damage l ≡ None → ¬ NoPlace (shape x) (extents_of x) ForMove (length (chunk_frame x payload))
-        → WouldPass (shape x) (formats_of (shape x)) s (MoveOne e) ↔ IsFrameWorn x ForMove g.staging (length (chunk_frame x payload))
+        → WouldPass (shape x) (formats_of (shape x)) s (MoveOne e) ↔ IsFrameWornBy false x ForMove g.staging (length (chunk_frame x payload))
     move_worn together swept undamaged room = (
       (λ passes. would together passes.0 passes.1 passes.2 passes.3),
       (λ over. ⊎_elim

@@ -4,7 +4,7 @@ use Rattle.std.specs.Prelude.{sum}
 use Rattle.cs_deps.specs.State.{State as GraphState}
 use Rattle.cs_extent.proofs.Worn.{places_once_by}
 use Rattle.cs_extent.specs.State.{IsWhole, State as ExtentsState, extents_of, shape}
-use Rattle.cs_extent.specs.Worn.{ArePlacedBy, AreWorn, AreWornBy, in_section}
+use Rattle.cs_extent.specs.Worn.{ArePlacedBy, AreWornBy, in_section}
 use Rattle.cs_frame.specs.Formats.{formats_of}
 use Rattle.cs_index.specs.State.{State as IndexState}
 use Rattle.law_machine.proofs.Limits.{not_past}
@@ -220,5 +220,5 @@ module _ (x : ExtentsState) (g : GraphState) (i : IndexState) (s : State) (whole
   pub put_worn : Sound (shape x) (formats_of (shape x)) s → Bounded (shape x) (formats_of (shape x)) s → (id : ℕ) (bytes : List ℕ)
       → WouldPass (shape x) (formats_of (shape x)) s (Put id bytes)
       ↔ ((cs : List (List ℕ)) × ArePayloads (shape x) (formats_of (shape x)) id (next_command s) bytes cs × Fits (shape x) (extents_of x) ForPut (page_counts (chunk_frames (shape x) (formats_of (shape x)) cs))
-      × (AreWorn x g.staging ForPut (page_counts (chunk_frames (shape x) (formats_of (shape x)) cs)) ⊎ (2 ^ 63 ≤ s.count + length s.commands + 1)))
+      × (AreWornBy false x g.staging ForPut (page_counts (chunk_frames (shape x) (formats_of (shape x)) cs)) ⊎ (2 ^ 63 ≤ s.count + length s.commands + 1)))
   put_worn sound bounded id bytes = put_worn_by x g i s whole are false together sound bounded id bytes

@@ -5,7 +5,7 @@ use Rattle.std.specs.Prelude.{◌==◌, if◌then◌else◌, slice_index}
 use Rattle.cs_deps.specs.State.{State as GraphState}
 use Rattle.cs_extent.specs.Frames.{IsWorn, root_family}
 use Rattle.cs_extent.specs.State.{IsWhole, State as ExtentsState, extents_of, shape}
-use Rattle.cs_extent.specs.Worn.{IsFrameWorn, in_section}
+use Rattle.cs_extent.specs.Worn.{in_section, IsFrameWornBy}
 use Rattle.cs_frame.specs.Formats.{formats_of}
 use Rattle.cs_index.specs.Merges.{deletions_go as index_deletions_go, part as index_part, stage_takes as index_takes}
 use Rattle.cs_index.specs.Staged.{IsFull, IsRootWorn, IsStageWorn, WritesMerged, WritesPart, WritesRun, run_frame}
@@ -167,7 +167,7 @@ module _ (x : ExtentsState) (g : GraphState) (i : IndexState) (s : State) (whole
 
     -- the root's number, or one of a run's writes or of the section of the extent that the run goes to
     abbrev IsRunWorn : Reason → List Entry → Type 0
-    IsRunWorn reason entries = IsRootWorn g.staging ⊎ IsFrameWorn x reason g.staging (length (run_frame x entries))
+    IsRunWorn reason entries = IsRootWorn g.staging ⊎ IsFrameWornBy false x reason g.staging (length (run_frame x entries))
 
     -- what a run that goes to e and its root take past the greatest
     run_worn : (Writes : List Entry → Type 0) (reason : Reason) (entries : List Entry) (e : ℕ) → Writes entries
@@ -254,7 +254,7 @@ module _ (x : ExtentsState) (g : GraphState) (i : IndexState) (s : State) (whole
         → IsStageWorn (WritesMerged i) x reason g.staging → PastLimit (shape x) (formats_of (shape x)) (after_root v runs pointers)
     merge_past_back reason v runs pointers (inl (entries, l, some, run, a, one)) (inl root) = run_past_back reason entries l v runs pointers a (inl root)
     merge_past_back reason v runs pointers (inl (entries, l, some, run, a, one)) (inr (es, (run', some'), worn)) = run_past_back reason entries l v runs pointers a
-        (inr (subst (λ (ys : List Entry). IsFrameWorn x reason g.staging (length (run_frame x ys))) (sym (same_merged entries es run run')) worn))
+        (inr (subst (λ (ys : List Entry). IsFrameWornBy false x reason g.staging (length (run_frame x ys))) (sym (same_merged entries es run run')) worn))
     merge_past_back reason v runs pointers (inr (nothing, same, nil)) (inl root) = subst (λ (w : World). PastLimit (shape x) (formats_of (shape x)) (after_root w runs pointers)) (sym same)
         (past_too x (formats_of (shape x)) s (after_root s.world runs pointers) 0 (λ j. 0) 1 0 (omega arith) (λ j. none_more (s.world.superblocks j)) (sym root_next) same_commands (inr (inr (inl (root_worn_back root)))))
     merge_past_back reason v runs pointers (inr (nothing, same, nil)) (inr (es, (run, some), worn)) =
@@ -275,7 +275,7 @@ module _ (x : ExtentsState) (g : GraphState) (i : IndexState) (s : State) (whole
     worn_run : (go : Bool) (k : ℕ) (entries : List Entry) → IsRunOf go (part s k) entries → IsStageWorn (WritesPart go i k) x ForRun g.staging → IsRunWorn ForRun entries
     worn_run go k entries run (inl root) = inl root
     worn_run go k entries run (inr (es, (run', some'), over)) =
-        inr (subst (λ (ys : List Entry). IsFrameWorn x ForRun g.staging (length (run_frame x ys))) (sym (same_run i s are.index go k entries es run run')) over)
+        inr (subst (λ (ys : List Entry). IsFrameWornBy false x ForRun g.staging (length (run_frame x ys))) (sym (same_run i s are.index go k entries es run run')) over)
 
     part_past_back : (go : Bool) (k : ℕ) (mid : State) (runs : List Run) → MergesPart (shape x) (formats_of (shape x)) false go s ForRun k mid runs
         → IsStageWorn (WritesPart go i k) x ForRun g.staging → PastLimit (shape x) (formats_of (shape x)) (rooted (shape x) (formats_of (shape x)) mid runs mid.world.extents.pointer)

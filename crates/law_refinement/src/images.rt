@@ -1,22 +1,27 @@
-//! New stores, and stores that are opened.
-ghost use Rattle.std.specs.Prelude.{◌≡◌, ◌<◌, ◌≤◌, ℕ, true, false, List, [], None, length, map, replicate, slice_index};
+//! The images of stores: of new ones, of those that are opened, and of those where an entry that a newer one hides names what is gone.
+ghost use Rattle.std.specs.Prelude.{◌≡◌, ◌<◌, ◌≤◌, ℕ, true, false, List, [], None, length, map, replicate, slice_index, ◌≢◌, ◌↔◌, ◌∷◌, ◌++◌, Some, slice_get, slice_index_or};
 ghost use Rattle.std.specs.List.{AllByRecursion};
-ghost use Rattle.cs_extent.specs.State.{shape};
+ghost use Rattle.cs_extent.specs.State.{shape, IsWhole, State as ExtentsState, found_at};
 ghost use Rattle.cs_frame.specs.declared.locators.Locator.{Locator};
 ghost use Rattle.cs_frame.specs.FirstFormat.{SpellsPageZero};
 ghost use Rattle.cs_frame.specs.Formats.{formats_of};
 ghost use Rattle.cs_frame.specs.Geometries.{IsGeometry};
 ghost use Rattle.cs_frame.specs.Roots.{SpellsRoot};
 ghost use Rattle.cs_frame.specs.Superblocks.{SpellsSuperblock};
-ghost use Rattle.law_refinement.specs.Images.{AreNewSections, IsRecoveredAs, RecoversStore, new_extents, page_of_section};
-ghost use Rattle.cs_reader.specs.ImageReads.{IsReadable, IsRunRead, SpellsAt};
+ghost use Rattle.law_refinement.specs.Images.{AreNewSections, IsRecoveredAs, RecoversStore, new_extents, page_of_section, AreExtentsNoted};
+ghost use Rattle.cs_reader.specs.ImageReads.{IsReadable, IsRunRead, SpellsAt, AreRunsRead, IsLocated};
 ghost use Rattle.cs_index.specs.declared.stored_runs.StoredRun.{StoredRun};
 ghost use Rattle.cs_index.specs.State.{newest_first};
 ghost use Rattle.law_machine.specs.Element.{Map};
-ghost use Rattle.law_machine.specs.Recovery.{IsNew};
-ghost use Rattle.law_refinement.specs.StoresRead.{HasPages, HasSections, IsRead, StoreRead, extents_in};
-ghost use Rattle.law_machine.specs.Device.{Page};
+ghost use Rattle.law_machine.specs.Recovery.{IsNew, Recovers};
+ghost use Rattle.law_refinement.specs.StoresRead.{HasPages, HasSections, IsRead, StoreRead, extents_in, IsVisiblyRead};
+ghost use Rattle.law_machine.specs.Device.{Page, Shape};
 ghost use Rattle.law_refinement.specs.Machines.{RecoversFor};
+ghost use Rattle.cs_frame.specs.Locators.{KeepFormat};
+ghost use Rattle.cs_frame.specs.Runs.{IsRun};
+ghost use Rattle.cs_reader.specs.Counts.{HasCount};
+ghost use Rattle.law_machine.specs.Formats.{Formats};
+ghost use Rattle.law_machine.specs.Index.{entries_of, live_at};
 
 /// Sections of empty extents on the superblock's pages and a root without runs on page 1, all of version 1, are a new store,
 /// whatever lies on the other pages. It has no command and no shard.
@@ -75,4 +80,56 @@ pub fn what_is_recovered_can_be_read()
         → (shape (extents_in read)).hidden_stand ≡ true → HasSections view read → HasPages view read
         → SpellsRoot (view 1) read.format read.root read.commands (map (λ run. run.place) runs)
         → AllByRecursion (IsRunRead (extents_in read) view) runs → RecoversFor (extents_in read) view n m → IsRead view read runs }
+{}
+
+/// The runs of a root are read one after another, the oldest first. When there are as many as the root lists they are all
+/// of its runs, and an index can be made of them.
+pub fn runs_are_read_one_by_one()
+    ensures none { (x : ExtentsState) (view : ℕ → List ℕ) (places : List Locator) → AreRunsRead x view places [] }
+    // The run at the next place, once it is read, joins those that were read.
+    ensures next { (x : ExtentsState) (view : ℕ → List ℕ) (places : List Locator) (runs : List StoredRun) (run : StoredRun)
+        → AreRunsRead x view places runs → slice_get places (length runs) ≡ Some run.place → IsRunRead x view run
+        → AreRunsRead x view places (runs ++ run ∷ []) }
+    // Where there are as many runs as places they are those at the places, and each was read.
+    ensures all { (x : ExtentsState) (view : ℕ → List ℕ) (places : List Locator) (runs : List StoredRun)
+        → AreRunsRead x view places runs → length runs ≡ length places
+        → (map (λ run. run.place) runs ≡ places) × AllByRecursion (IsRunRead x view) runs }
+    // Each run that was read has some entries, of at most eight locators each that keep to the store's format, by rising identifiers.
+    ensures loads { (x : ExtentsState) (view : ℕ → List ℕ) (runs : List StoredRun) → AllByRecursion (IsRunRead x view) runs
+        → AllByRecursion (λ run. IsRun x.format (record { entries = run.entries })) runs }
+    // The places of a root keep to its format.
+    ensures places { (page : List ℕ) (format version commands : ℕ) (places : List Locator) → SpellsRoot page format version commands places
+        → KeepFormat format places }
+    // Of a place that is located extent and page are there.
+    ensures inside { (x : ExtentsState) (place : Locator) → IsWhole x → IsLocated x place
+        → (place.extent < (shape x).extents) × (place.page < (shape x).pages) }
+{}
+
+/// As many identifiers have locators as the map has.
+pub fn live_identifiers_are_those_of_the_map()
+    // An identifier has locators exactly where the map has it.
+    ensures each { (S : Shape) (F : Formats) (img : ℕ → Page) (n : ℕ) (m : Map) (found : Recovers S F img n m) (id : ℕ)
+        → (live_at (entries_of found.runs) id ≡ []) ↔ (m id ≡ None) }
+    // So many have locators exactly where the map has so many.
+    ensures count { (S : Shape) (F : Formats) (img : ℕ → Page) (n : ℕ) (m : Map) (found : Recovers S F img n m)
+        (count : ℕ) → HasCount (λ id. live_at (entries_of found.runs) id ≢ []) count ↔ HasCount (λ id. m id ≢ None) count }
+{}
+
+/// A store whose visible entries name what is there is recovered, where hidden ones may name what is gone, and what is recovered can be
+/// read so.
+pub fn visible_stores_recover()
+    // A store of which each entry names what is there is one whose visible entries do.
+    ensures all { (view : ℕ → Page) (read : StoreRead) (runs : List StoredRun) → IsRead view read runs → IsVisiblyRead view read runs }
+    // Chunks and runs lie apart, and it is noted on which extents runs lie.
+    ensures read { (view : ℕ → Page) (read : StoreRead) (runs : List StoredRun) (noted : ExtentsState) → HasPages view read
+        → IsVisiblyRead view read runs → (let x = extents_in read in
+        (shape x).hidden_stand ≡ false → (shape x).apart ≡ true → AreExtentsNoted x (newest_first runs) noted
+        → (m : Map) × IsRecoveredAs x view read.commands m noted read.versions read.root (newest_first runs)) }
+    // Page 1 spells a root over these runs, each of which was read where its place says.
+    ensures recovered { (view : ℕ → Page) (read : StoreRead) (runs : List StoredRun) (n : ℕ) (m : Map)
+        → HasSections view read → HasPages view read
+        → SpellsRoot (view 1) read.format read.root read.commands (map (λ run. run.place) runs)
+        → AllByRecursion (IsRunRead (extents_in read) view) runs → RecoversFor (extents_in read) view n m → IsVisiblyRead view read runs }
+    // All pages that are given at open count as found.
+    ensures found { (written : List (ℕ × ℕ)) (e : ℕ) → slice_index (found_at true written) e ≡ (slice_index_or written e (0, 0)).0 }
 {}

@@ -17,56 +17,43 @@
 mod crashes_refined;
 mod events_refined;
 mod frontiers_refined;
-mod graphs_refined;
-mod image_steps;
 mod images;
 mod moves_refined;
-mod openings_apart;
 mod openings_refined;
-mod puts_apart;
 mod reads_refined;
-mod refusals_apart;
 mod refusals_refined;
-mod retires_apart;
-mod rounds_refined;
-mod sweeps_apart;
-mod visible_images;
 mod writebacks_refined;
 
 pub use crashes_refined::what_a_crash_leaves_recovers;
 pub use cs_reclaim as reclaim;
 pub use events_refined::{
-    delete_refines_delete, index_queries_agree, marks_refine_sweeps, move_refines_move,
-    put_refines_put, retire_refines_retire, stage_refines_stage,
+    copies_apart_refine_moves, copies_stay, delete_refines_delete, index_queries_agree,
+    marks_refine_sweeps, move_refines_move, put_apart_refines_put, put_refines_put,
+    retire_refines_retire, stage_refines_stage, stages_apart_refine_stages,
+    sweeps_apart_refine_sweeps, worlds_apart_agree,
 };
 pub use frontiers_refined::{roots_are_counted, roots_are_noted, settle_refines_settle};
-pub use graphs_refined::{
-    closed_sets_agree, rounds_are_first_rounds, rounds_are_settled, staging_refines_staging,
+pub use images::{
+    live_identifiers_are_those_of_the_map, new_stores_are_new, runs_are_read_one_by_one,
+    visible_stores_recover, what_is_read_recovers, what_is_recovered_can_be_read,
 };
-pub use image_steps::{live_identifiers_are_those_of_the_map, runs_are_read_one_by_one};
-pub use images::{new_stores_are_new, what_is_read_recovers, what_is_recovered_can_be_read};
 pub use moves_refined::{
-    append_refines_append, appends_refine_appends, opened_stores_have_worlds, reset_refines_reset,
-    root_refines_root, stores_keep_their_worlds, what_waits_is_of_the_world,
+    append_refines_append, appends_refine_appends, closed_sets_agree, opened_stores_have_worlds,
+    reset_refines_reset, root_refines_root, rounds_are_first_rounds, rounds_are_settled,
+    staging_refines_staging, stores_keep_their_worlds, what_waits_is_of_the_world,
 };
-pub use openings_apart::stores_apart_refine_start;
 pub use openings_refined::{
-    new_store_refines_start, read_store_refines_start, what_is_found_is_the_start,
-    whole_disks_have_pages,
-};
-pub use puts_apart::{
-    copies_stay, put_apart_refines_put, sweeps_apart_refine_sweeps, worlds_apart_agree,
+    new_store_refines_start, read_store_refines_start, stores_apart_refine_start,
+    what_is_found_is_the_start, whole_disks_have_pages,
 };
 pub use reads_refined::{get_refines_get, live_chunks_are_read, pages_are_read};
-pub use refusals_apart::{put_apart_refusals_agree, sweep_apart_refusals_agree};
 pub use refusals_refined::{
-    delete_refusals_agree, move_refusals_agree, put_refusals_agree, refusals_keep_their_numbers,
-    retire_refusals_agree, stage_refusals_agree, sweep_refusals_agree,
+    delete_refusals_agree, move_refusals_agree, put_apart_refusals_agree, put_refusals_agree,
+    refusals_keep_their_numbers, retire_apart_refusals_agree, retire_refusals_agree,
+    stage_apart_refusals_agree, stage_refusals_agree, sweep_apart_refusals_agree,
+    sweep_refusals_agree,
 };
-pub use retires_apart::{retire_apart_refusals_agree, stage_apart_refusals_agree};
-pub use rounds_refined::{round_refusals_agree, rounds_stay};
-pub use sweeps_apart::{copies_apart_refine_moves, stages_apart_refine_stages};
-pub use visible_images::visible_stores_recover;
 pub use writebacks_refined::{
     begin_refines_begin, disk_refines_device, end_refines_end, issue_refines_issue,
+    round_refusals_agree, rounds_stay,
 };

@@ -1,17 +1,18 @@
 //! A store as it is made, and as it is opened.
-ghost use Rattle.std.specs.Prelude.{◌≡◌, ◌≤◌, ℕ, false, List, [], length};
-ghost use Rattle.law_refinement.specs.Openings.{IsStartOf, StartsNew, StartsOn, image_after, opened_on, view_after};
+ghost use Rattle.std.specs.Prelude.{◌≡◌, ◌≤◌, ℕ, false, List, [], length, true};
+ghost use Rattle.law_refinement.specs.Openings.{IsStartOf, StartsNew, StartsOn, image_after, opened_on, view_after, AreFreedUnder, IsStartApartOf, StartsReadApart};
 ghost use Rattle.cs_disk.specs.Disk.{Image, IsWhole as IsWholeDisk, MayLeave, State as DiskState, Write, page, seen};
 ghost use Rattle.cs_extent.specs.State.{IsWhole, State as ExtentsState, shape};
 ghost use Rattle.cs_frame.specs.Geometries.{IsGeometry, device_pages};
 ghost use Rattle.cs_frame.specs.Roots.{SpellsRoot};
-ghost use Rattle.law_refinement.specs.Images.{AreNewSections, IsFoundFor};
+ghost use Rattle.law_refinement.specs.Images.{AreNewSections, IsFoundFor, AreExtentsNoted};
 ghost use Rattle.cs_reader.specs.Loads.{graph_at, index_at};
 ghost use Rattle.cs_reader.specs.ImageReads.{ArePages};
 ghost use Rattle.cs_index.specs.declared.stored_runs.StoredRun.{StoredRun};
 ghost use Rattle.law_machine.specs.Element.{Map, Run};
-ghost use Rattle.law_refinement.specs.StoresRead.{HasPages, IsRead, StoreRead, extents_in, graph_in, index_in};
+ghost use Rattle.law_refinement.specs.StoresRead.{HasPages, IsRead, StoreRead, extents_in, graph_in, index_in, IsVisiblyRead};
 ghost use Rattle.law_refinement.specs.Machines.{RecoversFor};
+ghost use Rattle.cs_index.specs.State.{newest_first};
 
 /// Where chunks and runs may lie on one extent what is found on an image is the start of the machine: the extents, a graph of the
 /// versions that were read, and an index of the runs are the parts of the state at open, the disk is its disk, and no command is counted.
@@ -48,4 +49,19 @@ pub fn whole_disks_have_pages()
         → ArePages count (page (seen disk)) }
     ensures left { (disk : DiskState) (image : Image) (count : ℕ) → IsWholeDisk disk → MayLeave disk image
         → count ≤ length disk.durable → ArePages count (page image) }
+{}
+
+/// Where chunks and runs lie apart, what is found on an image is the start of the machine once the blank extents are freed under the root
+/// that was read: the extents then, a graph of the versions, an index of the runs and no copy are the parts of the state at open.
+pub fn stores_apart_refine_start()
+    ensures found { (x y : ExtentsState) (image : Image) (versions : List ℕ) (root format limit n : ℕ) (runs : List Run) (m : Map)
+        (found : RecoversFor x (page image) n m) → (shape x).apart ≡ true → IsWhole x
+        → IsFoundFor x (page image) n m found x versions root runs → AreFreedUnder x (index_at runs format limit) root y
+        → IsStartApartOf y (graph_at versions root) (index_at runs format limit) image (opened_on x image n m found) }
+    // A store that was read, of which a hidden entry may name what is gone, and of which it is noted on which extents runs lie.
+    ensures read { (image : Image) (read : StoreRead) (limit : ℕ) (runs : List StoredRun) (noted y : ExtentsState)
+        → HasPages (page image) read → IsVisiblyRead (page image) read runs
+        → (let x = extents_in read in (shape x).hidden_stand ≡ false → (shape x).apart ≡ true → IsWhole noted
+        → AreExtentsNoted x (newest_first runs) noted → AreFreedUnder noted (index_in read runs limit) read.root y
+        → StartsReadApart image read runs limit y) }
 {}

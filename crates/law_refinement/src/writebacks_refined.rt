@@ -1,4 +1,4 @@
-//! Rounds of writeback, and what the disk holds meanwhile.
+//! Rounds of writeback, why they are refused, and what the disk holds meanwhile.
 ghost use Rattle.std.specs.Prelude.{◌≡◌, ◌≢◌, ◌⊎◌, ◌↔◌, ◌<◌, ℕ, suc, true, false, Bool, List, [], Some, None, length, map, slice_get};
 ghost use Rattle.cs_deps.specs.declared.elements.Element.{Element as Name};
 ghost use Rattle.cs_deps.specs.State.{IsWhole as IsWholeGraph, KeepsBytes, State as GraphState};
@@ -6,12 +6,12 @@ ghost use Rattle.cs_disk.specs.Disk.{Image, MayLeave, State as DiskState, flushe
 ghost use Rattle.cs_extent.specs.State.{IsWhole, State as ExtentsState};
 ghost use Rattle.cs_index.specs.State.{State as IndexState};
 ghost use Rattle.law_machine.specs.Device.{Page, Shape};
-ghost use Rattle.law_machine.specs.Element.{Element};
+ghost use Rattle.law_machine.specs.Element.{Element, Map};
 ghost use Rattle.law_machine.specs.Formats.{Formats};
-ghost use Rattle.law_machine.specs.Refusal.{DeviceFault};
+ghost use Rattle.law_machine.specs.Refusal.{DeviceFault, Halted, InFlight, NoRound, Refusal};
 ghost use Rattle.law_machine.specs.Round.{NothingWaits};
 ghost use Rattle.law_machine.specs.Sound.{Sound, crashed};
-ghost use Rattle.law_machine.specs.State.{Begin, Begun, End, Ended, Event, Issue, Issued, Nothing, Refused, Reply, State};
+ghost use Rattle.law_machine.specs.State.{Begin, Begun, End, Ended, Event, Issue, Issued, Nothing, Refused, Reply, State, Get, Settle};
 ghost use Rattle.law_machine.specs.Step.{Step};
 ghost use Rattle.law_refinement.specs.Bridge.{IsPendingOf, name};
 ghost use Rattle.law_refinement.specs.Devices.{IsDeviceOf, IsDiskOf};
@@ -19,6 +19,9 @@ ghost use Rattle.law_refinement.specs.Frontiers.{AreRootsOf, IsFrontierOf, Noted
 ghost use Rattle.law_refinement.specs.Parts.{ArePartsOf};
 ghost use Rattle.law_refinement.specs.Rounds.{IsRoundOf, members_of, IsAllIssued, IsNextWrite, IsRunning, IsRunningOn, SettlesRound, TakesRound};
 ghost use Rattle.law_refinement.specs.Machines.{IsDiskFor, StepFor, write_for};
+ghost use Rattle.law_machine.specs.Grounds.{Refuses};
+ghost use Rattle.law_machine.specs.Open.{opened_state};
+ghost use Rattle.law_machine.specs.Recovery.{Recovers};
 
 /// A round that is what waits at height 1 is the machine's Begin, with its members in the order of the round. Where nothing
 /// waits in the graph nothing does in the machine.
@@ -78,4 +81,26 @@ pub fn disk_refines_device()
         → (mask : List Bool) × ((p : ℕ) → p < length left → page left p ≡ crashed S F s mask p) }
     ensures stays { (S : Shape) (F : Formats) (s t : State) (event : Event) (reply : Reply) (disk : DiskState)
         → Sound S F s → Step S F s event reply t → event ≢ Issue → event ≢ End → IsDiskOf S F s disk → IsDiskOf S F t disk }
+{}
+
+/// Begin is refused exactly where a round is out, Issue where the round has no next member, and End where none is out or
+/// fewer were issued than it has. Where a fault stopped the core all events but Get and Settle are refused.
+pub fn round_refusals_agree()
+    ensures begin { (S : Shape) (F : Formats) (g : GraphState) (s : State) (f : Refusal) → IsRoundOf g s → s.halted ≡ false
+        → Refuses S F s Begin f ↔ ((g.round ≢ None) × (f ≡ InFlight)) }
+    ensures issue { (S : Shape) (F : Formats) (g : GraphState) (s : State) (f : Refusal) → IsRoundOf g s → s.halted ≡ false
+        → Refuses S F s Issue f ↔ ((slice_get (members_of g.round) (length s.issued) ≡ None) × (f ≡ NoRound)) }
+    ensures end { (S : Shape) (F : Formats) (g : GraphState) (s : State) (f : Refusal) → IsRoundOf g s → s.halted ≡ false
+        → Refuses S F s End f ↔ (((g.round ≡ None) ⊎ (length s.issued < length (members_of g.round))) × (f ≡ NoRound)) }
+    ensures halted { (S : Shape) (F : Formats) (s : State) (event : Event) (f : Refusal) → s.halted ≡ true
+        → ((id : ℕ) → event ≢ Get id) → ((n : ℕ) → event ≢ Settle n) → Refuses S F s event f ↔ (f ≡ Halted) }
+{}
+
+/// The round that is out is the same after every event but those of writeback, whether it is refused or not, where it is the
+/// same in the graph. At open none is out.
+pub fn rounds_stay()
+    ensures stays { (S : Shape) (F : Formats) (g h : GraphState) (s t : State) (event : Event) (reply : Reply)
+        → IsRoundOf g s → Step S F s event reply t → event ≢ Begin → event ≢ Issue → event ≢ End → h.round ≡ g.round → IsRoundOf h t }
+    ensures opened { (S : Shape) (F : Formats) (g : GraphState) (img : ℕ → Page) (n : ℕ) (m : Map) (found : Recovers S F img n m)
+        → g.round ≡ None → IsRoundOf g (opened_state S F img n m found) }
 {}

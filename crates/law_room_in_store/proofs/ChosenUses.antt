@@ -8,7 +8,7 @@ use Rattle.law_room.specs.OfMachine.{holding}
 use Rattle.law_room.specs.Rooms.{Empty, OfChunks, OfRuns, Room, live_pages}
 use Rattle.law_room.specs.Sweeps.{IsChosen, IsChunkExtent, NoTwoFit as NoTwoFitInRoom}
 use Rattle.cs_inspect.specs.Choices.{ChoosesApart}
-use Rattle.cs_inspect.specs.declared.extent_uses.ExtentUse.{ExtentUse}
+use Rattle.cs_inspect.specs.declared.surveys.ExtentUse.{ExtentUse}
 use Rattle.cs_inspect.specs.Fewest.{IsFewest, IsMovable}
 use Rattle.cs_inspect.specs.Uses.{AreExtents}
 

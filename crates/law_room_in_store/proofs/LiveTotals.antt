@@ -22,7 +22,7 @@ use Rattle.law_room.specs.OfMachine.{copies_now, of_id}
 use Rattle.law_room.specs.Rooms.{Chunk, Room, all_pages, live_pages}
 use Rattle.cs_core.specs.Views.{View}
 use Rattle.cs_inspect.specs.Chunks.{AreLiveChunks, Chunk as Listed}
-use Rattle.cs_inspect.specs.declared.extent_uses.ExtentUse.{ExtentUse}
+use Rattle.cs_inspect.specs.declared.surveys.ExtentUse.{ExtentUse}
 use Rattle.cs_inspect.specs.Uses.{AreCounted, AreExtents, heads_of, live_on}
 use Rattle.law_room_in_store.proofs.CountedPages.{live_least}
 use Rattle.law_room_in_store.specs.Cores.{IsRoomIn}

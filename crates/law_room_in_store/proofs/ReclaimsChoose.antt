@@ -22,7 +22,7 @@ use Rattle.cs_store.specs.declared.reclaims.Reclaimed.{Reclaimed}
 use Rattle.cs_store.specs.Reclaims.{reclaimed_extent}
 use Rattle.cs_inspect.specs.Choices.{ChoosesApart, ChoosesBy, run_pages}
 use Rattle.cs_inspect.proofs.Tallied.{read_exactly}
-use Rattle.cs_inspect.specs.declared.extent_uses.ExtentUse.{ExtentUse}
+use Rattle.cs_inspect.specs.declared.surveys.ExtentUse.{ExtentUse}
 use Rattle.cs_inspect.specs.Uses.{AreCounted, Head, heads_of, live_on, unreadable_on}
 use Rattle.law_room_in_store.proofs.ChosenUses.{chosen_is, inside, none_is}
 use Rattle.law_room_in_store.proofs.CountedPages.{live_exactly}

@@ -10,7 +10,7 @@ use Rattle.law_machine.specs.Element.{Map}
 use Rattle.law_machine.specs.Index.{NoneDamaged, names}
 use Rattle.cs_core.specs.Views.{View}
 use Rattle.cs_inspect.specs.Chunks.{AreLiveChunks, Chunk}
-use Rattle.cs_inspect.specs.declared.extent_uses.ExtentUse.{ExtentUse}
+use Rattle.cs_inspect.specs.declared.surveys.ExtentUse.{ExtentUse}
 use Rattle.cs_inspect.specs.Uses.{AreCounted, AreExtents, heads_of}
 use Rattle.cs_writeback.specs.Runs.{Ran}
 use Rattle.cs_writeback.specs.Syncs.{Syncs}

@@ -7,7 +7,7 @@ ghost use Rattle.cs_extent.specs.State.{IsWhole, extents_of, shape};
 ghost use Rattle.cs_core.specs.Views.{View};
 ghost use Rattle.cs_writeback.specs.Syncs.{Syncs};
 ghost use Rattle.cs_inspect.specs.Chunks.{Chunk};
-ghost use Rattle.cs_inspect.specs.declared.extent_uses.ExtentUse.{ExtentUse};
+ghost use Rattle.cs_inspect.specs.declared.surveys.ExtentUse.{ExtentUse};
 ghost use Rattle.law_room_in_store.specs.Cores.{NoneWornIn};
 ghost use Rattle.law_room_in_store.specs.Reclaims.{IsIdle, IsReclaim, NoneFailed, ReclaimsBy, total_live, AreUsesOf};
 ghost use Rattle.law_room_in_store.specs.Roomy.{IsRoomyCore};

@@ -11,6 +11,7 @@ mod histories;
 mod losses;
 mod orders;
 mod rivals;
+mod seats;
 mod sweeps;
 mod syncs;
 mod tasks;
@@ -23,11 +24,12 @@ use self::histories::prints;
 use self::orders::are_told_in_order;
 use self::rivals::is_agreed;
 use self::sweeps::are_both_swept;
-use self::tasks::{End, Ended, Task, run};
+use self::tasks::{Ended, Task, run};
 use cs_core::{Core, Limits};
 use cs_disk::{FailAt, MemoryDisk};
 use cs_frame::{Format, Geometry};
-use cs_node::{Step, Unclosed};
+use cs_node::Step::{BeginSweep, Idle, MoveOne};
+use cs_node::Unclosed;
 use cs_refusal::Refusal;
 use std::alloc::Global;
 use std::process::Abort;
@@ -108,23 +110,27 @@ enum Wanted {
 
 /// Does this on a node of a core over the store, and asserts what is wanted then. Tests call nothing else, since each type that a test names
 /// is proved for it.
-fn tries<R: Threads + Wait + Abort + Sync>(
+fn tries<R: AllocGlobal + Threads + Wait + Abort + Sync>(
     rt: &R,
-    alloc: Global,
     store: Store,
     task: Task,
     wanted: Wanted,
 ) {
-    let core = core_of(rt, alloc, store);
-    is_as_wanted(rt, alloc, &run(rt, alloc, core, task), wanted);
+    let alloc = rt.alloc();
+    match run(rt, alloc, core_of(rt, alloc, store), task) {
+        Ok(ended) => is_closed(rt, alloc, &ended, wanted),
+        Err(why) => is_unclosed(rt, why, wanted),
+    }
 }
 
-/// Asserts what is wanted of a node once its test was done.
-fn is_as_wanted<R: Abort>(rt: &R, alloc: Global, end: &End, wanted: Wanted) {
-    match end {
-        Ok(ended) => is_closed(rt, alloc, ended, wanted),
-        Err(why) => is_unclosed(rt, *why, wanted),
-    }
+/// The same where one hand does acts.
+fn tries_acts<R: AllocGlobal + Threads + Wait + Abort + Sync>(
+    rt: &R,
+    store: Store,
+    acts: &'static [Act],
+    wanted: Wanted,
+) {
+    tries(rt, store, Task::Plays(acts), wanted);
 }
 
 /// Asserts what is wanted of a node that was closed.
@@ -175,13 +181,7 @@ const SETTLES: &[Act] = &[
 
 #[test]
 fn a_put_is_settled_and_polled(rt: HostRuntime) {
-    tries(
-        &rt,
-        rt.alloc(),
-        Store::Small(64),
-        Task::Plays(SETTLES),
-        Wanted::Counts(1, 1),
-    );
+    tries_acts(&rt, Store::Small(64), SETTLES, Wanted::Counts(1, 1));
 }
 
 /// Polls before a sync and after.
@@ -198,24 +198,12 @@ const POLLS: &[Act] = &[
 
 #[test]
 fn a_poll_before_and_after_a_sync(rt: HostRuntime) {
-    tries(
-        &rt,
-        rt.alloc(),
-        Store::Small(64),
-        Task::Plays(POLLS),
-        Wanted::Counts(1, 1),
-    );
+    tries_acts(&rt, Store::Small(64), POLLS, Wanted::Counts(1, 1));
 }
 
 #[test]
 fn a_lost_ticket_is_missing(rt: HostRuntime) {
-    tries(
-        &rt,
-        rt.alloc(),
-        Store::Small(64),
-        Task::GoesOn,
-        Wanted::Missing(2),
-    );
+    tries(&rt, Store::Small(64), Task::GoesOn, Wanted::Missing(2));
 }
 
 /// Fills a history of two events.
@@ -227,13 +215,7 @@ const FILLS_TWO: &[Act] = &[
 
 #[test]
 fn a_full_history_answers_nothing(rt: HostRuntime) {
-    tries(
-        &rt,
-        rt.alloc(),
-        Store::Small(2),
-        Task::Plays(FILLS_TWO),
-        Wanted::Missing(1),
-    );
+    tries_acts(&rt, Store::Small(2), FILLS_TWO, Wanted::Missing(1));
 }
 
 /// A history of two events is filled and written back, and goes on after a checkpoint.
@@ -259,11 +241,10 @@ const GOES_ON_AT_THE_LIMIT: &[Act] = &[
 
 #[test]
 fn a_node_goes_on_at_the_limit(rt: HostRuntime) {
-    tries(
+    tries_acts(
         &rt,
-        rt.alloc(),
         Store::Small(2),
-        Task::Plays(GOES_ON_AT_THE_LIMIT),
+        GOES_ON_AT_THE_LIMIT,
         Wanted::Counts(2, 1),
     );
 }
@@ -272,7 +253,6 @@ fn a_node_goes_on_at_the_limit(rt: HostRuntime) {
 fn a_hundred_puts_past_a_history_of_64_events(rt: HostRuntime) {
     tries(
         &rt,
-        rt.alloc(),
         Store::WideButShort,
         Task::Plays(&[Act::Hire(true), Act::Hundred]),
         Wanted::Emptied(100),
@@ -282,42 +262,32 @@ fn a_hundred_puts_past_a_history_of_64_events(rt: HostRuntime) {
 /// A sweep that is left marked keeps a checkpoint waiting until it is given up.
 const LEFT_MARKED: &[Act] = &[
     Act::Hire(true),
-    Act::Put(10, Ok(1)),
-    Act::KeepTicket,
-    Act::Put(11, Ok(2)),
-    Act::KeepTicket,
+    Act::PutKept(10, 1),
+    Act::PutKept(11, 2),
     Act::ReclaimOf(0),
-    Act::Sweep(Ok(Step::BeginSweep)),
+    Act::Sweep(&[BeginSweep]),
     Act::ReclaimOf(0),
     Act::Sync(Ok(2)),
     Act::Checkpoint(Err(Refusal::Unsettled)),
     Act::Abandon(0, Ok(())),
     Act::Abandon(0, Err(Refusal::NotSweepable)),
-    Act::Sweep(Ok(Step::BeginSweep)),
-    Act::Sweep(Ok(Step::MoveOne)),
+    Act::Sweep(&[BeginSweep, MoveOne]),
     Act::Abandon(0, Ok(())),
-    Act::Sweep(Err(Refusal::NotSweepable)),
-    Act::Sweep(Err(Refusal::NotSweepable)),
-    Act::Sweep(Ok(Step::Idle)),
+    Act::SweepRefused(Refusal::NotSweepable),
+    Act::SweepRefused(Refusal::NotSweepable),
+    Act::Sweep(&[Idle]),
 ];
 
 #[test]
 fn an_extent_that_is_left_marked_is_given_up(rt: HostRuntime) {
-    tries(
-        &rt,
-        rt.alloc(),
-        Store::Small(64),
-        Task::Plays(LEFT_MARKED),
-        Wanted::Counts(2, 2),
-    );
+    tries_acts(&rt, Store::Small(64), LEFT_MARKED, Wanted::Counts(2, 2));
 }
 
 /// Gets and deletes, before a put and after.
 const GETS_AND_DELETES: &[Act] = &[
     Act::Delete(10, None),
     Act::Get(10, None),
-    Act::Put(10, Ok(1)),
-    Act::KeepTicket,
+    Act::PutKept(10, 1),
     Act::Get(10, Some(10)),
     Act::Delete(10, Some(2)),
     Act::KeepTicket,
@@ -325,11 +295,10 @@ const GETS_AND_DELETES: &[Act] = &[
 
 #[test]
 fn gets_and_deletes_answer(rt: HostRuntime) {
-    tries(
+    tries_acts(
         &rt,
-        rt.alloc(),
         Store::Small(64),
-        Task::Plays(GETS_AND_DELETES),
+        GETS_AND_DELETES,
         Wanted::Counts(2, 0),
     );
 }

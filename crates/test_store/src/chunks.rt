@@ -2,7 +2,7 @@
 ghost use Rattle.std.specs.Prelude.{◌<◌};
 ghost use Rattle.cs_extent.specs.State.{shape};
 
-use crate::stores::{Store, assert_families, assert_large, id, plays, plays_third};
+use crate::stores::{Store, assert_large, assert_ready, id, plays};
 use crate::texts::{text_of, words_of};
 use cs_chunk::{pages_have_one_newest, put_chunks, read_chunks, read_frame, what_was_put_stays};
 use cs_disk::{DiskFault, PageDisk, refusal_of_disk};
@@ -12,15 +12,21 @@ use cs_refusal::Refusal;
 use std::alloc::Global;
 use std::process::Abort;
 
-/// Puts so many bytes, as command 7, under the identifier that ends with 10.
-fn put(rt: &impl Abort, alloc: Global, store: &mut Store, bytes: &[u8]) -> Result<Places, Refusal> {
-    assert_families(rt, &store.extents, &store.graph);
+/// Puts bytes under the identifier that ends with this byte, as the command of this number.
+pub fn put(
+    rt: &impl Abort,
+    alloc: Global,
+    store: &mut Store,
+    (last, command): (u8, u64),
+    bytes: &[u8],
+) -> Result<Places, Refusal> {
+    assert_ready(rt, store);
     put_chunks(
         alloc,
         &mut store.extents,
         &mut store.graph,
-        id(10),
-        7,
+        id(last),
+        command,
         bytes,
     )
 }
@@ -92,9 +98,9 @@ pub fn said<D: PageDisk>(
     match word {
         "zeros" => {
             let bytes = zeros(rt, usize::from(numbers[0]));
-            text_of(rt, &put(rt, alloc, store, &bytes))
+            text_of(rt, &put(rt, alloc, store, (10, 7), &bytes))
         }
-        "three" => text_of(rt, &put(rt, alloc, store, &[7, 8, 9])),
+        "three" => text_of(rt, &put(rt, alloc, store, (10, 7), &[7, 8, 9])),
         "get" => text_of(rt, &get(rt, alloc, store, disk, place)),
         "run" => text_of(rt, &get_run(rt, alloc, store, disk, place)),
         _ => text_of(rt, &disk.failures()),

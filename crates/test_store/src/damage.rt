@@ -24,7 +24,7 @@ pub fn set_page(rt: &impl Abort, disk: &mut MemoryDisk, number: u64, bytes: &[u8
 }
 
 /// Why a disk isn't opened, 0 where it is, and the disk.
-fn why_not_opened(alloc: Global, disk: MemoryDisk) -> (u8, MemoryDisk) {
+pub fn why_not_opened(alloc: Global, disk: MemoryDisk) -> (u8, MemoryDisk) {
     match Core::open(alloc, disk, Limits { history: 1000 }) {
         Ok(core) => (0, core.into_disk()),
         Err((refusal, disk)) => (refusal.number(), disk),

@@ -1,7 +1,7 @@
 //! Devices in memory, of 5 extents of 3 pages, on which frames lie.
 
 use cs_disk::{MemoryDisk, PageDisk};
-use cs_frame::{ChunkHead, Format, Geometry, ShardId, encode_chunk};
+use cs_frame::{ChunkHead, Format, Geometry, encode_chunk};
 use cs_salvage::{
     Part, Put, WholeShard, ambiguous, find_parts, missing_puts, newest_whole, read_whole,
 };
@@ -21,9 +21,13 @@ pub fn new_device(rt: &(impl Abort + AllocGlobal), format: Format) -> Device {
     Device { disk, geometry }
 }
 
-/// An identifier whose last byte is this.
-pub fn id(last: u8) -> ShardId {
-    ShardId([0, 0, 0, 0, 0, 0, 0, 0, 0, 0, 0, 0, 0, 0, 0, last])
+/// The number of a page of an extent.
+fn number_of(rt: &impl Abort, device: &Device, (extent, page): (u16, u16)) -> u64 {
+    let extents = device.geometry.extents();
+    assert!(rt; extent < extents);
+    let length = device.geometry.pages();
+    assert!(rt; page < length);
+    device.geometry.device_page(extent, page)
 }
 
 /// Writes a chunk's frame that begins on a page of an extent.
@@ -38,11 +42,7 @@ pub fn put(
     let pages = encode_chunk(rt.alloc(), device.geometry.format(), head, piece).expect(
         rt, "memory",
     );
-    let extents = device.geometry.extents();
-    assert!(rt; place.0 < extents);
-    let length = device.geometry.pages();
-    assert!(rt; place.1 < length);
-    let mut number = device.geometry.device_page(place.0, place.1);
+    let mut number = number_of(rt, device, place);
     for page in &pages {
         write(rt, device, number, page);
         number = number.wrapping_add(1);
@@ -58,11 +58,7 @@ pub fn write(rt: &impl Abort, device: &mut Device, number: u64, page: &[u8; 4096
 
 /// Turns a bit in a page of an extent.
 pub fn damage(rt: &impl Abort, device: &mut Device, place: (u16, u16), byte: usize) {
-    let extents = device.geometry.extents();
-    assert!(rt; place.0 < extents);
-    let length = device.geometry.pages();
-    assert!(rt; place.1 < length);
-    let number = device.geometry.device_page(place.0, place.1);
+    let number = number_of(rt, device, place);
     let pages = device.disk.pages();
     assert!(rt; number < pages);
     let mut page = [0; 4096];

@@ -1,10 +1,10 @@
 //! The worked rows of allocation, and each public function once.
-ghost use Rattle.std.specs.Prelude.{◌^◌, ◌<◌};
+ghost use Rattle.std.specs.Prelude.{◌^◌, ◌≤◌, ◌<◌, All, length};
 
 use crate::stores::{
-    Store, assert_families, geometry, new_extents, plays, plays_divided, plays_third,
+    Store, assert_ready, geometry, new_extents, plays, plays_divided, plays_third, store_of,
 };
-use crate::texts::{byte, text_of, words_of};
+use crate::texts::{byte, prints, text_of, words_of};
 use cs_deps::{Dependency, Element, Graph};
 use cs_extent::{
     Extents, Purpose, ROOT, joining_adds_nothing_to_one_section, needs_never_fall, one_place,
@@ -25,7 +25,7 @@ fn append(
     let pages = store.extents.extent_pages();
     assert!(rt; 1 <= frame.len());
     assert!(rt; frame.len() <= pages);
-    assert_families(rt, &store.extents, &store.graph);
+    assert_ready(rt, store);
     store.extents.append(&mut store.graph, frame, purpose)
 }
 
@@ -320,37 +320,45 @@ names 0.6 7 > true
 names 0.6 6 > false
 extent spelled 0 6 > (6, 0, [(1, 1), (2, 0)])";
 
-/// Whether the numbers of frames would be worn out: of two that fill the extents of the first of three sections, and of one more, which
-/// goes to the second one.
-fn wears_out(rt: &impl Abort, extents: &Extents, graph: &Graph) -> (bool, bool) {
-    assert_families(rt, extents, graph);
-    let pages = extents.extent_pages();
+/// Whether frames may be appended, or why not.
+type Answer = Result<(), Refusal>;
+
+/// Whether frames may be appended: two that fill the extents of the first of three sections, one more, which goes to the second one, and five,
+/// which need one extent more than puts may take.
+fn may_append(rt: &impl Abort, store: &Store) -> (Answer, Answer, Answer) {
+    assert_ready(rt, store);
+    let pages = store.extents.extent_pages();
     assert!(rt; pages == 2);
-    let three = extents.fits(&[2, 2, 1], Purpose::Put);
-    assert!(rt; three);
-    let two = extents.fits(&[2, 2], Purpose::Put);
-    assert!(rt; two);
+    let extents = &store.extents;
+    let graph = &store.graph;
     (
-        extents.are_worn(graph, &[2, 2], Purpose::Put),
-        extents.are_worn(graph, &[2, 2, 1], Purpose::Put),
+        extents.may_append(graph, &[2, 2], Purpose::Put),
+        extents.may_append(graph, &[2, 2, 1], Purpose::Put),
+        extents.may_append(graph, &[2, 2, 2, 2, 1], Purpose::Put),
     )
 }
 
-/// Of each section the latest version counts, and only where it gets another one.
+/// Asserts whether they may in a store of three sections of which these versions are persistent.
+fn appends(rt: &(impl Abort + AllocGlobal), persistent: &[u64], wanted: &str)
+    requires families { (1 ≤ length persistent.now) × (length persistent.now ≤ 16) }
+    requires numbers { All (λ v. v < 2 ^ 63) persistent.now }
+{
+    let graph = Graph::new(rt.alloc(), persistent).expect(rt, "memory");
+    let store = store_of(rt, rt.alloc(), geometry(rt, 6, 3), 100, graph);
+    prints(rt, &may_append(rt, &store), wanted);
+}
+
+/// Of each section the latest version counts, and only where it gets another one. That there is no place is told first.
 #[test]
 fn sections_wear_out_one_by_one(rt: HostRuntime) {
-    let alloc = rt.alloc();
-    let extents = new_extents(&rt, alloc, geometry(&rt, 6, 3));
     let last: u64 = 0x7fff_ffff_ffff_ffff;
-    let second = Graph::new(alloc, &[1, 1, last, 1]).expect(&rt, "memory");
-    let worn = wears_out(&rt, &extents, &second);
-    assert!(rt; worn == (false, true));
-    let third = Graph::new(alloc, &[1, 1, 1, last]).expect(&rt, "memory");
-    let worn = wears_out(&rt, &extents, &third);
-    assert!(rt; worn == (false, false));
-    let first = Graph::new(alloc, &[last - 1, 1, 1, 1]).expect(&rt, "memory");
-    let worn = wears_out(&rt, &extents, &first);
-    assert!(rt; worn == (true, true));
+    appends(&rt, &[1, 1, last, 1], "(Ok(()), Err(WornOut), Err(Full))");
+    appends(&rt, &[1, 1, 1, last], "(Ok(()), Ok(()), Err(Full))");
+    appends(
+        &rt,
+        &[last - 1, 1, 1, 1],
+        "(Err(WornOut), Err(WornOut), Err(Full))",
+    );
 }
 
 #[test]

@@ -2,8 +2,7 @@
 ghost use Rattle.std.specs.Prelude.{◌≡◌, ◌<◌, ◌^◌};
 
 use crate::stores::{
-    Store, assert_families, assert_indexed, id, plays_divided, plays_large, plays_small,
-    plays_third,
+    Store, assert_indexed, assert_ready, id, plays_divided, plays_large, plays_small, plays_third,
 };
 use crate::texts::{byte, text_of, words_of};
 use cs_deps::{Element, Graph};
@@ -50,8 +49,7 @@ fn replace(
     alloc: Global,
     index: &mut Index,
     last: u8,
-    old: u16,
-    new: u16,
+    (old, new): (u16, u16),
 ) -> bool {
     let locators = Places::from_slice(alloc, &[place(new)]).expect(rt, "memory");
     index
@@ -63,8 +61,8 @@ fn replace(
 fn stage(rt: &impl Abort, store: &mut Store, commands: u64) -> Result<Option<u64>, Refusal>
     requires { commands < 2 ^ 63 }
 {
+    assert_ready(rt, store);
     assert_indexed(rt, &store.index, &store.extents);
-    assert_families(rt, &store.extents, &store.graph);
     store
         .index
         .stage(&mut store.extents, &mut store.graph, commands)
@@ -74,8 +72,8 @@ fn stage(rt: &impl Abort, store: &mut Store, commands: u64) -> Result<Option<u64
 fn merge(rt: &impl Abort, store: &mut Store, commands: u64) -> Result<u64, Refusal>
     requires { commands < 2 ^ 63 }
 {
+    assert_ready(rt, store);
     assert_indexed(rt, &store.index, &store.extents);
-    assert_families(rt, &store.extents, &store.graph);
     store.index.stage_merged(
         &mut store.extents,
         &mut store.graph,
@@ -128,7 +126,10 @@ fn said_of(
     let last = byte(numbers[0]);
     match word {
         "set" => text_of(rt, &set(rt, alloc, index, last, numbers[1])),
-        "replace" => text_of(rt, &replace(rt, alloc, index, last, numbers[1], numbers[2])),
+        "replace" => text_of(
+            rt,
+            &replace(rt, alloc, index, last, (numbers[1], numbers[2])),
+        ),
         "erase" => text_of(rt, &index.erase(id(last)).expect(rt, "memory")),
         "at" => text_of(rt, &index.lookup(id(last))),
         "listed" => text_of(rt, &listed(index)),

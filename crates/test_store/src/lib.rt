@@ -22,6 +22,8 @@ mod documents;
 #[cfg(test)]
 mod extents;
 #[cfg(test)]
+mod files;
+#[cfg(test)]
 mod frames;
 #[cfg(test)]
 mod geometries;

@@ -57,7 +57,7 @@ pub fn answer<D: PageDisk>(rt: &impl Abort, core: &mut Core<D>, event: &Event) -
 }
 
 /// One byte.
-fn one_byte(rt: &(impl Abort + AllocGlobal), byte: u8) -> Bytes {
+pub fn one_byte(rt: &(impl Abort + AllocGlobal), byte: u8) -> Bytes {
     let bytes = Vec::from_slice(rt.alloc(), &[byte]).expect(rt, "memory");
     Bytes::new(rt.alloc(), bytes).expect(rt, "bytes")
 }

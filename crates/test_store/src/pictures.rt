@@ -1,5 +1,5 @@
 //! Pictures of worked documents.
-use cs_check::{CheckFault, from_document};
+use cs_check::from_document;
 use cs_picture::draw;
 use std::process::Abort;
 use std::test::Fail;

@@ -1,61 +1,31 @@
 //! Stores in memory of which a run is damaged, or whose root is an older one.
-use cs_core::{Bytes, Core, Event, Limits};
-use cs_disk::{MemoryDisk, PageDisk};
-use cs_frame::{Format, Geometry, Locator, ShardId, decode_root};
+use crate::damage::{page, set_page, why_not_opened};
+use crate::machines::{answer, new_core_of, one_byte, opened, writes_back};
+use crate::stores::id;
+use cs_core::{Core, Event};
+use cs_disk::MemoryDisk;
+use cs_frame::{Format, Geometry, Locator, decode_root};
 use cs_refusal::Refusal;
 use cs_salvage::{Rescue, RescueRefusal};
 use std::process::Abort;
 
-/// An identifier whose last byte is this.
-fn id(last: u8) -> ShardId {
-    ShardId([0, 0, 0, 0, 0, 0, 0, 0, 0, 0, 0, 0, 0, 0, 0, last])
-}
-
 /// A new store of format 3, of 8 extents of 4 pages.
 fn new_core(rt: &(impl Abort + AllocGlobal)) -> Core<MemoryDisk> {
-    let alloc = rt.alloc();
     let geometry = Geometry::of_format(Format::three(), 8, 4, Some(2)).expect(rt, "a geometry");
-    let disk = MemoryDisk::new(alloc, geometry.device_pages()).expect(rt, "a disk");
-    match Core::format(alloc, disk, geometry, Limits { history: 1000 }) {
-        Ok(core) => core,
-        Err((refusal, _)) => panic!(rt; "{}", refusal.name()),
-    }
+    new_core_of(rt, geometry, 1000)
 }
 
-/// Puts one byte under each of these identifiers, the same for all, and stages the index.
+/// Puts one byte under each of these identifiers, the same for all.
 fn put(rt: &(impl Abort + AllocGlobal), core: &mut Core<MemoryDisk>, ids: &[u8], byte: u8) {
     for last in ids {
-        let bytes = Vec::from_slice(rt.alloc(), &[byte]).expect(rt, "memory");
-        let bytes = Bytes::new(rt.alloc(), bytes).expect(rt, "bytes");
-        core.apply(&Event::Put(id(*last), bytes))
-            .expect(rt, "an answer");
+        answer(rt, core, &Event::Put(id(*last), one_byte(rt, byte)));
     }
 }
 
 /// Makes all that was put and deleted persistent.
 fn sync(rt: &(impl Abort + AllocGlobal), core: &mut Core<MemoryDisk>) {
-    core.apply(&Event::Stage).expect(rt, "an answer");
-    for _ in 0..8 {
-        core.apply(&Event::Begin).expect(rt, "an answer");
-        for _ in 0..64 {
-            core.apply(&Event::Issue).expect(rt, "an answer");
-        }
-        core.apply(&Event::End).expect(rt, "an answer");
-    }
-}
-
-/// A page of a disk.
-fn page(rt: &impl Abort, disk: &mut MemoryDisk, number: u64) -> [u8; 4096] {
-    let mut bytes = [0; 4096];
-    assert!(rt; number < disk.pages());
-    disk.read(number, &mut bytes).expect(rt, "a read");
-    bytes
-}
-
-/// Gives a page of a disk these bytes.
-fn set_page(rt: &impl Abort, disk: &mut MemoryDisk, number: u64, bytes: &[u8; 4096]) {
-    assert!(rt; number < disk.pages());
-    disk.write(number, bytes).expect(rt, "a write");
+    answer(rt, core, &Event::Stage);
+    writes_back(rt, core);
 }
 
 /// The runs of the root on a disk, oldest first.
@@ -72,14 +42,6 @@ fn damage(rt: &impl Abort, disk: &mut MemoryDisk, place: Locator) {
     let mut bytes = page(rt, disk, number);
     bytes[60] ^= 1;
     set_page(rt, disk, number, &bytes);
-}
-
-/// Why a disk isn't opened as usual, 0 where it is, and the disk.
-fn why_not_opened(rt: &(impl Abort + AllocGlobal), disk: MemoryDisk) -> (u8, MemoryDisk) {
-    match Core::open(rt.alloc(), disk, Limits { history: 1000 }) {
-        Ok(core) => (0, core.into_disk()),
-        Err((refusal, disk)) => (refusal.number(), disk),
-    }
 }
 
 /// What can be got of a disk.
@@ -108,7 +70,7 @@ fn two_runs(rt: &(impl Abort + AllocGlobal)) -> MemoryDisk {
     put(rt, &mut core, &[1, 2, 3, 4, 6, 7, 8, 9], 97);
     sync(rt, &mut core);
     put(rt, &mut core, &[1, 5], 98);
-    core.apply(&Event::Delete(id(2))).expect(rt, "an answer");
+    answer(rt, &mut core, &Event::Delete(id(2)));
     sync(rt, &mut core);
     core.into_disk()
 }
@@ -128,7 +90,7 @@ fn what_each_run_has(rt: HostRuntime) {
     let mut disk = rescue.into_disk();
 
     damage(&rt, &mut disk, places[0]);
-    let (refusal, disk) = why_not_opened(&rt, disk);
+    let (refusal, disk) = why_not_opened(rt.alloc(), disk);
     assert!(rt; refusal == 21);
     let mut rescue = rescued(&rt, disk);
     let damaged = rescue.damaged().expect(&rt, "a damaged run");
@@ -156,17 +118,14 @@ fn a_root_that_was_lost(rt: HostRuntime) {
     sync(&rt, &mut core);
     let mut disk = core.into_disk();
     let root = page(&rt, &mut disk, 1);
-    let mut core = match Core::open(rt.alloc(), disk, Limits { history: 1000 }) {
-        Ok(core) => core,
-        Err((refusal, _)) => panic!(rt; "{}", refusal.name()),
-    };
+    let mut core = opened(&rt, disk, 1000);
     put(&rt, &mut core, &[1, 3], 98);
     sync(&rt, &mut core);
     put(&rt, &mut core, &[4], 98);
     sync(&rt, &mut core);
     let mut disk = core.into_disk();
     set_page(&rt, &mut disk, 1, &root);
-    let (refusal, disk) = why_not_opened(&rt, disk);
+    let (refusal, disk) = why_not_opened(rt.alloc(), disk);
     assert!(rt; refusal == 27);
     let mut rescue = rescued(&rt, disk);
     assert!(rt; rescue.root_lost());

@@ -1,5 +1,6 @@
 //! What is salvaged of a device.
-use crate::devices::{Device, bytes, damage, id, missing, new_device, parts, put, salvaged};
+use crate::devices::{Device, bytes, damage, missing, new_device, parts, put, salvaged};
+use crate::stores::id;
 use cs_frame::{ChunkHead, Format};
 use cs_salvage::{newest_whole, what_stands_is_whole, whole_shards_are_what_was_put};
 use std::process::Abort;

@@ -1,6 +1,7 @@
 //! The parts of a store, and what is done with them and asked of them by scripts: the first word of a line names a part, and others
 //! are asked of the graph.
 ghost use Rattle.std.specs.Prelude.{ℕ, ◌≡◌, ◌≤◌, ◌+◌, ◌*◌, IfOk, false, length, replicate, slice_index};
+ghost use Rattle.cs_extent.specs.Appended.{IsReady};
 ghost use Rattle.cs_extent.specs.Sections.{AreSections};
 ghost use Rattle.cs_extent.specs.State.{extents_of, shape};
 ghost use Rattle.cs_frame.specs.Geometries.{section_length};
@@ -74,7 +75,7 @@ fn new_sections(alloc: Global, geometry: Geometry) -> Result<Vec<Superblock>, Al
     Ok(sections)
 }
 
-/// The graph of a store of one section or of three, whose first versions are persistent.
+/// The graph of a store of one section or of three, with version 1 of each section and of the root persistent.
 fn new_graph(rt: &impl Abort, alloc: Global, sections: u8) -> Graph {
     let graph = match sections {
         1 => Graph::new(alloc, &[1, 1]),
@@ -91,10 +92,15 @@ pub fn new_extents(rt: &impl Abort, alloc: Global, geometry: Geometry) -> Extent
     Extents::of(alloc, &sections).expect(rt, "memory")
 }
 
-/// An empty store of one section or of three whose index may weigh so much, with version 1 of each section and of the root persistent.
-fn new_store(rt: &impl Abort, alloc: Global, geometry: Geometry, limit: u16) -> Store {
+/// An empty store whose index may weigh so much, and whose versions are staged in this graph.
+pub fn store_of(
+    rt: &impl Abort,
+    alloc: Global,
+    geometry: Geometry,
+    limit: u16,
+    graph: Graph,
+) -> Store {
     let extents = new_extents(rt, alloc, geometry);
-    let graph = new_graph(rt, alloc, geometry.sections());
     let index = Index::load(
         alloc,
         geometry.format(),
@@ -110,12 +116,19 @@ fn new_store(rt: &impl Abort, alloc: Global, geometry: Geometry, limit: u16) -> 
 }
 
 /// Asserts that a graph has a family for each section of the superblock and one for the root.
-pub fn assert_families(rt: &impl Abort, extents: &Extents, graph: &Graph)
+fn assert_families(rt: &impl Abort, extents: &Extents, graph: &Graph)
     ensures { length graph.now.staging.latest ≡ 1 + (shape extents.now).sections }
 {
     let families = graph.families();
     let sections = extents.geometry().sections();
     assert!(rt; families == 1 + usize::from(sections));
+}
+
+/// Asserts that the next frame may be appended to a store.
+pub fn assert_ready(rt: &impl Abort, store: &Store)
+    ensures { IsReady store.now.extents store.now.graph.staging }
+{
+    assert_families(rt, &store.extents, &store.graph);
 }
 
 /// Asserts that the index is that of a store of format 2 whose extents have two pages, in which each entry weighs one, so that it names at most
@@ -185,7 +198,8 @@ fn plays_on(
     call: u64,
     script: &str,
 ) {
-    let mut store = new_store(rt, rt.alloc(), geometry, limit);
+    let graph = new_graph(rt, rt.alloc(), geometry.sections());
+    let mut store = store_of(rt, rt.alloc(), geometry, limit, graph);
     let mut disk = FailAt::new(memory(rt, geometry.device_pages()), call);
     play(rt, &mut store, &mut disk, script);
 }

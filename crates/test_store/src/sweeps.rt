@@ -8,9 +8,9 @@ ghost use Rattle.law_machine.specs.Index.{live_at};
 ghost use Rattle.law_machine.specs.Lists.{◌∈◌, nth};
 ghost use Rattle.cs_core.specs.cs_reclaim.Sweeps.{IsSwept};
 
-use crate::stores::{Store, assert_families, assert_indexed, assert_large, id, plays};
+use crate::chunks;
+use crate::stores::{Store, assert_indexed, assert_large, assert_ready, id, plays};
 use crate::texts::{byte, text_of, words_of};
-use cs_chunk::put_chunks;
 use cs_core::reclaim::{Sweep, a_sweep_keeps_every_shard, a_swept_extent_stays};
 use cs_disk::PageDisk;
 use cs_extent::Extents;
@@ -28,15 +28,7 @@ fn put(
     last: u8,
     byte: u8,
 ) -> Result<(), Refusal> {
-    assert_families(rt, &store.extents, &store.graph);
-    let places = put_chunks(
-        alloc,
-        &mut store.extents,
-        &mut store.graph,
-        id(last),
-        1,
-        &[byte],
-    )?;
+    let places = chunks::put(rt, alloc, store, (last, 1), &[byte])?;
     let count = places.as_slice().len();
     assert!(rt; count == 1);
     // In the older formats it has no mark.
@@ -126,9 +118,9 @@ fn move_one<D: PageDisk>(
     disk: &mut D,
     sweep: &Sweep,
 ) -> Result<Option<(ShardId, usize)>, Refusal> {
+    assert_ready(rt, store);
     assert_swept(rt, &store.extents, sweep);
     assert_indexed(rt, &store.index, &store.extents);
-    assert_families(rt, &store.extents, &store.graph);
     let extents = store.extents.extent_count();
     let pages = store.extents.extent_pages();
     assert_inside(rt, &store.index, extents, pages);
@@ -144,8 +136,8 @@ fn move_one<D: PageDisk>(
 
 /// Retires the extent.
 fn retire(rt: &impl Abort, store: &mut Store, sweep: Sweep) -> Result<u64, (Refusal, Sweep)> {
+    assert_ready(rt, store);
     assert_swept(rt, &store.extents, &sweep);
-    assert_families(rt, &store.extents, &store.graph);
     assert_indexed(rt, &store.index, &store.extents);
     sweep.retire(&mut store.index, &mut store.extents, &mut store.graph, 2)
 }

@@ -1,27 +1,71 @@
 //! Why the program stops.
-use crate::{growths, timings};
+use cs_check::CheckFault;
+use cs_core::OutOfMemory;
+use cs_disk::DiskFault;
+use cs_frame::FormatFault;
+use cs_refusal::Refusal;
+use std::alloc::AllocError;
 use std::io;
+use std::num::ParseIntError;
 
 /// Why the program stops.
 #[derive(Clone, Copy, Debug)]
 pub enum Fault {
-    /// What is timed was refused.
-    Timed(timings::Fault),
-    /// A call was refused that isn't to be, or a growth outside of the calls that are tried.
-    Tried(growths::Fault),
-    /// Input or output failed.
+    /// A word of the command line is no number.
+    Number,
+    /// A growth was refused outside of the calls that are tried, or twice in one of them.
+    Memory,
+    /// A call was refused that isn't to be.
+    Refused(Refusal),
+    /// A document was refused that isn't to be.
+    Document(CheckFault),
+    /// There is no such geometry, or no disk could be made.
+    Store,
+    /// Input, output or the clock failed.
     Stream,
+    /// Something isn't there that is to be.
+    Missing,
 }
 
-impl From<timings::Fault> for Fault {
-    fn from(fault: timings::Fault) -> Self {
-        Fault::Timed(fault)
+impl From<ParseIntError> for Fault {
+    fn from(_error: ParseIntError) -> Self {
+        Fault::Number
     }
 }
 
-impl From<growths::Fault> for Fault {
-    fn from(fault: growths::Fault) -> Self {
-        Fault::Tried(fault)
+impl From<AllocError> for Fault {
+    fn from(_error: AllocError) -> Self {
+        Fault::Memory
+    }
+}
+
+impl From<OutOfMemory> for Fault {
+    fn from(_error: OutOfMemory) -> Self {
+        Fault::Memory
+    }
+}
+
+impl From<Refusal> for Fault {
+    fn from(refusal: Refusal) -> Self {
+        Fault::Refused(refusal)
+    }
+}
+
+impl From<CheckFault> for Fault {
+    fn from(fault: CheckFault) -> Self {
+        Fault::Document(fault)
+    }
+}
+
+impl From<FormatFault> for Fault {
+    fn from(_fault: FormatFault) -> Self {
+        Fault::Store
+    }
+}
+
+impl From<DiskFault> for Fault {
+    fn from(_fault: DiskFault) -> Self {
+        Fault::Store
     }
 }
 

@@ -8,7 +8,6 @@
 mod cores;
 mod documents;
 mod events;
-mod faults;
 mod marks;
 mod nodes;
 mod parts;
@@ -16,10 +15,10 @@ mod stores;
 mod words;
 
 use self::cores::{play_first, play_second};
-pub use self::faults::Fault;
 use self::nodes::try_node;
 use self::parts::try_parts;
 use self::stores::{formatted, reopened};
+use crate::faults::Fault;
 use cs_disk::{MemoryDisk, PageDisk};
 use cs_frame::Geometry;
 use std::alloc::Global;

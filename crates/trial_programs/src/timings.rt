@@ -3,14 +3,12 @@
 
 mod clocks;
 mod cores;
-mod faults;
 mod graphs;
 mod nodes;
 mod stores;
 mod words;
 
 pub use self::cores::time_core;
-pub use self::faults::Fault;
 pub use self::graphs::time_graph;
 pub use self::nodes::time_node;
 pub use self::words::{Part, read_command};

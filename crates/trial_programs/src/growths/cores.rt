@@ -1,10 +1,10 @@
 //! Calls of a core.
 mod questions;
 
+use crate::faults::Fault;
 use crate::growths::documents::write_document;
 use crate::growths::events::event_of;
-use crate::growths::faults::Fault;
-use crate::growths::marks::{answered, begin, end, refused};
+use crate::growths::marks::{begin, end, is_answered, refused};
 use crate::growths::words::{Line, line_of};
 use cs_check::to_document;
 use cs_core::{Core, Event};
@@ -70,9 +70,8 @@ const STEPS: u64 = 100;
 pub fn play_first<D: PageDisk + Drop, R: Print>(
     rt: &R,
     alloc: Global,
-    core: Core<D>,
+    mut core: Core<D>,
 ) -> Result<D, Fault> {
-    let mut core = core;
     let played = play(rt, alloc, &mut core, FIRST);
     let disk = core.into_disk();
     match played {
@@ -85,9 +84,8 @@ pub fn play_first<D: PageDisk + Drop, R: Print>(
 pub fn play_second<D: PageDisk + Drop, R: Print>(
     rt: &R,
     alloc: Global,
-    core: Core<D>,
+    mut core: Core<D>,
 ) -> Result<(), Fault> {
-    let mut core = core;
     let played = match play(rt, alloc, &mut core, SECOND) {
         Ok(()) => write_document(rt, alloc, &core),
         Err(fault) => Err(fault),
@@ -175,13 +173,7 @@ fn apply<D: PageDisk, R: Print>(rt: &R, core: &mut Core<D>, event: &Event) -> Re
     begin(rt)?;
     let answer = core.apply(event);
     end(rt)?;
-    match answer {
-        Ok(reply) => {
-            answered(rt, &reply)?;
-            Ok(true)
-        }
-        Err(_) => Ok(false),
-    }
+    Ok(is_answered(rt, &answer)?)
 }
 
 /// What a core has, as text: what waits, its history, the round that is out, and its numbers.

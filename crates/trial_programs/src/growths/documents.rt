@@ -1,6 +1,6 @@
 //! Calls for plan documents.
+use crate::faults::Fault;
 use crate::growths::cores::letters_of;
-use crate::growths::faults::Fault;
 use crate::growths::marks::{and_told, answered, begin, end, refused};
 use cs_check::{CheckFault, Document, check, from_document, to_document};
 use cs_core::Core;

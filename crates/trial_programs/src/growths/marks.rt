@@ -1,5 +1,5 @@
 //! Marks around a call, and what is told of it.
-use crate::growths::faults::Fault;
+use crate::faults::Fault;
 use std::fmt::Debug;
 use std::io;
 

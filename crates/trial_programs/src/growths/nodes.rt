@@ -6,17 +6,15 @@ mod hands;
 ghost use Rattle.std.specs.Prelude.{◌≡◌, [], IfOk};
 ghost use Rattle.cs_node.specs.Starts.{start_of};
 
-use crate::growths::faults::Fault;
+use crate::faults::Fault;
 use crate::growths::marks::{answered, begin, end, is_answered, refused};
 use crate::growths::stores::{LIMITS, sum_of};
-use crate::growths::words::line_of;
-use calls::play;
 use closes::close;
 use cs_core::Core;
 use cs_disk::PageDisk;
 use cs_frame::Geometry;
 use cs_node::{Board, Closed, Naming, Node, Purse, ferry};
-use hands::{Hand, new_hand};
+use hands::Hand;
 use std::alloc::Global;
 use std::marker::Brand;
 use std::sync::Wait;
@@ -123,26 +121,11 @@ fn play_all<D: PageDisk, K: Naming, R: Wait + Print>(
     node: &Node<D, K>,
 ) -> Result<Purse<K>, Fault> {
     try_ferry::<K, R>(rt, alloc)?;
-    let mut hand = new_hand(rt, alloc, node)?;
-    match play_lines(rt, alloc, node, &mut hand, CALLS) {
+    let mut hand = Hand::new(rt, alloc, node)?;
+    match hand.play_lines(CALLS) {
         Ok(()) => Ok(hand.purse),
         Err(fault) => Err(fault),
     }
-}
-
-/// Makes the calls of a script's lines.
-fn play_lines<D: PageDisk, K: Naming, R: Wait + Print>(
-    rt: &R,
-    alloc: Global,
-    node: &Node<D, K>,
-    hand: &mut Hand<K>,
-    script: &str,
-) -> Result<(), Fault> {
-    for text in script.lines() {
-        print!(rt; "{text} ")?;
-        play(rt, alloc, node, hand, line_of(text))?;
-    }
-    Ok(())
 }
 
 /// Makes a ferry.

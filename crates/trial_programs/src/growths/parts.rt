@@ -2,8 +2,8 @@
 ghost use Rattle.std.specs.Prelude.{◌≡◌, ◌∷◌, [], IfOk};
 ghost use Rattle.cs_extent.specs.Sections.{AreSections};
 
+use crate::faults::Fault;
 use crate::growths::events::id;
-use crate::growths::faults::Fault;
 use crate::growths::marks::{begin_call, ended};
 use cs_deps::{Dependency, Element, Graph};
 use cs_disk::PageDisk;
@@ -41,8 +41,7 @@ fn try_index<R: Print>(rt: &R, alloc: Global) -> Result<(), Fault> {
 /// Tells what is known of a shard.
 fn tell_shard<R: Print>(rt: &R, index: &Index) -> Result<(), Fault> {
     begin_call(rt, "lookup")?;
-    let found = index.lookup(id(10));
-    ended(rt, &found.is_some())?;
+    ended(rt, &index.lookup(id(10)).is_some())?;
     Ok(())
 }
 
@@ -69,14 +68,11 @@ fn try_extents<R: Print>(rt: &R, alloc: Global, page: &[u8; 4096]) -> Result<(),
 /// Tells how many extents there are, and how many are empty.
 fn tell_counts<R: Print>(rt: &R, extents: &Extents) -> io::Result<()> {
     begin_call(rt, "extent_count")?;
-    let count = extents.extent_count();
-    ended(rt, &count)?;
+    ended(rt, &extents.extent_count())?;
     begin_call(rt, "extent_pages")?;
-    let pages = extents.extent_pages();
-    ended(rt, &pages)?;
+    ended(rt, &extents.extent_pages())?;
     begin_call(rt, "empty_count")?;
-    let empty = extents.empty_count();
-    ended(rt, &empty)
+    ended(rt, &extents.empty_count())
 }
 
 /// Tells what is known of an extent, and marks it and takes the mark off.
@@ -85,20 +81,16 @@ fn tell_extent<R: Print>(rt: &R, extents: &mut Extents) -> Result<(), Fault> {
         return Err(Fault::Missing);
     }
     begin_call(rt, "pointer")?;
-    let pointer = extents.pointer(0);
-    ended(rt, &pointer)?;
+    ended(rt, &extents.pointer(0))?;
     begin_call(rt, "generation")?;
-    let generation = extents.generation(0);
-    ended(rt, &generation)?;
+    ended(rt, &extents.generation(0))?;
     begin_call(rt, "is_open")?;
-    let is_open = extents.is_open(0);
-    ended(rt, &is_open)?;
+    ended(rt, &extents.is_open(0))?;
     begin_call(rt, "set_swept")?;
     extents.set_swept(0, true);
     ended(rt, &true)?;
     begin_call(rt, "is_swept")?;
-    let is_swept = extents.is_swept(0);
-    ended(rt, &is_swept)?;
+    ended(rt, &extents.is_swept(0))?;
     Ok(())
 }
 
@@ -108,8 +100,7 @@ fn try_reset<R: Print>(rt: &R, extents: &mut Extents) -> Result<(), Fault> {
         return Err(Fault::Missing);
     }
     begin_call(rt, "reset")?;
-    let answer = extents.reset(0, 0);
-    ended(rt, &answer)?;
+    ended(rt, &extents.reset(0, 0))?;
     Ok(())
 }
 
@@ -182,21 +173,18 @@ fn try_graph<R: Print>(rt: &R, alloc: Global, page: &[u8; 4096]) -> Result<(), F
     let mut graph = new_graph(alloc, page)?;
     match tell_graph(rt, &graph, &Dependency::through(alloc, 1)) {
         Ok(()) => settle_rounds(rt, &mut graph),
-        Err(_) => Err(Fault::Output),
+        Err(_) => Err(Fault::Stream),
     }
 }
 
 /// Tells what is known of a graph.
 fn tell_graph<R: Print>(rt: &R, graph: &Graph, write: &Dependency) -> io::Result<()> {
     begin_call(rt, "is_persistent")?;
-    let is_persistent = graph.is_persistent(write);
-    ended(rt, &is_persistent)?;
+    ended(rt, &graph.is_persistent(write))?;
     begin_call(rt, "bytes_of")?;
-    let bytes = graph.bytes_of(Element::Plain(1));
-    ended(rt, &bytes.is_some())?;
+    ended(rt, &graph.bytes_of(Element::Plain(1)).is_some())?;
     begin_call(rt, "kept_pages")?;
-    let kept = graph.kept_pages();
-    ended(rt, &kept)
+    ended(rt, &graph.kept_pages())
 }
 
 /// Settles three rounds.

@@ -1,5 +1,5 @@
 //! Making a store, and opening it.
-use crate::growths::faults::Fault;
+use crate::faults::Fault;
 use crate::growths::marks::{and_told, answered, begin, end, refused};
 use cs_core::{Core, Limits};
 use cs_disk::PageDisk;
@@ -65,27 +65,12 @@ pub fn formatted<D: PageDisk + Drop, R: Print>(
     let (told, answer) = format(rt, alloc, disk, geometry);
     match answer {
         Ok(core) => of(rt, told, core),
-        Err((refusal, disk)) => {
-            let mut disk = disk;
+        Err((refusal, mut disk)) => {
             match excused(rt, told, refusal, &mut disk, (2, 14), 0) {
-                Ok(()) => format_last(rt, alloc, disk, geometry),
+                Ok(()) => last(rt, format(rt, alloc, disk, geometry)),
                 Err(fault) => Err(fault),
             }
         }
-    }
-}
-
-/// A new store that is refused 9 no more.
-fn format_last<D: PageDisk + Drop, R: Print>(
-    rt: &R,
-    alloc: Global,
-    disk: D,
-    geometry: Geometry,
-) -> Result<Core<D>, Fault> {
-    let (told, answer) = format(rt, alloc, disk, geometry);
-    match answer {
-        Ok(core) => of(rt, told, core),
-        Err(_) => Err(Fault::Memory),
     }
 }
 
@@ -93,31 +78,27 @@ fn format_last<D: PageDisk + Drop, R: Print>(
 pub fn reopened<D: PageDisk + Drop, R: Print>(
     rt: &R,
     alloc: Global,
-    disk: D,
+    mut disk: D,
 ) -> Result<Core<D>, Fault> {
-    let mut disk = disk;
     let before = sum_of(&mut disk, 0, u64::MAX)?;
     print!(rt; "open {before} ")?;
     let (told, answer) = open(rt, alloc, disk);
     match answer {
         Ok(core) => of(rt, told, core),
-        Err((refusal, disk)) => {
-            let mut disk = disk;
+        Err((refusal, mut disk)) => {
             match excused(rt, told, refusal, &mut disk, (0, u64::MAX), before) {
-                Ok(()) => open_last(rt, alloc, disk),
+                Ok(()) => last(rt, open(rt, alloc, disk)),
                 Err(fault) => Err(fault),
             }
         }
     }
 }
 
-/// The store on a disk that is refused 9 no more.
-fn open_last<D: PageDisk + Drop, R: Print>(
+/// The core that a call made that is refused 9 no more.
+fn last<D: PageDisk + Drop, R: Print>(
     rt: &R,
-    alloc: Global,
-    disk: D,
+    (told, answer): (io::Result<()>, Answer<D>),
 ) -> Result<Core<D>, Fault> {
-    let (told, answer) = open(rt, alloc, disk);
     match answer {
         Ok(core) => of(rt, told, core),
         Err(_) => Err(Fault::Memory),

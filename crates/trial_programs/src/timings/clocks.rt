@@ -1,5 +1,5 @@
 //! What the clock says.
-use crate::timings::faults::Fault;
+use crate::faults::Fault;
 use std::time::{Clock, Instant};
 
 /// The moment.

@@ -14,14 +14,12 @@ mod events;
 mod loads;
 mod timings;
 
-use crate::timings::faults::Fault;
+use crate::faults::Fault;
 use crate::timings::stores::new_core;
 use crate::timings::words::{Asked, Work};
-use cs_core::Core;
-use cs_disk::MemoryDisk;
 use std::alloc::Global;
 use std::time::Clock;
-use timings::{print_puts, time_beside, time_gets, time_puts, time_sections};
+use timings::Timed;
 
 /// How many pages an extent has.
 const PAGES: u64 = 256;
@@ -58,8 +56,14 @@ fn time_store<R: Print + Clock>(
     work: Work,
     task: Task,
 ) -> Result<(), Fault> {
-    let mut core = new_core(alloc, task.form, task.extents, PAGES, task.sections)?;
-    run(rt, alloc, &mut core, work, task)
+    let core = new_core(alloc, task.form, task.extents, PAGES, task.sections)?;
+    let mut timed = Timed {
+        rt,
+        alloc,
+        core,
+        task,
+    };
+    timed.run(work)
 }
 
 /// The numbers that the command line asks for.
@@ -74,19 +78,15 @@ fn task_of(asked: Asked) -> Task {
     }
 }
 
-/// Does the work, and prints what was counted and how long it took.
-fn run<R: Print + Clock>(
-    rt: &R,
-    alloc: Global,
-    core: &mut Core<MemoryDisk>,
-    work: Work,
-    task: Task,
-) -> Result<(), Fault> {
-    match work {
-        Work::Nothing => print_puts(rt, alloc, core, task),
-        Work::Gets => time_gets(rt, alloc, core, task),
-        Work::Beside => time_beside(rt, alloc, core, task),
-        Work::Sections => time_sections(rt, alloc, core, task),
-        _ => time_puts(rt, alloc, core, task),
+impl<R: Print + Clock> Timed<'_, R> {
+    /// Does the work, and prints what was counted and how long it took.
+    fn run(&mut self, work: Work) -> Result<(), Fault> {
+        match work {
+            Work::Nothing => self.print_puts(),
+            Work::Gets => self.time_gets(),
+            Work::Beside => self.time_beside(),
+            Work::Sections => self.time_sections(),
+            _ => self.time_puts(),
+        }
     }
 }

@@ -7,13 +7,12 @@
 //! - `gets`: all wait, and a million times the newest write to a page is looked up.
 ghost use Rattle.std.specs.Prelude.{None, ◌≡◌};
 
-use crate::timings::faults::Fault;
+use crate::faults::Fault;
 use crate::timings::words::{Asked, Work};
 use cs_deps::{Dependency, Graph, Plan};
 use cs_plan::{next_round, plan, plan_all};
 use cs_refusal::Refusal;
 use std::alloc::Global;
-use std::io;
 
 const PAGE: [u8; 4096] = [0; 4096];
 

@@ -15,7 +15,7 @@ mod jobs;
 ghost use Rattle.std.specs.Prelude.{◌≡◌, []};
 ghost use Rattle.cs_node.specs.Starts.{start_of};
 
-use crate::timings::faults::Fault;
+use crate::faults::Fault;
 use crate::timings::stores::new_core;
 use crate::timings::words::{Asked, Work};
 use batches::count_flushes;
@@ -25,7 +25,6 @@ use cs_node::{Board, Naming, Node};
 use endless::{Close, close_of, put_on};
 use jobs::time_jobs;
 use std::alloc::Global;
-use std::io;
 use std::marker::Brand;
 use std::sync::Wait;
 use std::thread::Threads;

@@ -1,7 +1,7 @@
 //! The stores that are timed.
 ghost use Rattle.std.specs.Prelude.{◌≡◌, [], IfOk};
 
-use crate::timings::faults::Fault;
+use crate::faults::Fault;
 use cs_core::{Core, Limits};
 use cs_disk::MemoryDisk;
 use cs_frame::{Format, Geometry, ShardId};

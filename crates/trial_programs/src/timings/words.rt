@@ -1,5 +1,5 @@
 //! The words of the command line.
-use crate::timings::faults::Fault;
+use crate::faults::Fault;
 use std::env;
 use std::rt::Env;
 

@@ -64,8 +64,7 @@ fn crashed<D: CrashDisk + Drop, R: Print>(rt: &R, disk: D, mask: &[bool]) -> io:
 }
 
 /// What a disk holds, page 0 first.
-fn image_of<D: PageDisk + Drop>(alloc: Global, disk: D) -> io::Result<Vec<u8>> {
-    let mut disk = disk;
+fn image_of<D: PageDisk + Drop>(alloc: Global, mut disk: D) -> io::Result<Vec<u8>> {
     read_all(alloc, &mut disk)
 }
 
@@ -103,8 +102,7 @@ fn place_of(page: usize, byte: usize) -> usize {
 }
 
 /// The image with the lowest bit of a byte turned, where it has that byte.
-fn damaged(image: Vec<u8>, page: usize, byte: usize) -> Vec<u8> {
-    let mut image = image;
+fn damaged(mut image: Vec<u8>, page: usize, byte: usize) -> Vec<u8> {
     if let Some(byte) = image.get_mut(place_of(page, byte)) {
         *byte ^= 1;
     }
@@ -112,8 +110,7 @@ fn damaged(image: Vec<u8>, page: usize, byte: usize) -> Vec<u8> {
 }
 
 /// The image with one page in the place of another too, where it has both.
-fn with_copy(image: Vec<u8>, from: usize, to: usize) -> Vec<u8> {
-    let mut image = image;
+fn with_copy(mut image: Vec<u8>, from: usize, to: usize) -> Vec<u8> {
     for byte in 0..4096 {
         let copied = image.get(place_of(from, byte)).copied();
         if let (Some(copied), Some(byte)) = (copied, image.get_mut(place_of(to, byte))) {

@@ -5,8 +5,8 @@ use Rattle.cs_disk.proofs.OnlyRead.{reads_on}
 use Rattle.cs_frame.specs.declared.frames.FrameKind.TheVariants as kind
 use Rattle.cs_index.specs.declared.live.LiveChunk.{LiveChunk}
 use Rattle.cs_inspect.specs.Chunks.{chunk_of}
-use Rattle.cs_inspect.specs.declared.damages.Damage.{Damage}
-use Rattle.cs_inspect.specs.declared.damages.Damage.TheVariants as damage
+use Rattle.cs_inspect.specs.declared.scrubs.Damage.{Damage}
+use Rattle.cs_inspect.specs.declared.scrubs.Damage.TheVariants as damage
 use Rattle.cs_inspect.specs.Scrubs.{OfChunk}
 use Rattle.cs_inspect.proofs.Counting.{counted_more, counted_still}
 use Rattle.cs_inspect.proofs.Naming.{all_named, caused_more, caused_still, step_named, step_passed}

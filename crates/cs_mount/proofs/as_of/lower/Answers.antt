@@ -15,5 +15,5 @@ returns-in-Ok-clause-lowered c =
 
 pub returns-in-Err-clause-lowered : goal.returns-in-Err-clause-lowered
 returns-in-Err-clause-lowered c =
-    stays_by c.decode_section.result c.in-Err.fault c.unless_memory.result c.args.bytes.now c.args.root
-    (subst (λ (n : ℕ). HasFault c.decode_section.result (superblock_fault n c.args.bytes.now)) c.three.ensures c.decode_section.ensures.fault) c.in-Err.is c.unless_memory.ensures.other
+    stays_by c.decode_section.result c.in-Err.fault tt c.unless_memory.result c.args.bytes.now c.args.root
+    (subst (λ (n : ℕ). HasFault c.decode_section.result (superblock_fault n c.args.bytes.now)) c.three.ensures c.decode_section.ensures.fault) c.in-Err.is c.unless_memory.ensures.none

@@ -9,7 +9,7 @@ returns-in-Ok-clause-version c = let it = c.in-Ok.root in root_read c.args.bytes
 
 pub returns-in-Err : goal.returns-in-Err
 returns-in-Err c = record {
-  version = none_is c.none_spelled.result c.in-Err.fault (root_version c.args.format c.args.bytes.now) c.none_spelled.ensures.none
+  version = none_is c.unless_memory.result c.in-Err.fault (root_version c.args.format c.args.bytes.now) c.unless_memory.ensures.none
       (λ ne. faulty c.decode_root.result (root_fault c.args.format c.args.bytes.now) c.in-Err.fault (number 4 12 c.args.bytes.now) c.decode_root.ensures.fault ne c.in-Err.is);
-  memory = c.none_spelled.ensures.memory;
+  memory = c.unless_memory.ensures.memory;
 }

@@ -17,6 +17,6 @@ returns-in-Ok-clause-version c =
 
 pub returns-clause-version : goal.returns-clause-version
 returns-clause-version c =
-    none_is c.none_spelled.result c.in-Err.fault (section_version c.args.geometry c.args.section c.args.bytes.now) c.none_spelled.ensures.none
+    none_is c.unless_memory.result c.in-Err.fault (section_version c.args.geometry c.args.section c.args.bytes.now) c.unless_memory.ensures.none
     (λ ne. no_section c.args.geometry c.args.section c.args.bytes.now (faulty c.decode_section.result (superblock_fault c.format.result c.args.bytes.now) c.in-Err.fault (number 4 12 c.args.bytes.now) c.decode_section.ensures.fault ne c.in-Err.is
     ∙ ap (λ f. without_fault (superblock_fault f c.args.bytes.now) (number 4 12 c.args.bytes.now)) c.format.ensures.format))

@@ -1,4 +1,4 @@
-use Rattle.std.proofs.Common.{◌≡◌, ◌∙◌, ap, arith, false, inl, refl, sym, Err}
+use Rattle.std.proofs.Common.{◌≡◌, ◌∙◌, ◌+◌, ap, arith, false, inl, refl, sym, Err}
 use Rattle.std.proofs.lemmas.Result.{err_from_is_err_and}
 use Rattle.cs_extent.specs.State.{extents_of, shape}
 use Rattle.cs_frame.specs.Formats.{place_of}
@@ -71,14 +71,18 @@ unreachable-requires c =
     c.in_ok-root.ensures.staged c.requires.swept)
     ∙ c.reset.ensures.worn.0 (c.in-Err.is ∙ ap Err c.in-Err.ensures.refusals))
 
-pub returns-clause-resets : goal.returns-clause-resets
-returns-clause-resets c =
-    resets_emptied (extents_of c.stage_merged.new.extents) (extents_of c.reset.new.self) (extents_of c.set_swept.new.self) c.stage_merged.new.graph.staging c.args.extent c.in_ok-root.root false
-    (emptied_alone (shape c.stage_merged.new.extents) (extents_of c.stage_merged.new.extents) (extents_of c.reset.new.self) c.args.extent c.in_ok-root.root (still_together (goal.at.returns-clause-resets c).In_ok-root) c.in-Ok.ensures.extents)
-    c.set_swept.ensures.extents
-    (merge_root c.first_live.new.self c.args.extents.now c.args.graph.now ForMove c.in_ok-root.root c.args.commands c.stage_merged.new.self c.stage_merged.new.extents c.stage_merged.new.graph c.args.extent
-    c.in_ok-root.ensures.staged (omega (arith, c.in_ok-root.ensures.families, c.requires.families, c.extent_count-extents.ensures.whole.geometry.fewest_sections)))
-    c.in_ok-root.ensures.resets
+pub returns-clause-ready : goal.returns-clause-ready
+returns-clause-ready c =
+    let at = (goal.at.returns-clause-ready c).In_ok-root in
+    let ready = c.in_ok-root.ensures.ready in record {
+      families = ready.families ∙ ap (λ (S : Shape). 1 + S.sections) (sym (c.set_swept.ensures.shape ∙ c.reset.ensures.shape));
+      resets = resets_emptied (extents_of c.stage_merged.new.extents) (extents_of c.reset.new.self) (extents_of c.set_swept.new.self) c.stage_merged.new.graph.staging c.args.extent c.in_ok-root.root false
+          (emptied_alone (shape c.stage_merged.new.extents) (extents_of c.stage_merged.new.extents) (extents_of c.reset.new.self) c.args.extent c.in_ok-root.root (still_together at) c.in-Ok.ensures.extents)
+          c.set_swept.ensures.extents
+          (merge_root c.first_live.new.self c.args.extents.now c.args.graph.now ForMove c.in_ok-root.root c.args.commands c.stage_merged.new.self c.stage_merged.new.extents c.stage_merged.new.graph c.args.extent
+          c.in_ok-root.ensures.staged (omega (arith, ready.families, ap (λ (S : Shape). S.sections) (same_shape at), c.extent_count-extents.ensures.whole.geometry.fewest_sections)))
+          ready.resets;
+    }
 
 pub returns-clause-why : goal.returns-clause-why
 returns-clause-why c =

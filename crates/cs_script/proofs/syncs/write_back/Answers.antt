@@ -2,7 +2,7 @@ use Rattle.std.proofs.Common.{ℕ, List, ◌++◌, subst, sym}
 use Rattle.std.specs.Io.KnownBytes.{Appends}
 use Rattle.cs_deps.specs.declared.elements.Element.{Element}
 use Rattle.cs_deps.specs.View.{rounds_of}
-use Rattle.cs_writeback.specs.declared.stops.Stop.TheVariants.{Refused}
+use Rattle.cs_writeback.specs.declared.syncs.Stop.TheVariants.{Refused}
 use Rattle.cs_writeback.proofs.SyncSteps.{if_same}
 use Rattle.cs_script.specs.Outputs.{acknowledged_line, chain_line, flushes_line}
 use Rattle.cs_script.specs.Scripts.{IsBestOfAll, PrintsSync}

@@ -1,6 +1,6 @@
 use Rattle.std.proofs.Common.{◌+◌, List, subst}
 use Rattle.cs_deps.specs.declared.elements.Element.{Element}
-use Rattle.cs_writeback.specs.declared.stops.Stop.TheVariants.{Refused}
+use Rattle.cs_writeback.specs.declared.syncs.Stop.TheVariants.{Refused}
 use Rattle.cs_writeback.specs.Syncs.{StopsInRounds}
 use Rattle.cs_writeback.proofs.Runs.{ran_then}
 use Rattle.cs_writeback.proofs.SyncSteps.{if_same, no_rounds, none_between, none_left, not_so_many, so_far_more, stops_in_rounds}

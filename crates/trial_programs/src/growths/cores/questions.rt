@@ -1,6 +1,6 @@
 //! Calls of a core that are no events. Each function makes one, and tells whether it was answered, or refused 9.
-use crate::growths::faults::Fault;
-use crate::growths::marks::{answered, begin, end, ended};
+use crate::faults::Fault;
+use crate::growths::marks::{begin, end, ended, is_answered};
 use crate::growths::words::Line;
 use cs_core::Core;
 use cs_deps::{Dependency, Plan};
@@ -89,13 +89,7 @@ fn view<D: PageDisk, R: Print>(rt: &R, core: &Core<D>) -> Result<bool, Fault> {
     begin(rt)?;
     let answer = core.view();
     end(rt)?;
-    match answer {
-        Ok(view) => {
-            answered(rt, &view.waiting.len())?;
-            Ok(true)
-        }
-        Err(_) => Ok(false),
-    }
+    Ok(is_answered(rt, &answer.map(|view| view.waiting.len()))?)
 }
 
 /// Asks for the target of all that waits.
@@ -103,13 +97,7 @@ fn everything<D: PageDisk, R: Print>(rt: &R, core: &Core<D>) -> Result<bool, Fau
     begin(rt)?;
     let answer = core.everything();
     end(rt)?;
-    match answer {
-        Ok(target) => {
-            answered(rt, &target.through_number())?;
-            Ok(true)
-        }
-        Err(_) => Ok(false),
-    }
+    Ok(is_answered(rt, &answer.map(|target| target.through_number()))?)
 }
 
 /// Asks what the first events put and deleted, of which the number is told.
@@ -117,11 +105,5 @@ fn replay<D: PageDisk, R: Print>(rt: &R, core: &Core<D>, events: usize) -> Resul
     begin(rt)?;
     let answer = core.replay(events);
     end(rt)?;
-    match answer {
-        Ok(commands) => {
-            answered(rt, &commands.len())?;
-            Ok(true)
-        }
-        Err(_) => Ok(false),
-    }
+    Ok(is_answered(rt, &answer.map(|commands| commands.len()))?)
 }

@@ -1,5 +1,5 @@
 //! The end of a node.
-use crate::growths::faults::Fault;
+use crate::faults::Fault;
 use crate::growths::marks::{and_told, begin, begin_call, end, ended, refused};
 use cs_disk::PageDisk;
 use cs_node::{Closed, Naming, Node, NotClosed, Purse, Rest, Unclosed};

@@ -2,7 +2,7 @@
 
 use super::Task;
 use super::counts::Counts;
-use crate::timings::faults::Fault;
+use crate::faults::Fault;
 use sha2::{Digest, Sha256};
 use std::alloc::Global;
 

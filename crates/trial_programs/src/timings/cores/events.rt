@@ -1,7 +1,7 @@
 //! Events of a core, of which none is to be refused.
 
 use super::counts::Counts;
-use crate::timings::faults::Fault;
+use crate::faults::Fault;
 use crate::timings::stores::id;
 use cs_core::{Bytes, Core, Event, OutOfMemory, Reply};
 use cs_disk::{MemoryDisk, PageDisk};

@@ -3,7 +3,7 @@
 use super::Task;
 use super::counts::Counts;
 use super::events::{get, put, write_back};
-use crate::timings::faults::Fault;
+use crate::faults::Fault;
 use cs_core::{Bytes, Core};
 use cs_disk::MemoryDisk;
 use std::alloc::Global;

@@ -2,7 +2,7 @@
 
 use super::Done;
 use super::calls::put;
-use crate::timings::faults::Fault;
+use crate::faults::Fault;
 use cs_disk::MemoryDisk;
 use cs_node::{Naming, Node, Open, Pilot, Purse, Step, Stream};
 use cs_refusal::Refusal;
@@ -22,43 +22,6 @@ enum Seat<K: Naming> {
     Stream(Stream<K>),
 }
 
-/// A turn of whoever writes back.
-fn turn<K: Naming, R: Wait>(
-    rt: &R,
-    node: &Node<MemoryDisk, K>,
-    seat: &mut Seat<K>,
-) -> Result<Step, Refusal> {
-    match seat {
-        Seat::Pilot(pilot) => pilot_turn(rt, node, pilot),
-        Seat::Stream(stream) => stream_turn(rt, node, stream),
-    }
-}
-
-/// A turn of a pilot.
-fn pilot_turn<K: Naming, R: Wait>(
-    rt: &R,
-    node: &Node<MemoryDisk, K>,
-    pilot: &mut Pilot<K>,
-) -> Result<Step, Refusal> {
-    pilot.turn(rt, node, &Open)
-}
-
-/// A turn of a stream.
-fn stream_turn<K: Naming, R: Wait>(
-    rt: &R,
-    node: &Node<MemoryDisk, K>,
-    stream: &mut Stream<K>,
-) -> Result<Step, Refusal> {
-    stream.turn(rt, node, &Open)
-}
-
-/// Stages and flushes so far.
-#[derive(Clone, Copy)]
-struct Counts {
-    batches: u64,
-    flushes: u64,
-}
-
 /// Who writes back a node: its pilot, or a stream.
 fn seat_of<K: Naming, R: Wait>(
     rt: &R,
@@ -72,6 +35,18 @@ fn seat_of<K: Naming, R: Wait>(
     }
 }
 
+/// A node that is put on and written back, and how many stages and flushes there were so far.
+#[derive(Drop)]
+struct Batches<'a, K: Naming, R> {
+    rt: &'a R,
+    alloc: Global,
+    node: &'a Node<MemoryDisk, K>,
+    purse: Purse<K>,
+    seat: Seat<K>,
+    batches: u64,
+    flushes: u64,
+}
+
 /// Writes back so many batches, with a put between any two flushes, and then all that is left. Counts how many flushes that took.
 pub fn count_flushes<K: Naming, R: Wait>(
     rt: &R,
@@ -80,87 +55,75 @@ pub fn count_flushes<K: Naming, R: Wait>(
     count: u64,
     streams: bool,
 ) -> Result<Done, Fault> {
-    let mut purse = node.purse(rt, alloc)?;
-    let mut seat = seat_of(rt, node, streams)?;
-    write_batches(rt, alloc, node, &mut purse, &mut seat, count)
-}
-
-/// The same with this purse, and whoever writes back.
-fn write_batches<K: Naming, R: Wait>(
-    rt: &R,
-    alloc: Global,
-    node: &Node<MemoryDisk, K>,
-    purse: &mut Purse<K>,
-    seat: &mut Seat<K>,
-    count: u64,
-) -> Result<Done, Fault> {
-    let mut counts = Counts {
+    let mut batches = Batches {
+        rt,
+        alloc,
+        node,
+        purse: node.purse(rt, alloc)?,
+        seat: seat_of(rt, node, streams)?,
         batches: 0,
         flushes: 0,
     };
-    let puts = put_batches(rt, alloc, node, purse, seat, count, &mut counts)?;
-    let before = counts.flushes;
-    write_rest(rt, node, seat, &mut counts)?;
-    Ok(Done::Batches {
-        puts,
-        batches: counts.batches,
-        before,
-        flushes: counts.flushes,
-    })
+    batches.write(count)
 }
 
-/// Puts between any two flushes until so many batches are staged. Gives how many puts that were.
-fn put_batches<K: Naming, R: Wait>(
-    rt: &R,
-    alloc: Global,
-    node: &Node<MemoryDisk, K>,
-    purse: &mut Purse<K>,
-    seat: &mut Seat<K>,
-    count: u64,
-    counts: &mut Counts,
-) -> Result<u64, Refusal> {
-    for number in 0..HIGHEST {
-        if counts.batches >= count {
-            return Ok(number);
-        }
-        put(rt, alloc, node, purse, number % 50)?;
-        to_flush(rt, node, seat, counts)?;
+impl<K: Naming, R: Wait> Batches<'_, K, R> {
+    /// Writes back so many batches, and all that is left.
+    fn write(&mut self, count: u64) -> Result<Done, Fault> {
+        let puts = self.put_batches(count)?;
+        let before = self.flushes;
+        self.write_rest()?;
+        Ok(Done::Batches {
+            puts,
+            batches: self.batches,
+            before,
+            flushes: self.flushes,
+        })
     }
-    Ok(HIGHEST)
-}
 
-/// Writes back all that is left.
-fn write_rest<K: Naming, R: Wait>(
-    rt: &R,
-    node: &Node<MemoryDisk, K>,
-    seat: &mut Seat<K>,
-    counts: &mut Counts,
-) -> Result<(), Refusal> {
-    for _ in 0..TURNS {
-        if !to_flush(rt, node, seat, counts)? {
-            break;
-        }
-    }
-    Ok(())
-}
-
-/// Takes turns until a round has ended or nothing is left to do. Says whether a round has ended.
-fn to_flush<K: Naming, R: Wait>(
-    rt: &R,
-    node: &Node<MemoryDisk, K>,
-    seat: &mut Seat<K>,
-    counts: &mut Counts,
-) -> Result<bool, Refusal> {
-    for _ in 0..TURNS {
-        match turn(rt, node, seat)? {
-            Step::Stage => counts.batches = counts.batches.saturating_add(1),
-            Step::End => {
-                counts.flushes = counts.flushes.saturating_add(1);
-                return Ok(true);
+    /// Puts between any two flushes until so many batches are staged. Gives how many puts that were.
+    fn put_batches(&mut self, count: u64) -> Result<u64, Refusal> {
+        for number in 0..HIGHEST {
+            if self.batches >= count {
+                return Ok(number);
             }
-            Step::Idle => return Ok(false),
-            _ => {}
+            put(self.rt, self.alloc, self.node, &mut self.purse, number % 50)?;
+            self.to_flush()?;
+        }
+        Ok(HIGHEST)
+    }
+
+    /// Writes back all that is left.
+    fn write_rest(&mut self) -> Result<(), Refusal> {
+        for _ in 0..TURNS {
+            if !self.to_flush()? {
+                break;
+            }
+        }
+        Ok(())
+    }
+
+    /// Takes turns until a round has ended or nothing is left to do. Says whether a round has ended.
+    fn to_flush(&mut self) -> Result<bool, Refusal> {
+        for _ in 0..TURNS {
+            match self.turn()? {
+                Step::Stage => self.batches = self.batches.saturating_add(1),
+                Step::End => {
+                    self.flushes = self.flushes.saturating_add(1);
+                    return Ok(true);
+                }
+                Step::Idle => return Ok(false),
+                _ => {}
+            }
+        }
+        Ok(false)
+    }
+
+    /// A turn of whoever writes back.
+    fn turn(&mut self) -> Result<Step, Refusal> {
+        match &mut self.seat {
+            Seat::Pilot(pilot) => pilot.turn(self.rt, self.node, &Open),
+            Seat::Stream(stream) => stream.turn(self.rt, self.node, &Open),
         }
     }
-    Ok(false)
 }

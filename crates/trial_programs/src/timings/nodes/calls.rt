@@ -9,7 +9,7 @@ use std::alloc::{AllocError, Global};
 use std::sync::Wait;
 
 /// The eight bytes of a number.
-fn bytes_of(alloc: Global, number: u64) -> Result<Bytes, AllocError> {
+pub fn bytes_of(alloc: Global, number: u64) -> Result<Bytes, AllocError> {
     let bytes = Vec::from_slice(alloc, &number.to_be_bytes())?;
     Bytes::new(alloc, bytes)
 }

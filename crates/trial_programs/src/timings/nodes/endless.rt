@@ -5,7 +5,7 @@ mod signs;
 mod workers;
 
 use super::Task;
-use crate::timings::faults::Fault;
+use crate::faults::Fault;
 use crate::timings::words::Work;
 use cs_disk::MemoryDisk;
 use cs_node::{Naming, Node, Purse, Rest, Unclosed};

@@ -2,8 +2,8 @@
 
 use super::calls::{Heard, poll, put, settle};
 use super::{Done, Task};
+use crate::faults::Fault;
 use crate::timings::clocks::{micros_since, now};
-use crate::timings::faults::Fault;
 use crate::timings::words::Work;
 use cs_disk::MemoryDisk;
 use cs_node::{Gate, Job, Naming, Node, Pilot, Purse, Step, Ticket};
@@ -71,10 +71,9 @@ impl<K: Naming + Send + Sync> Job<Node<MemoryDisk, K>> for Worker<K> {
 fn fly<K: Naming, R: Wait>(
     rt: &R,
     node: &Node<MemoryDisk, K>,
-    pilot: Pilot<K>,
+    mut pilot: Pilot<K>,
     gate: While,
 ) -> u64 {
-    let mut pilot = pilot;
     let _ = pilot.run(rt, node, &gate);
     0
 }
@@ -83,70 +82,78 @@ fn fly<K: Naming, R: Wait>(
 fn do_chore<K: Naming, R: Wait>(rt: &R, node: &Node<MemoryDisk, K>, works: Works<K>) -> u64 {
     let Works {
         chore,
-        mut purse,
+        purse,
         ticket,
         busy,
     } = works;
+    let mut caller = Caller {
+        rt,
+        node,
+        chore,
+        purse,
+    };
     let done = match chore.work {
-        Work::Puts => puts(rt, node, &mut purse, chore),
-        _ => asks(rt, node, &mut purse, ticket, chore),
+        Work::Puts => caller.puts(),
+        _ => caller.asks(ticket),
     };
     busy.fetch_sub(1, Ordering::SeqCst);
     done
 }
 
-/// Puts so often, and gives how many were accepted.
-fn puts<K: Naming, R: Wait>(
-    rt: &R,
-    node: &Node<MemoryDisk, K>,
-    purse: &mut Purse<K>,
+/// A thread at a node.
+#[derive(Drop)]
+struct Caller<'a, K: Naming, R> {
+    rt: &'a R,
+    node: &'a Node<MemoryDisk, K>,
     chore: Chore,
-) -> u64 {
-    let mut done = 0u64;
-    for i in 0..chore.count {
-        let number = chore.first.wrapping_add(i % 50);
-        if put(rt, chore.alloc, node, purse, number).is_ok() {
-            done = done.saturating_add(1);
-        }
-    }
-    done
+    purse: Purse<K>,
 }
 
-/// Polls or settles so often, and puts anew whenever a command is persistent. It ends where the history is full.
-fn asks<K: Naming, R: Wait>(
-    rt: &R,
-    node: &Node<MemoryDisk, K>,
-    purse: &mut Purse<K>,
-    ticket: Ticket<K>,
-    chore: Chore,
-) -> u64 {
-    let mut ticket = ticket;
-    for i in 0..chore.count {
-        match ask(rt, node, purse, ticket, chore, i % 50) {
-            Some(next) => ticket = next,
-            None => return i,
+impl<K: Naming, R: Wait> Caller<'_, K, R> {
+    /// Puts so often, and gives how many were accepted.
+    fn puts(&mut self) -> u64 {
+        let mut done = 0u64;
+        for i in 0..self.chore.count {
+            if self.put(self.chore.first.wrapping_add(i % 50)).is_ok() {
+                done = done.saturating_add(1);
+            }
         }
+        done
     }
-    chore.count
-}
 
-/// Polls or settles a ticket, and puts this number where its command is persistent. Gives the ticket that is next.
-fn ask<K: Naming, R: Wait>(
-    rt: &R,
-    node: &Node<MemoryDisk, K>,
-    purse: &mut Purse<K>,
-    ticket: Ticket<K>,
-    chore: Chore,
-    number: u64,
-) -> Option<Ticket<K>> {
-    let heard = match chore.work {
-        Work::Settles => settle(rt, node, purse, ticket),
-        _ => poll(node, purse, ticket),
-    };
-    match heard {
-        Heard::Back(back) => Some(back),
-        Heard::Persistent => put(rt, chore.alloc, node, purse, number).ok(),
-        Heard::Ended => None,
+    /// Puts this number.
+    fn put(&mut self, number: u64) -> Result<Ticket<K>, Refusal> {
+        put(
+            self.rt,
+            self.chore.alloc,
+            self.node,
+            &mut self.purse,
+            number,
+        )
+    }
+
+    /// Polls or settles so often, and puts anew whenever a command is persistent. It ends where the history is full.
+    fn asks(&mut self, mut ticket: Ticket<K>) -> u64 {
+        for i in 0..self.chore.count {
+            match self.ask(ticket, i % 50) {
+                Some(next) => ticket = next,
+                None => return i,
+            }
+        }
+        self.chore.count
+    }
+
+    /// Polls or settles a ticket, and puts this number where its command is persistent. Gives the ticket that is next.
+    fn ask(&mut self, ticket: Ticket<K>, number: u64) -> Option<Ticket<K>> {
+        let heard = match self.chore.work {
+            Work::Settles => settle(self.rt, self.node, &mut self.purse, ticket),
+            _ => poll(self.node, &mut self.purse, ticket),
+        };
+        match heard {
+            Heard::Back(back) => Some(back),
+            Heard::Persistent => self.put(number).ok(),
+            Heard::Ended => None,
+        }
     }
 }
 

@@ -8,7 +8,8 @@ use Rattle.cs_core.specs.Stored.{but_for_room}
 use Rattle.cs_core.specs.Views.{View}
 use Rattle.cs_core.proofs.Answering.{answered_meant, answered_shape, answered_writes, full_shape, no_bytes}
 use Rattle.cs_core.proofs.Applied.{core_of, core_then, core_untouched, crash_then, crash_untouched, kept_is, left_then, left_untouched, step_then}
-use Rattle.cs_core.proofs.Leaving.{LeftBy, left_now, only_left_now}
+use Rattle.cs_core.specs.Prefixes.{IsPrefixOf}
+use Rattle.cs_core.proofs.Leaving.{left_now, only_left_now}
 use Rattle.cs_core.proofs.cores.Core.apply.Goals as goal
 use Rattle.cs_core.proofs.cores.Core.apply.Goals.{else-is_limited-via-then-is_limited+else-self-kept, else-is_limited-via-else-is_limited}
 
@@ -35,19 +36,19 @@ returns-then-self-kept-clause-answers g c = full_shape c.args.event.now c.if-is_
 pub returns-then-self-kept-clause-left : goal.returns-then-self-kept-clause-left
 returns-then-self-kept-clause-left g c = λ honest.
     let there : g.D.PageDisk.honest c.self.inside.disk = subst (λ (v : View g.row.D.Denot). g.D.PageDisk.honest v.disk) (sym c.self.view_is) honest in
-    subst (λ (v : View g.row.D.Denot). Leaves (g.D.PageDisk.state v.disk) (LeftBy v)) c.self.view_is
+    subst (λ (v : View g.row.D.Denot). Leaves (g.D.PageDisk.state v.disk) (IsPrefixOf v)) c.self.view_is
     (left_now g.D.PageDisk c.self.invariant c.extent_count.ensures.whole there (g.met.D.PageDisk.sized c.self.inside.disk there))
 
 pub returns-in_err-reserve-clause-left : goal.returns-in_err-reserve-clause-left
 returns-in_err-reserve-clause-left g c = rw (← c.self.view_is) (λ honest.
     let i = c.self.inside in
-    subst (λ (h : List (Asked × Told)). Leaves (g.D.PageDisk.state i.disk) (LeftBy (core_of i.disk (g.D.PageDisk.state i.opened.value).durable i.found i.store h i.history.base i.limit))) (sym c.reserve.ensures.all)
+    subst (λ (h : List (Asked × Told)). Leaves (g.D.PageDisk.state i.disk) (IsPrefixOf (core_of i.disk (g.D.PageDisk.state i.opened.value).durable i.found i.store h i.history.base i.limit))) (sym c.reserve.ensures.all)
     (left_now g.D.PageDisk c.self.invariant c.extent_count.ensures.whole honest (g.met.D.PageDisk.sized i.disk honest)))
 
 pub returns-in_err-kept-clause-left : goal.returns-in_err-kept-clause-left
 returns-in_err-kept-clause-left g c = rw (← c.self.view_is) (λ honest.
     let i = c.self.inside in
-    subst (λ (h : List (Asked × Told)). Leaves (g.D.PageDisk.state i.disk) (LeftBy (core_of i.disk (g.D.PageDisk.state i.opened.value).durable i.found i.store h i.history.base i.limit))) (sym c.reserve.ensures.all)
+    subst (λ (h : List (Asked × Told)). Leaves (g.D.PageDisk.state i.disk) (IsPrefixOf (core_of i.disk (g.D.PageDisk.state i.opened.value).durable i.found i.store h i.history.base i.limit))) (sym c.reserve.ensures.all)
     (left_now g.D.PageDisk c.self.invariant c.extent_count.ensures.whole honest (g.met.D.PageDisk.sized i.disk honest)))
 
 pub returns-in_err-reply-clause-left : goal.returns-in_err-reply-clause-left

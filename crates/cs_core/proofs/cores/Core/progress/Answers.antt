@@ -1,7 +1,8 @@
 use Rattle.std.proofs.Common.{arith, subst, sym}
 use Rattle.cs_disk.specs.Disk.{Leaves}
 use Rattle.cs_core.specs.Views.{View}
-use Rattle.cs_core.proofs.Leaving.{LeftBy, left_now}
+use Rattle.cs_core.specs.Prefixes.{IsPrefixOf}
+use Rattle.cs_core.proofs.Leaving.{left_now}
 use Rattle.cs_core.proofs.cores.Core.progress.Goals as goal
 
 pub returns-clause-within : goal.returns-clause-within
@@ -13,7 +14,7 @@ returns-clause-legal g c = rw (← c.self.view_is) (λ honest. c.self.invariant.
 pub returns-clause-left : goal.returns-clause-left
 returns-clause-left g c = λ honest.
     let there : g.D.PageDisk.honest c.self.inside.disk = subst (λ (v : View g.row.D.Denot). g.D.PageDisk.honest v.disk) (sym c.self.view_is) honest in
-    subst (λ (v : View g.row.D.Denot). Leaves (g.D.PageDisk.state v.disk) (LeftBy v)) c.self.view_is
+    subst (λ (v : View g.row.D.Denot). Leaves (g.D.PageDisk.state v.disk) (IsPrefixOf v)) c.self.view_is
     (left_now g.D.PageDisk c.self.invariant c.extent_count.ensures.whole there (g.met.D.PageDisk.sized c.self.inside.disk there))
 
 pub returns-clause-core : goal.returns-clause-core

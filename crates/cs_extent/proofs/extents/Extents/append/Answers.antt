@@ -1,7 +1,5 @@
-use Rattle.std.proofs.Common.{◌≡◌, length, subst, sym, refl, ℕ}
-use Rattle.cs_frame.specs.declared.locators.Locator.{Locator}
+use Rattle.std.proofs.Common.{◌≡◌, length, subst, sym, ℕ}
 use Rattle.law_machine.proofs.Places.{goes_inside, goes_one}
-use Rattle.cs_extent.specs.Appended.{IsAppendedBy}
 use Rattle.cs_extent.specs.Frames.{IsWorn}
 use Rattle.cs_extent.specs.Purposes.{reason_of}
 use Rattle.cs_extent.specs.State.{extents_of, shape}
@@ -22,21 +20,11 @@ give-requires-clause-fits c =
 
 pub returns-in-Ok-clause-appended : goal.returns-in-Ok-clause-appended
 returns-in-Ok-clause-appended c =
-    subst (λ (l : Locator). IsAppendedBy (shape c.args.self.now).apart c.args.self.now c.args.graph.now (reason_of c.args.purpose) c.args.frame.now l c.give.new.self c.give.new.graph)
-    (sym c.give.ensures.locator)
-    (whatever_room c.args.self.now c.args.graph.now c.reserve.new.self (reason_of c.args.purpose) c.args.frame.now _ c.give.new.self c.give.new.graph
-    c.in-Ok.ensures.rest
-    (record {
-      placed = c.in-Some.ensures;
-      place = refl;
-      extents = c.give.ensures.extents;
-      same_shape = c.give.ensures.shape;
-      staged = c.give.ensures.staged;
-      writes = c.give.ensures.pages;
-      section = c.give.ensures.section;
-      others = c.give.ensures.others;
-      round = c.give.ensures.round;
-    }))
+    whatever_room c.args.self.now c.args.graph.now c.reserve.new.self (reason_of c.args.purpose) c.args.frame.now _ c.give.new.self c.give.new.graph
+    c.in-Ok.ensures.rest c.give.ensures.appended
+
+pub returns-in-Ok-clause-shape : goal.returns-in-Ok-clause-shape
+returns-in-Ok-clause-shape c = c.give.ensures.appended.same_shape
 
 pub returns-in-Ok-clause-worn : goal.returns-in-Ok-clause-worn
 returns-in-Ok-clause-worn c = (

@@ -1,12 +1,12 @@
 use Rattle.std.proofs.Common.{◌<◌, arith}
-use Rattle.cs_extent.specs.Puts.{after_puts}
+use Rattle.cs_extent.specs.Planned.{after_planned}
 use Rattle.cs_extent.specs.State.{extents_of}
 use Rattle.cs_extent.proofs.Placing.{below_next}
 use Rattle.cs_extent.proofs.extents.Extents.first_empty_after.Goals as goal
 
 pub loop-e-preserved : goal.loop-e-preserved
 loop-e-preserved c =
-    below_next (λ d. 0 < (after_puts (extents_of c.args.self.now) c.args.puts.now).pointer d)
+    below_next (λ d. 0 < (after_planned (extents_of c.args.self.now) c.args.planned.now).pointer d)
     c.loop-e.e c.loop-e.invariant (omega (arith, c.pointer_after.ensures, c.if-pointer_after-eq0.false))
 
 pub returns : goal.returns

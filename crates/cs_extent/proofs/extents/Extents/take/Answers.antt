@@ -2,7 +2,7 @@ use Rattle.std.proofs.Common.{◌∙◌, ap, sym}
 use Rattle.law_machine.specs.Device.{Shape}
 use Rattle.cs_extent.specs.Purposes.{reason_of}
 use Rattle.cs_extent.specs.State.{shape}
-use Rattle.cs_extent.proofs.Noting.{given_there, taken_apart, taken_mixed}
+use Rattle.cs_extent.proofs.Noting.{given_there, noted_shape, taken_apart, taken_mixed}
 use Rattle.cs_extent.proofs.extents.Extents.take.Goals as goal
 
 pub note-requires-clause-given : goal.note-requires-clause-given
@@ -19,7 +19,8 @@ returns-then-is_apart-clause-extents c =
     (ap (λ (S : Shape). S.apart) (sym c.advance.ensures.shape) ∙ sym c.is_apart.ensures ∙ c.if-is_apart.true) c.note.ensures.there c.pointer-given.ensures c.note.ensures.notes
 
 pub returns-then-is_apart-clause-shape : goal.returns-then-is_apart-clause-shape
-returns-then-is_apart-clause-shape c = ap shape c.note.ensures.notes ∙ c.advance.ensures.shape
+returns-then-is_apart-clause-shape c =
+    ap shape c.note.ensures.notes ∙ noted_shape (reason_of c.args.purpose) c.args.extent c.pointer-given.result c.advance.new.self ∙ c.advance.ensures.shape
 
 pub returns-else-is_apart-clause-extents : goal.returns-else-is_apart-clause-extents
 returns-else-is_apart-clause-extents c =

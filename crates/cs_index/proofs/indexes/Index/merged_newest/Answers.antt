@@ -1,5 +1,4 @@
 use Rattle.std.proofs.Common.{◌≡◌, ◌+◌, ◌-◌, ◌∙◌, ◌++◌, ap, ap₂, arith, length, map, subst, sym, take, drop, ℕ, List}
-use Rattle.std.proofs.lemmas.Result.{IfOk-weaker}
 use Rattle.cs_frame.specs.declared.identifiers.ShardId.{ShardId}
 use Rattle.cs_frame.specs.Places.{Listed}
 use Rattle.cs_index.specs.contracts.indexes.Index.{the_view}
@@ -10,7 +9,7 @@ use Rattle.law_machine.specs.Merges.{IsRunOf}
 use Rattle.cs_index.specs.Merges.{part}
 use Rattle.cs_index.specs.Read.{IsReadable}
 use Rattle.cs_index.specs.State.{named_entry, newest_first}
-use Rattle.cs_index.proofs.Parts.{behind_place, few_newest, newest_taken, part_light, stored_newest}
+use Rattle.cs_index.proofs.Parts.{all_three, behind_place, few_newest, newest_taken, part_light, stored_newest}
 use Rattle.cs_index.proofs.Whole.{length-newest}
 use Rattle.cs_index.proofs.indexes.Index.merged_newest.Goals as goal
 use Rattle.cs_index.proofs.indexes.Index.merged_newest.Goals.{After-deref-2, After-merged_part}
@@ -49,18 +48,16 @@ part_is c =
     (behind_place n c.deref-2.result.now ∙ ap (drop n) c.deref-2.ensures.value)
     ∙ ap (λ (rs : List Run). map named_entry c.self.inside.table.entries.items ++ entries_of rs) (newest_taken c.self.inside.runs.items n c.args.portion.newest split)
 
-pub returns-clause-merged : goal.returns-clause-merged
-returns-clause-merged c =
-    let is = part_is (goal.at.returns-clause-merged c).After-merged_part in
-    rw (← c.self.view_is) (IfOk-weaker c.merged_part.result _ _
-    (λ run merged. subst (λ (es : List Entry). IsRunOf c.args.portion.without_deletions es (map named_entry run.entries.items)) is merged)
-    c.merged_part.ensures.merged)
-
-pub returns-clause-weight : goal.returns-clause-weight
-returns-clause-weight c =
-    let is = part_is (goal.at.returns-clause-weight c).After-merged_part in
-    rw (← c.self.view_is) (IfOk-weaker c.merged_part.result _ _
-    (λ run merged.
-    part_light c.args.portion.without_deletions (the_view c.self.inside) c.args.portion.newest (map named_entry run.entries.items) c.self.invariant.whole
-    (subst (λ (es : List Entry). IsRunOf c.args.portion.without_deletions es (map named_entry run.entries.items)) is merged))
-    c.merged_part.ensures.merged)
+pub returns : goal.returns
+returns c =
+    let is = part_is (goal.at.returns c).After-merged_part in
+    rw (← c.self.view_is) (all_three c.merged_part.result _ _ _ _
+    (λ run merged ids short.
+    let of = subst (λ (es : List Entry). IsRunOf c.args.portion.without_deletions es (map named_entry run.entries.items)) is merged in
+    record {
+      merged = of;
+      ids = ids;
+      short = short;
+      light = part_light c.args.portion.without_deletions (the_view c.self.inside) c.args.portion.newest (map named_entry run.entries.items) c.self.invariant.whole of;
+    })
+    c.merged_part.ensures.merged c.merged_part.ensures.ids c.merged_part.ensures.short)

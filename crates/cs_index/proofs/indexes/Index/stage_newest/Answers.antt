@@ -1,25 +1,21 @@
-use Rattle.std.proofs.Common.{◌≡◌, ◌⊎◌, [], Bool, ℕ, length, map, subst, sym}
+use Rattle.std.proofs.Common.{Bool, map, subst}
 use Rattle.std.specs.Prelude.{IfOk}
 use Rattle.cs_extent.specs.Purposes.{reason_of}
-use Rattle.cs_extent.specs.State.{extents_of, shape}
-use Rattle.law_machine.specs.Extents.{Goes}
-use Rattle.cs_index.specs.Staged.{IsPartStagedBy, WritesPart, run_frame}
+use Rattle.cs_extent.specs.State.{shape}
+use Rattle.cs_index.specs.Staged.{IsPartStagedBy, WritesPart}
 use Rattle.cs_index.specs.State.{named_entry}
-use Rattle.cs_index.proofs.Exact.{exact_placed, part_writes}
+use Rattle.cs_index.proofs.Exact.{exact_placed, full_one, part_writes}
 use Rattle.cs_index.proofs.Weights.{shape_light}
 use Rattle.cs_index.proofs.indexes.Index.stage_newest.Goals as goal
 
 pub run_fits-requires-clause-weight : goal.run_fits-requires-clause-weight
-run_fits-requires-clause-weight c = shape_light c.args.self.now c.args.extents.now (map named_entry c.in_ok-run.run'.entries.items) c.requires.format c.requires.limit c.in_ok-run.ensures.weight
-
-pub stage_chosen-requires-clause-placed : goal.stage_chosen-requires-clause-placed
-stage_chosen-requires-clause-placed c =
-    subst (λ (b : Bool). (map named_entry c.in_ok-run.run'.entries.items ≡ [])
-    ⊎ ((e : ℕ) × Goes (shape c.args.extents.now) b (extents_of c.args.extents.now) (reason_of c.args.purpose) (length (run_frame c.args.extents.now (map named_entry c.in_ok-run.run'.entries.items))) e))
-    (sym c.requires.together) c.if-not-run_fits.ensures
+run_fits-requires-clause-weight c = shape_light c.args.self.now c.args.extents.now (map named_entry c.in_ok-run.run'.entries.items) c.requires.format c.requires.limit c.in_ok-run.ensures.light
 
 pub returns-then-not-run_fits-clause-why : goal.returns-then-not-run_fits-clause-why
-returns-then-not-run_fits-clause-why c = (map named_entry c.in_ok-run.run'.entries.items, (c.in_ok-run.ensures.merged, c.if-not-run_fits.ensures.0), c.if-not-run_fits.ensures.1)
+returns-then-not-run_fits-clause-why c =
+    full_one (WritesPart c.args.portion.without_deletions c.args.self.now c.args.portion.newest) c.args.extents.now (reason_of c.args.purpose) (map named_entry c.in_ok-run.run'.entries.items)
+    (λ es writes. (part_writes c.args.portion.without_deletions c.args.self.now c.args.portion.newest (map named_entry c.in_ok-run.run'.entries.items) es c.in_ok-run.ensures.merged writes, writes.1))
+    (shape c.args.extents.now).apart c.requires.together (c.in_ok-run.ensures.merged, c.if-not-run_fits.ensures.0) c.if-not-run_fits.ensures.1
 
 pub returns-clause-staged : goal.returns-clause-staged
 returns-clause-staged c =

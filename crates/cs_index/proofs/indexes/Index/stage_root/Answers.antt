@@ -1,15 +1,26 @@
-use Rattle.std.proofs.Common.{◌≡◌, ◌⊎◌, ◌∙◌, [], Bool, ℕ, ap, inr, length, map, subst, sym}
+use Rattle.std.proofs.Common.{◌≡◌, ◌∙◌, List, ap, arith, inr, length, map, refl, subst, sym, ℕ}
 use Rattle.std.proofs.lemmas.Bool.{false≢true}
+use Rattle.std.proofs.lemmas.List.{length-map}
 use Rattle.std.proofs.lemmas.Result.{IfOk-weaker}
 use Rattle.cs_extent.specs.Purposes.{reason_of}
-use Rattle.cs_extent.specs.State.{extents_of, shape}
-use Rattle.law_machine.specs.Extents.{Goes}
+use Rattle.cs_extent.specs.State.{shape}
+use Rattle.cs_frame.specs.declared.locators.Locator.{Locator}
+use Rattle.cs_frame.specs.Geometries.{IsKnown}
+use Rattle.cs_frame.specs.Locators.{KeepFormat}
+use Rattle.cs_frame.specs.Roots.{greatest_runs}
+use Rattle.law_machine.specs.Geometry.{pages_first_in}
 use Rattle.law_machine.specs.Index.{live_at, lookup}
-use Rattle.cs_index.specs.Staged.{run_frame}
-use Rattle.cs_index.specs.State.{State, index_of, named_entry}
-use Rattle.cs_index.proofs.Chosen.{alone, chosen_keeps, chosen_staged, chosen_why, either_way, refused_why}
+use Rattle.cs_index.specs.contracts.indexes.Index.{the_view}
+use Rattle.cs_index.specs.declared.stored_runs.StoredRun.{StoredRun}
+use Rattle.cs_index.specs.Merges.{deletions_go}
+use Rattle.cs_index.specs.Staged.{IsRootOver}
+use Rattle.cs_index.specs.State.{RunsKeepTo, State, index_of, named_entry, newest_first}
+use Rattle.cs_index.proofs.Chosen.{alone, chosen_keeps, chosen_staged, chosen_why, either_way, refused_why, same_part, same_staged, same_why}
+use Rattle.cs_index.proofs.Marks.{places_keep}
 use Rattle.cs_index.proofs.Parts.{part_live, part_stays}
+use Rattle.cs_index.proofs.Rooted.{root_same}
 use Rattle.cs_index.proofs.Sizes.{goes_all}
+use Rattle.cs_index.proofs.Whole.{length-newest}
 use Rattle.cs_index.proofs.indexes.Index.stage_root.Goals as goal
 
 pub choose-requires-clause-some : goal.choose-requires-clause-some
@@ -20,12 +31,6 @@ stage_chosen-requires-clause-some c = inr (λ none. false≢true (sym c.if-is_ta
 
 pub stage_chosen-requires-clause-alone : goal.stage_chosen-requires-clause-alone
 stage_chosen-requires-clause-alone c = alone c.args.self.now c.args.extents.now c.in-Ok.chosen.portion.newest c.in-Ok.chosen.portion.without_deletions c.in-Ok.ensures.deletions
-
-pub stage_chosen-requires-clause-placed : goal.stage_chosen-requires-clause-placed
-stage_chosen-requires-clause-placed c =
-    subst (λ (b : Bool). (map named_entry c.in-Ok.chosen.run.entries.items ≡ [])
-    ⊎ ((e : ℕ) × Goes (shape c.args.extents.now) b (extents_of c.args.extents.now) (reason_of c.in-Ok.chosen.purpose) (length (run_frame c.args.extents.now (map named_entry c.in-Ok.chosen.run.entries.items))) e))
-    (sym c.requires.apart) c.in-Ok.ensures.placed
 
 pub returns-in-Ok-clause-staged : goal.returns-in-Ok-clause-staged
 returns-in-Ok-clause-staged c =
@@ -53,7 +58,55 @@ returns-in-Ok-clause-map c = λ id.
 pub returns-in-Ok-clause-why : goal.returns-in-Ok-clause-why
 returns-in-Ok-clause-why c =
     chosen_why (shape c.args.extents.now).apart c.requires.apart c.args.self.now c.args.extents.now c.args.graph.now.staging c.stage_chosen.result (map named_entry c.in-Ok.chosen.run.entries.items) c.in-Ok.chosen.portion.newest c.in-Ok.chosen.portion.without_deletions (reason_of c.in-Ok.chosen.purpose)
-    c.in-Ok.ensures.chosen c.in-Ok.ensures.deletions c.in-Ok.ensures.run c.in-Ok.ensures.placed c.stage_chosen.ensures.why
+    c.in-Ok.ensures.chosen c.in-Ok.ensures.deletions c.in-Ok.ensures.run.merged c.in-Ok.ensures.placed c.stage_chosen.ensures.why
 
 pub returns-in-Err-clause-why : goal.returns-in-Err-clause-why
 returns-in-Err-clause-why c = refused_why c.in-Err.refusal _ _ c.in-Err.ensures.refused
+
+-- ---- where the table is empty
+
+pub places_of-requires : goal.places_of-requires
+places_of-requires c = omega (arith, c.self.invariant.whole.few, ap (λ (rs : List StoredRun). length rs) c.deref.ensures.value, length-newest c.self.inside.runs.items)
+
+pub stage_over-requires-clause-format : goal.stage_over-requires-clause-format
+stage_over-requires-clause-format c = subst (λ (f : ℕ). IsKnown f) (sym c.format-format.ensures.format) c.format-format.ensures.geometry.known
+
+pub stage_over-requires-clause-places : goal.stage_over-requires-clause-places
+stage_over-requires-clause-places c =
+    let runs = rw (← c.self.view_is) at c.requires.runs in
+    let same : greatest_runs c.format-format.result ≡ greatest_runs c.args.extents.now.format = ap greatest_runs (c.format-format.ensures.format ∙ c.geometry.ensures.format) in
+    omega (
+      arith,
+      same,
+      runs,
+      ap length c.in_ok-places.ensures.places,
+      length-map c.deref.result.now (λ run. run.place),
+      ap (λ (rs : List StoredRun). length rs) c.deref.ensures.value,
+      length-newest c.self.inside.runs.items,
+    )
+
+pub stage_over-requires-clause-marks : goal.stage_over-requires-clause-marks
+stage_over-requires-clause-marks c =
+    let format = rw (← c.self.view_is) at c.requires.format in
+    subst (λ (ls : List Locator). KeepFormat c.format-format.result ls) (sym c.in_ok-places.ensures.places)
+    (subst (λ (rs : List StoredRun). KeepFormat c.format-format.result (map (λ run. run.place) rs)) (sym c.deref.ensures.value)
+    (places_keep c.format-format.result c.self.inside.runs.items
+    (subst (λ (f : ℕ). RunsKeepTo f (newest_first c.self.inside.runs.items)) (format ∙ sym (c.format-format.ensures.format ∙ c.geometry.ensures.format)) c.self.invariant.whole.placed)))
+
+pub returns-then-is_table_empty-clause-staged : goal.returns-then-is_table_empty-clause-staged
+returns-then-is_table_empty-clause-staged c =
+    let none = rw (← c.self.view_is) at (c.is_table_empty.ensures.0 c.if-is_table_empty.true) in
+    let s = the_view c.self.inside in
+    let x = c.args.extents.now in
+    rw (← c.self.view_is) (IfOk-weaker c.stage_over.result _ _
+    (λ v root. same_staged (the_view c.self.inside) c.args.extents.now none c.args.graph.now v c.args.commands (the_view c.self.inside) c.args.extents.now c.stage_over.new.graph
+    (same_part (deletions_go (shape c.args.extents.now) (the_view c.self.inside) 0) (the_view c.self.inside) c.args.extents.now c.args.graph.now v c.args.commands c.stage_over.new.graph none
+    (root_same x.format (pages_first_in x.format) c.args.graph.now c.args.graph.now c.stage_over.new.graph v c.args.commands c.self.inside.runs.items (newest_first c.self.inside.runs.items) c.in_ok-places.places.items refl
+    (c.in_ok-places.ensures.places ∙ ap (map (λ run. run.place)) c.deref.ensures.value) refl
+    (subst (λ (f : ℕ). IsRootOver f (pages_first_in f) c.args.graph.now c.stage_over.new.graph v c.args.commands c.in_ok-places.places.items) (c.format-format.ensures.format ∙ c.geometry.ensures.format) root))))
+    c.stage_over.ensures.staged)
+
+pub returns-then-is_table_empty-clause-why : goal.returns-then-is_table_empty-clause-why
+returns-then-is_table_empty-clause-why c =
+    let none = rw (← c.self.view_is) at (c.is_table_empty.ensures.0 c.if-is_table_empty.true) in
+    rw (← c.self.view_is) (same_why (the_view c.self.inside) c.args.extents.now none c.args.graph.now.staging c.stage_over.result c.stage_over.ensures.why)

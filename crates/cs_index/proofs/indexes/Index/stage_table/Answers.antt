@@ -6,6 +6,7 @@ use Rattle.law_machine.specs.Element.{Entry, Run}
 use Rattle.law_machine.specs.Extents.{ForRun}
 use Rattle.law_machine.specs.Geometry.{weigh_in}
 use Rattle.law_machine.specs.Index.{named_weight, names, run_weight}
+use Rattle.cs_extent.specs.Places.{GoesIn}
 use Rattle.cs_extent.specs.State.{shape}
 use Rattle.cs_frame.proofs.GeometryLaws.{bounds}
 use Rattle.cs_frame.proofs.RootLaws.{most_runs}
@@ -18,10 +19,10 @@ use Rattle.cs_frame.specs.Locators.{KeepFormat}
 use Rattle.cs_frame.specs.Places.{Listed}
 use Rattle.cs_index.specs.Held.{AreCounts}
 use Rattle.cs_index.specs.Live.{IsClear}
-use Rattle.cs_index.specs.Staged.{IsPartStagedBy, IsRunStagedBy}
+use Rattle.cs_index.specs.Staged.{IsPartStagedBy, IsRunStagedBy, WritesPart, run_frame}
 use Rattle.cs_index.specs.State.{KeepTo, RunsKeepTo, index_of, named_entry, newest_first, state_of}
 use Rattle.cs_index.proofs.Marks.{places_keep, run_placed}
-use Rattle.cs_index.proofs.Exact.{exact_table, goes_some, part_one, table_run}
+use Rattle.cs_index.proofs.Exact.{exact_table, full_one, goes_some, part_one, part_writes, table_run}
 use Rattle.cs_index.proofs.Staging.{is_run, pushed_index, pushed_runs, pushed_whole, table_keeps, table_light}
 use Rattle.cs_index.proofs.Weights.{shape_light}
 use Rattle.cs_index.proofs.Whole.{length-newest, no_ids}
@@ -64,11 +65,13 @@ run_fits-requires-clause-weight c =
 
 pub returns-then-not-run_fits-clause-why : goal.returns-then-not-run_fits-clause-why
 returns-then-not-run_fits-clause-why c =
-    rw (← c.self.view_is) (map named_entry c.self.inside.table.entries.items, (table_run (the_view c.self.inside) c.self.invariant.whole.ascending, c.if-not-run_fits.ensures.0), c.if-not-run_fits.ensures.1)
+    rw (← c.self.view_is) (full_one (WritesPart false (the_view c.self.inside) 0) c.args.extents.now ForRun (map named_entry c.self.inside.table.entries.items)
+    (λ es writes. (part_writes false (the_view c.self.inside) 0 (map named_entry c.self.inside.table.entries.items) es (table_run (the_view c.self.inside) c.self.invariant.whole.ascending) writes, writes.1))
+    (shape c.args.extents.now).apart c.requires.together (table_run (the_view c.self.inside) c.self.invariant.whole.ascending, c.if-not-run_fits.ensures.0) c.if-not-run_fits.ensures.1)
 
 pub stage_run-requires-clause-placed : goal.stage_run-requires-clause-placed
 stage_run-requires-clause-placed c =
-    goes_some c.args.extents.now ForRun (map named_entry c.self.inside.table.entries.items) (shape c.args.extents.now).apart c.requires.together (some_entries c) c.if-not-run_fits.ensures
+    goes_some ((e : ℕ) × GoesIn c.args.extents.now ForRun (length (run_frame c.args.extents.now (map named_entry c.self.inside.table.entries.items))) e) (map named_entry c.self.inside.table.entries.items) (some_entries c) c.if-not-run_fits.ensures
 
 pub stage_run-requires-clause-weight : goal.stage_run-requires-clause-weight
 stage_run-requires-clause-weight c = light c

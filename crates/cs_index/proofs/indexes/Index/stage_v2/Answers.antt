@@ -1,39 +1,63 @@
-use Rattle.std.proofs.Common.{ap}
-use Rattle.std.proofs.lemmas.Result.{IfOk-weaker}
+use Rattle.std.proofs.Common.{◌≡◌, ◌<◌, ◌∙◌, false, inr, length, drop, rules, subst, sym, ℕ}
 use Rattle.cs_extent.specs.State.{shape}
-use Rattle.law_machine.specs.Extents.{ForRun}
-use Rattle.law_machine.specs.Index.{live_at, lookup}
-use Rattle.cs_index.specs.State.{State, index_of}
-use Rattle.cs_index.proofs.Chosen.{either_way}
-use Rattle.cs_index.proofs.Exact.{exact_stage, newest_staged, stays_too}
-use Rattle.cs_index.proofs.Parts.{part_live, part_stays}
+use Rattle.cs_frame.specs.Roots.{greatest_runs}
+use Rattle.cs_index.specs.Merges.{deletions_go, stage_takes}
+use Rattle.cs_index.proofs.Exact.{exact_stage}
+use Rattle.cs_index.proofs.StagedV2.{as_newest, keeps_live, keeps_lookups}
 use Rattle.cs_index.proofs.indexes.Index.stage_v2.Goals as goal
+use Rattle.cs_index.proofs.indexes.Index.stage_v2.Goals.{Then-not-portion}
+
+pub stage_table-requires-clause-few : goal.stage_table-requires-clause-few
+stage_table-requires-clause-few c = subst (λ (n : ℕ). length (drop n c.args.self.now.runs) < greatest_runs c.args.extents.now.format) c.if-portion-eq0.true c.newest_portion-portion.ensures.left
+
+pub stage_newest-requires-clause-some : goal.stage_newest-requires-clause-some
+stage_newest-requires-clause-some c = inr c.requires.some
+
+-- nothing but the table is merged
+none_merged : (c : Then-not-portion) → 0 ≡ stage_takes (shape c.args.extents.now) c.args.self.now
+none_merged c = sym c.if-portion-eq0.true ∙ c.newest_portion-portion.ensures.newest
+
+stay : (c : Then-not-portion) → false ≡ deletions_go (shape c.args.extents.now) c.args.self.now 0
+stay c =
+    let stays : c.newest_portion-portion.result.without_deletions ≡ false = search rules in
+    subst (λ (k : ℕ). false ≡ deletions_go (shape c.args.extents.now) c.args.self.now k) c.if-portion-eq0.true (sym stays ∙ c.newest_portion-portion.ensures.deletions)
+
+pub returns-then-not-portion-clause-staged : goal.returns-then-not-portion-clause-staged
+returns-then-not-portion-clause-staged c =
+    let at = (goal.at.returns-then-not-portion-clause-staged c).Then-not-portion in
+    as_newest c.args.self.now c.args.extents.now 0 false (none_merged at) (stay at) c.args.graph.now c.args.commands c.stage_table.result c.stage_table.new.self c.stage_table.new.extents c.stage_table.new.graph c.stage_table.ensures.staged
+
+pub returns-then-not-portion-clause-lookups : goal.returns-then-not-portion-clause-lookups
+returns-then-not-portion-clause-lookups c =
+    let at = (goal.at.returns-then-not-portion-clause-lookups c).Then-not-portion in
+    keeps_lookups c.args.self.now c.args.extents.now 0 false (none_merged at) (stay at) c.args.graph.now c.args.commands c.stage_table.result c.stage_table.new.self c.stage_table.new.extents c.stage_table.new.graph c.stage_table.ensures.staged c.stage_table.ensures.refused
+
+pub returns-then-not-portion-clause-map : goal.returns-then-not-portion-clause-map
+returns-then-not-portion-clause-map c =
+    let at = (goal.at.returns-then-not-portion-clause-map c).Then-not-portion in
+    keeps_live c.args.self.now c.args.extents.now 0 false (none_merged at) (stay at) c.args.graph.now c.args.commands c.stage_table.result c.stage_table.new.self c.stage_table.new.extents c.stage_table.new.graph c.stage_table.ensures.staged c.stage_table.ensures.refused (λ go. absurd (cc go))
+
+pub returns-then-not-portion-clause-why : goal.returns-then-not-portion-clause-why
+returns-then-not-portion-clause-why c =
+    let at = (goal.at.returns-then-not-portion-clause-why c).Then-not-portion in
+    exact_stage (shape c.args.extents.now) c.args.self.now 0 false c.args.extents.now c.args.graph.now.staging c.stage_table.result (none_merged at) (stay at) c.requires.some c.stage_table.ensures.why
 
 pub returns-clause-staged : goal.returns-clause-staged
 returns-clause-staged c =
     let p = c.newest_portion-portion in
-    IfOk-weaker c.stage_portion.result _ _
-    (λ v staged. newest_staged c.args.self.now c.args.extents.now p.result.newest p.result.without_deletions p.ensures.newest p.ensures.deletions c.args.graph.now v c.args.commands c.stage_portion.new.self c.stage_portion.new.extents c.stage_portion.new.graph staged)
-    c.stage_portion.ensures.staged
+    as_newest c.args.self.now c.args.extents.now p.result.newest p.result.without_deletions p.ensures.newest p.ensures.deletions c.args.graph.now c.args.commands c.stage_newest.result c.stage_newest.new.self c.stage_newest.new.extents c.stage_newest.new.graph c.stage_newest.ensures.staged
 
 pub returns-clause-lookups : goal.returns-clause-lookups
-returns-clause-lookups c = λ stay id.
+returns-clause-lookups c =
     let p = c.newest_portion-portion in
-    either_way c.stage_portion.result
-    (λ v staged. part_stays p.result.without_deletions p.result.newest c.args.self.now c.args.extents.now c.args.graph.now ForRun v c.args.commands c.stage_portion.new.self c.stage_portion.new.extents c.stage_portion.new.graph staged
-    (stays_too (shape c.args.extents.now) c.args.self.now p.result.newest p.result.without_deletions p.ensures.newest p.ensures.deletions stay) id)
-    (λ same. ap (λ (s : State). lookup id (index_of s)) same)
-    c.stage_portion.ensures.staged c.stage_portion.ensures.refused
+    keeps_lookups c.args.self.now c.args.extents.now p.result.newest p.result.without_deletions p.ensures.newest p.ensures.deletions c.args.graph.now c.args.commands c.stage_newest.result c.stage_newest.new.self c.stage_newest.new.extents c.stage_newest.new.graph c.stage_newest.ensures.staged c.stage_newest.ensures.refused
 
 pub returns-clause-map : goal.returns-clause-map
-returns-clause-map c = λ id.
+returns-clause-map c =
     let p = c.newest_portion-portion in
-    either_way c.stage_portion.result
-    (λ v staged. part_live p.result.without_deletions p.result.newest c.args.self.now c.args.extents.now c.args.graph.now ForRun v c.args.commands c.stage_portion.new.self c.stage_portion.new.extents c.stage_portion.new.graph staged p.ensures.alone id)
-    (λ same. ap (λ (s : State). live_at (index_of s) id) same)
-    c.stage_portion.ensures.staged c.stage_portion.ensures.refused
+    keeps_live c.args.self.now c.args.extents.now p.result.newest p.result.without_deletions p.ensures.newest p.ensures.deletions c.args.graph.now c.args.commands c.stage_newest.result c.stage_newest.new.self c.stage_newest.new.extents c.stage_newest.new.graph c.stage_newest.ensures.staged c.stage_newest.ensures.refused p.ensures.alone
 
 pub returns-clause-why : goal.returns-clause-why
 returns-clause-why c =
     let p = c.newest_portion-portion in
-    exact_stage (shape c.args.extents.now) c.args.self.now p.result.newest p.result.without_deletions c.args.extents.now c.args.graph.now.staging c.stage_portion.result p.ensures.newest p.ensures.deletions c.requires.some c.stage_portion.ensures.why
+    exact_stage (shape c.args.extents.now) c.args.self.now p.result.newest p.result.without_deletions c.args.extents.now c.args.graph.now.staging c.stage_newest.result p.ensures.newest p.ensures.deletions c.requires.some c.stage_newest.ensures.why

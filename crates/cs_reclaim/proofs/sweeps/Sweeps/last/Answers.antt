@@ -5,5 +5,5 @@ use Rattle.cs_reclaim.proofs.sweeps.Sweeps.last.Goals as goal
 
 pub returns-in-Some : goal.returns-in-Some
 returns-in-Some c =
-    rw (← c.self.view_is) (sym (last_noted c.self.inside.made.items c.in-Some.copy.now
+    rw (← c.self.view_is) (sym (last_noted c.self.inside.copies.items c.in-Some.copy.now
     (ap (λ (xs : List ChunkCopy). slice_get xs (length xs - 1)) (sym c.deref.ensures.value) ∙ sym c.in-Some.ensures.value)))

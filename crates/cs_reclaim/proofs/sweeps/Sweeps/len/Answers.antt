@@ -5,5 +5,5 @@ use Rattle.cs_reclaim.proofs.sweeps.Sweeps.len.Goals as goal
 
 pub returns : goal.returns
 returns c =
-    let size : vec_len c.self.inside.made ≡ length c.self.inside.made.items = omega (arith, c.self.inside.made.ok.0) in
-    rw (← c.self.view_is) (c.len.ensures ∙ size ∙ sym (count_noted c.self.inside.made.items))
+    let size : vec_len c.self.inside.copies ≡ length c.self.inside.copies.items = omega (arith, c.self.inside.copies.ok.0) in
+    rw (← c.self.view_is) (c.len.ensures ∙ size ∙ sym (count_noted c.self.inside.copies.items))

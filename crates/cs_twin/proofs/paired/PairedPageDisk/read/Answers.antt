@@ -1,6 +1,6 @@
 use Rattle.std.proofs.Common.{List, ap, slice_get, subst, sym, ◌∙◌}
 use Rattle.cs_twin.specs.declared.pairs.Pair.{Pair}
-use Rattle.cs_twin.specs.declared.twin_places.Place.TheVariants.{OfPair, OfTwin, Own}
+use Rattle.cs_twin.specs.declared.pairs.Place.TheVariants.{OfPair, OfTwin, Own}
 use Rattle.cs_twin.specs.Noted.{AreNotes, AreRight, IsPlace}
 use Rattle.cs_twin.specs.Pairs.{ArePairs, blank}
 use Rattle.cs_twin.proofs.Fits.{fit_read}

@@ -1,7 +1,7 @@
 use Rattle.std.proofs.Common.{◌∙◌, List, ap, slice_get, subst, sym}
 use Rattle.std.proofs.lemmas.Option.{slice_get_within}
 use Rattle.cs_twin.specs.declared.pairs.Pair.{Pair}
-use Rattle.cs_twin.specs.declared.twin_places.Place.TheVariants.{OfPair, Own}
+use Rattle.cs_twin.specs.declared.pairs.Place.TheVariants.{OfPair, Own}
 use Rattle.cs_twin.specs.Fitting.{IsFit}
 use Rattle.cs_twin.specs.Noted.{AreNotes, AreRight, IsPlace}
 use Rattle.cs_twin.specs.Pairs.{ArePairs}

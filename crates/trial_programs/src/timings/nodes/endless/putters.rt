@@ -1,11 +1,11 @@
 //! Threads that put.
 use super::signs::Signs;
+use crate::timings::nodes::calls::bytes_of;
 use crate::timings::stores::id;
-use cs_core::Bytes;
 use cs_disk::MemoryDisk;
 use cs_node::{Naming, Node, Open, Polled, Purse, Ticket};
 use cs_refusal::Refusal;
-use std::alloc::{AllocError, Global};
+use std::alloc::Global;
 use std::collections::VecDeque;
 use std::sync::{Arc, Wait};
 use std::thread;
@@ -62,12 +62,6 @@ impl<K: Naming> Putter<K> {
         signs.end_one();
         purse
     }
-}
-
-/// The eight bytes of a number.
-fn bytes_of(alloc: Global, number: u64) -> Result<Bytes, AllocError> {
-    let bytes = Vec::from_slice(alloc, &number.to_be_bytes())?;
-    Bytes::new(alloc, bytes)
 }
 
 /// Puts the bytes of a number under its identifier, again and again while there is no room or the history is full. None where it is refused for

@@ -1,4 +1,0 @@
-use Rattle.cs_core.proofs.parts.Store.index.Goals as goal
-
-pub returns-clause-places : goal.returns-clause-places
-returns-clause-places c = rw (← c.self.view_is) c.self.invariant.places

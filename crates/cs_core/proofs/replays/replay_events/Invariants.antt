@@ -1,6 +1,0 @@
-use Rattle.std.proofs.Common.{◌≡◌, take}
-use Rattle.cs_core.specs.Replays.{replayed}
-use Rattle.cs_core.proofs.replays.replay_events.Given as goal
-
-abbrev pub invariant-loop-k : goal.invariant-loop-k
-invariant-loop-k l = l.changes.items ≡ replayed (take l.k l.events)

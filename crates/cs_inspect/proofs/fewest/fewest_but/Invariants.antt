@@ -1,5 +1,0 @@
-use Rattle.cs_inspect.proofs.Seeking.{IsFewestTo}
-use Rattle.cs_inspect.proofs.fewest.fewest_but.Given as goal
-
-abbrev pub invariant-loop-extent : goal.invariant-loop-extent
-invariant-loop-extent l = IsFewestTo l.uses l.but l.extent l.found

@@ -1,0 +1,12 @@
+use Rattle.std.proofs.Common.{◌≡◌, length, map, take}
+use Rattle.cs_disk.specs.Disk.{seen}
+use Rattle.cs_disk.specs.Reads.{OnlyReads}
+use Rattle.cs_twin.specs.Pairs.{held_in}
+use Rattle.cs_twin.proofs.findings.read_held.Given as goal
+
+abbrev pub invariant-loop-k : goal.invariant-loop-k
+invariant-loop-k g l = record {
+  disk : OnlyReads g.D.PageDisk l.fn.disk l.disk;
+  size : length l.held ≡ length l.pairs;
+  held : g.D.PageDisk.honest l.fn.disk → take l.k l.held ≡ map (held_in (g.R.PageRules.version l.rules) (seen (g.D.PageDisk.state l.fn.disk))) (take l.k l.pairs);
+}
