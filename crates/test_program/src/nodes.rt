@@ -11,7 +11,6 @@ mod histories;
 mod losses;
 mod orders;
 mod rivals;
-mod seats;
 mod sweeps;
 mod syncs;
 mod tasks;
@@ -24,12 +23,11 @@ use self::histories::prints;
 use self::orders::are_told_in_order;
 use self::rivals::is_agreed;
 use self::sweeps::are_both_swept;
-use self::tasks::{Ended, Task, run};
+use self::tasks::{End, Ended, Task, run};
 use cs_core::{Core, Limits};
 use cs_disk::{FailAt, MemoryDisk};
 use cs_frame::{Format, Geometry};
-use cs_node::Step::{BeginSweep, Idle, MoveOne};
-use cs_node::Unclosed;
+use cs_node::{Step, Unclosed};
 use cs_refusal::Refusal;
 use std::alloc::Global;
 use std::process::Abort;
@@ -110,27 +108,23 @@ enum Wanted {
 
 /// Does this on a node of a core over the store, and asserts what is wanted then. Tests call nothing else, since each type that a test names
 /// is proved for it.
-fn tries<R: AllocGlobal + Threads + Wait + Abort + Sync>(
+fn tries<R: Threads + Wait + Abort + Sync>(
     rt: &R,
+    alloc: Global,
     store: Store,
     task: Task,
     wanted: Wanted,
 ) {
-    let alloc = rt.alloc();
-    match run(rt, alloc, core_of(rt, alloc, store), task) {
-        Ok(ended) => is_closed(rt, alloc, &ended, wanted),
-        Err(why) => is_unclosed(rt, why, wanted),
-    }
+    let core = core_of(rt, alloc, store);
+    is_as_wanted(rt, alloc, &run(rt, alloc, core, task), wanted);
 }
 
-/// The same where one hand does acts.
-fn tries_acts<R: AllocGlobal + Threads + Wait + Abort + Sync>(
-    rt: &R,
-    store: Store,
-    acts: &'static [Act],
-    wanted: Wanted,
-) {
-    tries(rt, store, Task::Plays(acts), wanted);
+/// Asserts what is wanted of a node once its test was done.
+fn is_as_wanted<R: Abort>(rt: &R, alloc: Global, end: &End, wanted: Wanted) {
+    match end {
+        Ok(ended) => is_closed(rt, alloc, ended, wanted),
+        Err(why) => is_unclosed(rt, *why, wanted),
+    }
 }
 
 /// Asserts what is wanted of a node that was closed.
@@ -181,7 +175,13 @@ const SETTLES: &[Act] = &[
 
 #[test]
 fn a_put_is_settled_and_polled(rt: HostRuntime) {
-    tries_acts(&rt, Store::Small(64), SETTLES, Wanted::Counts(1, 1));
+    tries(
+        &rt,
+        rt.alloc(),
+        Store::Small(64),
+        Task::Plays(SETTLES),
+        Wanted::Counts(1, 1),
+    );
 }
 
 /// Polls before a sync and after.
@@ -198,12 +198,24 @@ const POLLS: &[Act] = &[
 
 #[test]
 fn a_poll_before_and_after_a_sync(rt: HostRuntime) {
-    tries_acts(&rt, Store::Small(64), POLLS, Wanted::Counts(1, 1));
+    tries(
+        &rt,
+        rt.alloc(),
+        Store::Small(64),
+        Task::Plays(POLLS),
+        Wanted::Counts(1, 1),
+    );
 }
 
 #[test]
 fn a_lost_ticket_is_missing(rt: HostRuntime) {
-    tries(&rt, Store::Small(64), Task::GoesOn, Wanted::Missing(2));
+    tries(
+        &rt,
+        rt.alloc(),
+        Store::Small(64),
+        Task::GoesOn,
+        Wanted::Missing(2),
+    );
 }
 
 /// Fills a history of two events.
@@ -215,7 +227,13 @@ const FILLS_TWO: &[Act] = &[
 
 #[test]
 fn a_full_history_answers_nothing(rt: HostRuntime) {
-    tries_acts(&rt, Store::Small(2), FILLS_TWO, Wanted::Missing(1));
+    tries(
+        &rt,
+        rt.alloc(),
+        Store::Small(2),
+        Task::Plays(FILLS_TWO),
+        Wanted::Missing(1),
+    );
 }
 
 /// A history of two events is filled and written back, and goes on after a checkpoint.
@@ -241,10 +259,11 @@ const GOES_ON_AT_THE_LIMIT: &[Act] = &[
 
 #[test]
 fn a_node_goes_on_at_the_limit(rt: HostRuntime) {
-    tries_acts(
+    tries(
         &rt,
+        rt.alloc(),
         Store::Small(2),
-        GOES_ON_AT_THE_LIMIT,
+        Task::Plays(GOES_ON_AT_THE_LIMIT),
         Wanted::Counts(2, 1),
     );
 }
@@ -253,6 +272,7 @@ fn a_node_goes_on_at_the_limit(rt: HostRuntime) {
 fn a_hundred_puts_past_a_history_of_64_events(rt: HostRuntime) {
     tries(
         &rt,
+        rt.alloc(),
         Store::WideButShort,
         Task::Plays(&[Act::Hire(true), Act::Hundred]),
         Wanted::Emptied(100),
@@ -262,32 +282,42 @@ fn a_hundred_puts_past_a_history_of_64_events(rt: HostRuntime) {
 /// A sweep that is left marked keeps a checkpoint waiting until it is given up.
 const LEFT_MARKED: &[Act] = &[
     Act::Hire(true),
-    Act::PutKept(10, 1),
-    Act::PutKept(11, 2),
+    Act::Put(10, Ok(1)),
+    Act::KeepTicket,
+    Act::Put(11, Ok(2)),
+    Act::KeepTicket,
     Act::ReclaimOf(0),
-    Act::Sweep(&[BeginSweep]),
+    Act::Sweep(Ok(Step::BeginSweep)),
     Act::ReclaimOf(0),
     Act::Sync(Ok(2)),
     Act::Checkpoint(Err(Refusal::Unsettled)),
     Act::Abandon(0, Ok(())),
     Act::Abandon(0, Err(Refusal::NotSweepable)),
-    Act::Sweep(&[BeginSweep, MoveOne]),
+    Act::Sweep(Ok(Step::BeginSweep)),
+    Act::Sweep(Ok(Step::MoveOne)),
     Act::Abandon(0, Ok(())),
-    Act::SweepRefused(Refusal::NotSweepable),
-    Act::SweepRefused(Refusal::NotSweepable),
-    Act::Sweep(&[Idle]),
+    Act::Sweep(Err(Refusal::NotSweepable)),
+    Act::Sweep(Err(Refusal::NotSweepable)),
+    Act::Sweep(Ok(Step::Idle)),
 ];
 
 #[test]
 fn an_extent_that_is_left_marked_is_given_up(rt: HostRuntime) {
-    tries_acts(&rt, Store::Small(64), LEFT_MARKED, Wanted::Counts(2, 2));
+    tries(
+        &rt,
+        rt.alloc(),
+        Store::Small(64),
+        Task::Plays(LEFT_MARKED),
+        Wanted::Counts(2, 2),
+    );
 }
 
 /// Gets and deletes, before a put and after.
 const GETS_AND_DELETES: &[Act] = &[
     Act::Delete(10, None),
     Act::Get(10, None),
-    Act::PutKept(10, 1),
+    Act::Put(10, Ok(1)),
+    Act::KeepTicket,
     Act::Get(10, Some(10)),
     Act::Delete(10, Some(2)),
     Act::KeepTicket,
@@ -295,10 +325,11 @@ const GETS_AND_DELETES: &[Act] = &[
 
 #[test]
 fn gets_and_deletes_answer(rt: HostRuntime) {
-    tries_acts(
+    tries(
         &rt,
+        rt.alloc(),
         Store::Small(64),
-        GETS_AND_DELETES,
+        Task::Plays(GETS_AND_DELETES),
         Wanted::Counts(2, 0),
     );
 }

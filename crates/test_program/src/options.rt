@@ -7,15 +7,6 @@ use std::alloc::Global;
 use std::process::Abort;
 use std::test::{Fail, *};
 
-/// The words of a line, of which the first names the program.
-fn words_of(alloc: Global, line: &str) -> Result<Vec<&str>, Fail> {
-    let mut words = Vec::new(alloc);
-    for word in line.split(' ') {
-        words.push(word)?;
-    }
-    Ok(words)
-}
-
 /// What the words are read as.
 fn read<'a>(
     alloc: Global,
@@ -27,10 +18,12 @@ fn read<'a>(
     }
 }
 
-/// The pages of the device that the command of this line asks for, or why there is no such geometry.
-fn device_pages(rt: &(impl Abort + AllocGlobal), line: &str) -> Result<Result<u64, Refusal>, Fail> {
-    let words = words_of(rt.alloc(), line)?;
-    let matches = read(rt.alloc(), &words)?.expect(rt, "read");
+/// The pages of the device that the command of these words asks for, or why there is no such geometry.
+fn device_pages(
+    rt: &(impl Abort + AllocGlobal),
+    words: &[&str],
+) -> Result<Result<u64, Refusal>, Fail> {
+    let matches = read(rt.alloc(), words)?.expect(rt, "read");
     let (_, options) = matches.subcommand().expect(rt, "a command");
     match geometry_of(options) {
         Ok(geometry) => Ok(Ok(geometry.device_pages())),
@@ -38,53 +31,65 @@ fn device_pages(rt: &(impl Abort + AllocGlobal), line: &str) -> Result<Result<u6
     }
 }
 
-/// Lines that ask for a geometry, and the pages of its device.
-const GEOMETRIES: &[(&str, u64)] = &[
-    ("cs_cli run", 14),
-    ("cs_cli run --extents 64", 130),
-    ("cs_cli run --pages=8 --extents=64", 514),
-    ("cs_cli run --sections 3", 16),
-    ("cs_cli run --extents 512", 1026),
-    ("cs_cli run --extents 513", 1029),
+/// Words that ask for a geometry, and the pages of its device.
+const GEOMETRIES: &[(&[&str], u64)] = &[
+    (&["cs_cli", "run"], 14),
+    (&["cs_cli", "run", "--extents", "64"], 130),
+    (&["cs_cli", "run", "--pages=8", "--extents=64"], 514),
+    (&["cs_cli", "run", "--sections", "3"], 16),
+    (&["cs_cli", "run", "--extents", "512"], 1026),
+    (&["cs_cli", "run", "--extents", "513"], 1029),
     (
-        "cs_cli run --extents=2048 --pages=256 --sections=8",
+        &[
+            "cs_cli",
+            "run",
+            "--extents=2048",
+            "--pages=256",
+            "--sections=8",
+        ],
         524_297,
     ),
-    ("cs_cli run --format 2", 14),
-    ("cs_cli run --format=3", 16),
+    (&["cs_cli", "run", "--format", "2"], 14),
+    (&["cs_cli", "run", "--format=3"], 16),
     (
-        "cs_cli run --format=3 --extents=7680 --pages=65535",
+        &[
+            "cs_cli",
+            "run",
+            "--format=3",
+            "--extents=7680",
+            "--pages=65535",
+        ],
         503_308_832,
     ),
-    ("cs_cli bench --file=f", 16_388),
-    ("cs_cli bench --file=f --format=2", 16_386),
+    (&["cs_cli", "bench", "--file=f"], 16_388),
+    (&["cs_cli", "bench", "--file=f", "--format=2"], 16_386),
 ];
 
-/// Lines that ask for one that there isn't.
-const NO_GEOMETRIES: &[&str] = &[
-    "cs_cli run --extents 3",
-    "cs_cli run --extents 2049",
-    "cs_cli run --pages 1",
-    "cs_cli run --pages 257",
-    "cs_cli run --pages 18446744073709551615",
-    "cs_cli run --sections 0",
-    "cs_cli run --sections 4",
-    "cs_cli run --extents=64 --sections=9",
-    "cs_cli run --extents=64 --sections=259",
-    "cs_cli run --extents=513 --sections=1",
-    "cs_cli run --format=1",
-    "cs_cli run --format=4",
-    "cs_cli run --format=259",
-    "cs_cli run --format=3 --extents=4",
+/// Words that ask for one that there isn't.
+const NO_GEOMETRIES: &[&[&str]] = &[
+    &["cs_cli", "run", "--extents", "3"],
+    &["cs_cli", "run", "--extents", "2049"],
+    &["cs_cli", "run", "--pages", "1"],
+    &["cs_cli", "run", "--pages", "257"],
+    &["cs_cli", "run", "--pages", "18446744073709551615"],
+    &["cs_cli", "run", "--sections", "0"],
+    &["cs_cli", "run", "--sections", "4"],
+    &["cs_cli", "run", "--extents=64", "--sections=9"],
+    &["cs_cli", "run", "--extents=64", "--sections=259"],
+    &["cs_cli", "run", "--extents=513", "--sections=1"],
+    &["cs_cli", "run", "--format=1"],
+    &["cs_cli", "run", "--format=4"],
+    &["cs_cli", "run", "--format=259"],
+    &["cs_cli", "run", "--format=3", "--extents=4"],
 ];
 
 #[test]
 fn the_geometry_of_a_new_store(rt: HostRuntime) -> Result<(), Fail> {
-    for (line, pages) in GEOMETRIES {
-        assert_eq!(&rt; device_pages(&rt, line)?, Ok(*pages));
+    for (words, pages) in GEOMETRIES {
+        assert_eq!(&rt; device_pages(&rt, words)?, Ok(*pages));
     }
-    for line in NO_GEOMETRIES {
-        assert_eq!(&rt; device_pages(&rt, line)?, Err(Refusal::BadGeometry));
+    for words in NO_GEOMETRIES {
+        assert_eq!(&rt; device_pages(&rt, words)?, Err(Refusal::BadGeometry));
     }
     Ok(())
 }
@@ -101,13 +106,12 @@ fn the_file_of_a_run(rt: HostRuntime) -> Result<(), Fail> {
     Ok(())
 }
 
-/// The race that this line asks for: its threads, puts and drops, and whether it streams.
+/// The race that these words ask for: its threads, puts and drops, and whether it streams.
 fn race(
     rt: &(impl Abort + AllocGlobal),
-    line: &str,
+    words: &[&str],
 ) -> Result<Option<(u64, u64, u64, bool)>, Fail> {
-    let words = words_of(rt.alloc(), line)?;
-    let matches = read(rt.alloc(), &words)?.expect(rt, "read");
+    let matches = read(rt.alloc(), words)?.expect(rt, "read");
     let options = matches.subcommand_matches("race").expect(rt, "a race");
     match race_of(options) {
         Some(race) => Ok(Some((race.threads(), race.puts(), race.dropped(), race.streams()))),
@@ -115,20 +119,30 @@ fn race(
     }
 }
 
-/// Lines that ask for a race, and what they ask for.
-const RACES: &[(&str, Option<(u64, u64, u64, bool)>)] = &[
-    ("cs_cli race", Some((4, 10, 0, false))),
+/// Words that ask for a race, and what they ask for.
+const RACES: &[(&[&str], Option<(u64, u64, u64, bool)>)] = &[
+    (&["cs_cli", "race"], Some((4, 10, 0, false))),
     (
-        "cs_cli race --threads 3 --puts 5 --drop 2 --stream",
+        &[
+            "cs_cli",
+            "race",
+            "--threads",
+            "3",
+            "--puts",
+            "5",
+            "--drop",
+            "2",
+            "--stream",
+        ],
         Some((3, 5, 2, true)),
     ),
-    ("cs_cli race --threads 65", None),
+    (&["cs_cli", "race", "--threads", "65"], None),
 ];
 
 #[test]
 fn the_numbers_of_a_race(rt: HostRuntime) -> Result<(), Fail> {
-    for (line, wanted) in RACES {
-        assert_eq!(&rt; race(&rt, line)?, *wanted);
+    for (words, wanted) in RACES {
+        assert_eq!(&rt; race(&rt, words)?, *wanted);
     }
     Ok(())
 }
@@ -141,56 +155,78 @@ fn a_check_has_no_options(rt: HostRuntime) -> Result<(), Fail> {
     Ok(())
 }
 
-/// Lines that ask for what is left of a damaged store, or to mend it, and the flag that tells.
-const DAMAGES: &[(&str, &str)] = &[
-    ("cs_cli get an_id --file f --salvage", "salvage"),
-    ("cs_cli list --file f --salvage", "salvage"),
-    ("cs_cli export --salvage --file f", "salvage"),
-    ("cs_cli scrub --file f --repair", "repair"),
+/// Words that ask for what is left of a damaged store, or to mend it, and the flag that tells.
+const DAMAGES: &[(&[&str], &str)] = &[
+    (
+        &["cs_cli", "get", "an id", "--file", "f", "--salvage"],
+        "salvage",
+    ),
+    (&["cs_cli", "list", "--file", "f", "--salvage"], "salvage"),
+    (&["cs_cli", "export", "--salvage", "--file", "f"], "salvage"),
+    (&["cs_cli", "scrub", "--file", "f", "--repair"], "repair"),
 ];
 
 #[test]
 fn the_flags_of_damaged_stores(rt: HostRuntime) -> Result<(), Fail> {
-    for (line, flag) in DAMAGES {
-        let words = words_of(rt.alloc(), line)?;
-        let matches = read(rt.alloc(), &words)?.expect(&rt, "read");
+    for (words, flag) in DAMAGES {
+        let matches = read(rt.alloc(), words)?.expect(&rt, "read");
         let (_, options) = matches.subcommand().expect(&rt, "a command");
         assert!(&rt; options.get_flag(flag));
     }
     Ok(())
 }
 
-/// Lines that are at fault, and how.
-const FAULTS: &[(&str, ErrorKind)] = &[
-    ("cs_cli check --file f", ErrorKind::UnknownArgument),
-    ("cs_cli", ErrorKind::MissingSubcommand),
-    ("cs_cli runs", ErrorKind::InvalidSubcommand),
-    ("cs_cli run race", ErrorKind::UnknownArgument),
-    ("cs_cli run --step", ErrorKind::UnknownArgument),
-    ("cs_cli stat --file f --salvage", ErrorKind::UnknownArgument),
+/// Words that are at fault, and how.
+const FAULTS: &[(&[&str], ErrorKind)] = &[
     (
-        "cs_cli export --file f --repair",
+        &["cs_cli", "check", "--file", "f"],
         ErrorKind::UnknownArgument,
     ),
-    ("cs_cli run --extents x", ErrorKind::ValueValidation),
-    ("cs_cli run --extents 1.5", ErrorKind::ValueValidation),
+    (&["cs_cli"], ErrorKind::MissingSubcommand),
+    (&["cs_cli", "runs"], ErrorKind::InvalidSubcommand),
+    (&["cs_cli", "run", "race"], ErrorKind::UnknownArgument),
+    (&["cs_cli", "run", "--step"], ErrorKind::UnknownArgument),
     (
-        "cs_cli run --extents 18446744073709551616",
+        &["cs_cli", "stat", "--file", "f", "--salvage"],
+        ErrorKind::UnknownArgument,
+    ),
+    (
+        &["cs_cli", "export", "--file", "f", "--repair"],
+        ErrorKind::UnknownArgument,
+    ),
+    (
+        &["cs_cli", "run", "--extents", "x"],
         ErrorKind::ValueValidation,
     ),
-    ("cs_cli run --extents ", ErrorKind::ValueValidation),
-    ("cs_cli run --extents -1", ErrorKind::UnknownArgument),
-    ("cs_cli run --file", ErrorKind::InvalidValue),
-    ("cs_cli run --new --new", ErrorKind::ArgumentConflict),
-    ("cs_cli race --help", ErrorKind::DisplayHelp),
+    (
+        &["cs_cli", "run", "--extents", "1.5"],
+        ErrorKind::ValueValidation,
+    ),
+    (
+        &["cs_cli", "run", "--extents", "18446744073709551616"],
+        ErrorKind::ValueValidation,
+    ),
+    (
+        &["cs_cli", "run", "--extents", ""],
+        ErrorKind::ValueValidation,
+    ),
+    (
+        &["cs_cli", "run", "--extents", "-1"],
+        ErrorKind::UnknownArgument,
+    ),
+    (&["cs_cli", "run", "--file"], ErrorKind::InvalidValue),
+    (
+        &["cs_cli", "run", "--new", "--new"],
+        ErrorKind::ArgumentConflict,
+    ),
+    (&["cs_cli", "race", "--help"], ErrorKind::DisplayHelp),
 ];
 
 #[test]
 fn words_that_are_not_understood(rt: HostRuntime) -> Result<(), Fail> {
-    for (line, kind) in FAULTS {
-        let words = words_of(rt.alloc(), line)?;
+    for (words, kind) in FAULTS {
         let error = command(rt.alloc())?
-            .try_get_matches_from(&words)
+            .try_get_matches_from(words)
             .expect_err(&rt, "a fault");
         assert_eq!(&rt; error.kind(), *kind);
     }

@@ -1,12 +1,17 @@
-//! What tests do on a node, by scripts: a test says which calls come, and what each is to answer. `seats` makes them.
-use super::seats::Seat;
-use super::threads::Signals;
+//! What tests do on a node, by scripts: each call of a node stands in one function, and a test says which calls come, and what each is to
+//! answer. These functions have no end but the one at their foot, and so little has to be proved of what they hold.
+use super::checkpoints::is_settled;
+use super::threads::{Signals, is_raised};
+use cs_core::Bytes;
 use cs_disk::PageDisk;
+use cs_frame::ShardId;
 use cs_node::*;
 use cs_refusal::Refusal;
 use std::alloc::Global;
 use std::process::Abort;
 use std::sync::Wait;
+use std::sync::atomic::Ordering;
+use std::thread;
 
 /// What a hand does, and what has to be answered. Where it isn't, the hand does no more.
 #[derive(Clone, Copy)]
@@ -15,8 +20,6 @@ pub enum Act {
     Put(u8, Result<u64, Refusal>),
     /// The same where the ticket may have any number.
     PutAny(u8),
-    /// Puts as `Put` does, and keeps the ticket, which has this number.
-    PutKept(u8, u64),
     /// Puts so many times this byte. The gate is told of that.
     PutTold(u8, usize, Result<u64, Refusal>),
     /// The one byte under an identifier, or nothing.
@@ -40,14 +43,12 @@ pub enum Act {
     Hire(bool),
     /// How many commands are persistent after a sync.
     Sync(Result<u64, Refusal>),
-    /// Turns of the pilot, and what each of them does.
-    Fly(&'static [Step]),
-    /// Turns of streams, each of a new one.
-    Stream(&'static [Step]),
-    /// Turns of the reclaimer.
-    Sweep(&'static [Step]),
-    /// A turn of the reclaimer that is refused.
-    SweepRefused(Refusal),
+    /// A turn of the pilot.
+    Fly(Step),
+    /// A turn of a stream.
+    Stream(Step),
+    /// A turn of the reclaimer.
+    Sweep(Result<Step, Refusal>),
     /// From now on the reclaimer is one that makes so many sweeps.
     Reclaim(u32),
     /// A run of the pilot, and why it was refused.
@@ -108,64 +109,13 @@ pub struct Hand<K: Naming> {
     pub wrong: Option<u64>,
 }
 
-impl<K: Naming> Hand<K> {
-    /// Takes a ticket into the hand, and tells its number.
-    pub fn receive(&mut self, ticket: Ticket<K>) -> u64 {
-        let number = ticket.number();
-        self.ticket = Some(ticket);
-        number
-    }
-
-    /// Polls the ticket in the hand.
-    pub fn poll<D: PageDisk>(&mut self, node: &Node<D, K>) -> Result<Option<u64>, Refusal> {
-        let Some(ticket) = self.ticket.take() else {
-            return Err(Refusal::NotStaged);
-        };
-        match self.purse.poll(node, ticket) {
-            Polled::Done(ack) => {
-                self.ack = Some(ack);
-                Ok(None)
-            }
-            Polled::Back(ticket, known) => {
-                self.ticket = Some(ticket);
-                Ok(Some(known))
-            }
-        }
-    }
-
-    /// Puts the ticket in the hand into the purse.
-    pub fn keep_ticket(&mut self) -> bool {
-        let Some(ticket) = self.ticket.take() else {
-            return false;
-        };
-        let is_kept = self.purse.keep_ticket(ticket).is_ok();
-        if is_kept {
-            self.kept = self.kept.saturating_add(1);
-        }
-        is_kept
-    }
-
-    /// Puts the ack in the hand, which has this number, into the purse.
-    pub fn keep_ack(&mut self, number: u64) -> bool {
-        let Some(ack) = self.ack.take() else {
-            return false;
-        };
-        let found = ack.number();
-        self.purse.keep_ack(ack).is_ok() && found == number
-    }
-
-    /// Whether the purse's calls have these places.
-    pub fn are_places(&self, wanted: &[u64]) -> bool {
-        match self.purse.places(self.alloc) {
-            Ok(found) => found.as_slice() == wanted,
-            Err(_) => false,
-        }
-    }
-
-    /// Its purse. All else is let go.
-    pub fn into_purse(self) -> Purse<K> {
-        self.purse
-    }
+/// A hand with a new purse and nothing else.
+pub fn new_hand<D: PageDisk, K: Naming, R: Wait + Abort>(
+    rt: &R,
+    alloc: Global,
+    node: &Node<D, K>,
+) -> Hand<K> {
+    hand_of(alloc, node.purse(rt, alloc).expect(rt, "a purse"))
 }
 
 /// A hand with this purse and nothing else.
@@ -186,70 +136,453 @@ pub fn hand_of<K: Naming>(alloc: Global, purse: Purse<K>) -> Hand<K> {
     }
 }
 
-/// Does acts up to the first one that is answered otherwise, and gives the hand back.
-pub fn play<'x, D: PageDisk, K: Naming, R: Wait, G: Gate>(
-    rt: &'x R,
-    node: &'x Node<D, K>,
-    hand: Hand<K>,
-    gate: &'x G,
+/// Asserts that all acts of a hand were answered as they had to be.
+pub fn is_right<K: Naming>(rt: &impl Abort, hand: &Hand<K>) {
+    assert!(rt; hand.wrong == None);
+}
+
+/// Does acts up to the first one that is answered otherwise.
+pub fn play<D: PageDisk, K: Naming, R: Wait, G: Gate>(
+    rt: &R,
+    node: &Node<D, K>,
+    hand: &mut Hand<K>,
+    gate: &G,
     acts: &[Act],
-) -> Hand<K> {
-    let mut seat = Seat {
-        rt,
-        node,
-        gate,
-        hand,
-    };
+) {
     for act in acts {
-        if !seat.is_answered(*act) {
-            seat.hand.wrong = Some(seat.hand.acts);
+        if !is_answered(rt, node, hand, gate, *act) {
+            hand.wrong = Some(hand.acts);
+            return;
+        }
+        hand.acts = hand.acts.saturating_add(1);
+    }
+}
+
+/// Does acts, each of which has to be answered as it says.
+pub fn plays<D: PageDisk, K: Naming, R: Wait + Abort, G: Gate>(
+    rt: &R,
+    node: &Node<D, K>,
+    hand: &mut Hand<K>,
+    gate: &G,
+    acts: &[Act],
+) {
+    play(rt, node, hand, gate, acts);
+    is_right(rt, hand);
+}
+
+/// Does an act, and tells whether it was answered as it says.
+fn is_answered<D: PageDisk, K: Naming, R: Wait, G: Gate>(
+    rt: &R,
+    node: &Node<D, K>,
+    hand: &mut Hand<K>,
+    gate: &G,
+    act: Act,
+) -> bool {
+    match act {
+        Act::Put(last, wanted) => put(rt, node, hand, last, last) == wanted,
+        Act::PutAny(last) => put(rt, node, hand, last, last).is_ok(),
+        Act::PutTold(last, count, wanted) => put_told(rt, node, hand, gate, last, count) == wanted,
+        Act::Get(last, wanted) => is_content(&get(rt, node, hand, last), wanted),
+        Act::GetAny(last) => get(rt, node, hand, last).is_ok(),
+        Act::Delete(last, wanted) => delete(rt, node, hand, last) == Ok(wanted),
+        Act::Poll(wanted) => poll(node, hand) == Ok(wanted),
+        Act::Settle(wanted) => settle(rt, node, hand) == wanted,
+        Act::KeepTicket => keep_ticket(hand),
+        Act::KeepAck(number) => keep_ack(hand, number),
+        Act::Places(wanted) => are_places(hand, wanted),
+        Act::Hire(given) => hire(rt, node, hand) == given,
+        Act::Sync(wanted) => sync(rt, node, hand) == wanted,
+        _ => is_worked(rt, node, hand, gate, act),
+    }
+}
+
+/// The same for the acts of workers.
+fn is_worked<D: PageDisk, K: Naming, R: Wait, G: Gate>(
+    rt: &R,
+    node: &Node<D, K>,
+    hand: &mut Hand<K>,
+    gate: &G,
+    act: Act,
+) -> bool {
+    match act {
+        Act::Fly(_) | Act::RunPilot(_) | Act::FlyOften => is_flown(rt, node, hand, gate, act),
+        Act::Stream(_) | Act::RunStream(_) => is_streamed(rt, node, hand, gate, act),
+        Act::Sweep(wanted) => hand.reclaimer.turn(rt, node, gate) == wanted,
+        Act::Reclaim(sweeps) => {
+            hand.reclaimer = Reclaimer::new(sweeps);
+            true
+        }
+        Act::RunReclaimer(wanted) => hand.reclaimer.run(rt, node, gate).err() == wanted,
+        _ => is_shared(rt, node, hand, gate, act),
+    }
+}
+
+/// The same for the acts of threads beside one another.
+fn is_shared<D: PageDisk, K: Naming, R: Wait, G: Gate>(
+    rt: &R,
+    node: &Node<D, K>,
+    hand: &mut Hand<K>,
+    gate: &G,
+    act: Act,
+) -> bool {
+    match act {
+        Act::Await => is_reached(hand),
+        Act::Tell => tell(hand),
+        Act::Carry => carry(rt, hand),
+        Act::EndRamp => {
+            hand.ramp = None;
+            true
+        }
+        Act::TakeAll => take_all(rt, hand),
+        Act::Rival(mark) => rival(rt, node, hand, mark),
+        Act::PutHundred => put_hundred(rt, node, hand, gate),
+        _ => is_settled(rt, node, hand, act),
+    }
+}
+
+/// The identifier that ends with this byte.
+pub fn id(last: u8) -> ShardId {
+    let mut bytes = [0; 16];
+    bytes[15] = last;
+    ShardId(bytes)
+}
+
+/// So many times this byte, None where there is no memory.
+pub fn bytes_of(alloc: Global, byte: u8, count: usize) -> Option<Bytes> {
+    let bytes = vec![in alloc; byte; count].ok()?;
+    Bytes::new(alloc, bytes).ok()
+}
+
+impl<K: Naming> Hand<K> {
+    /// Takes a ticket into the hand, and tells its number.
+    pub fn receive(&mut self, ticket: Ticket<K>) -> u64 {
+        let number = ticket.number();
+        self.ticket = Some(ticket);
+        number
+    }
+}
+
+/// Puts this byte under the identifier that ends with the other one.
+pub fn put<D: PageDisk, K: Naming, R: Wait>(
+    rt: &R,
+    node: &Node<D, K>,
+    hand: &mut Hand<K>,
+    last: u8,
+    byte: u8,
+) -> Result<u64, Refusal> {
+    let Some(bytes) = bytes_of(hand.alloc, byte, 1) else {
+        return Err(Refusal::OutOfMemory);
+    };
+    match node.put(rt, &mut hand.purse, id(last), bytes) {
+        Ok(ticket) => Ok(hand.receive(ticket)),
+        Err(refusal) => Err(refusal),
+    }
+}
+
+/// Puts so many times a byte under the identifier that ends with it, with a gate.
+fn put_told<D: PageDisk, K: Naming, R: Wait, G: Gate>(
+    rt: &R,
+    node: &Node<D, K>,
+    hand: &mut Hand<K>,
+    gate: &G,
+    last: u8,
+    count: usize,
+) -> Result<u64, Refusal> {
+    let Some(bytes) = bytes_of(hand.alloc, last, count) else {
+        return Err(Refusal::OutOfMemory);
+    };
+    match node.put_with(rt, &mut hand.purse, id(last), bytes, gate) {
+        Ok(ticket) => Ok(hand.receive(ticket)),
+        Err(refusal) => Err(refusal),
+    }
+}
+
+/// What is under the identifier that ends with this byte.
+pub fn get<D: PageDisk, K: Naming, R: Wait>(
+    rt: &R,
+    node: &Node<D, K>,
+    hand: &mut Hand<K>,
+    last: u8,
+) -> Result<Option<Bytes>, Refusal> {
+    node.get(rt, &mut hand.purse, id(last))
+}
+
+/// Whether this one byte was found, or nothing.
+pub fn is_content(found: &Result<Option<Bytes>, Refusal>, wanted: Option<u8>) -> bool {
+    match (found, wanted) {
+        (Ok(Some(bytes)), Some(byte)) => bytes.as_slice() == [byte].as_slice(),
+        (Ok(None), None) => true,
+        _ => false,
+    }
+}
+
+/// Deletes what is under the identifier that ends with this byte.
+fn delete<D: PageDisk, K: Naming, R: Wait>(
+    rt: &R,
+    node: &Node<D, K>,
+    hand: &mut Hand<K>,
+    last: u8,
+) -> Result<Option<u64>, Refusal> {
+    match node.delete(rt, &mut hand.purse, id(last)) {
+        Ok(Some(ticket)) => Ok(Some(hand.receive(ticket))),
+        Ok(None) => Ok(None),
+        Err(refusal) => Err(refusal),
+    }
+}
+
+/// Polls the ticket in the hand.
+pub fn poll<D: PageDisk, K: Naming>(
+    node: &Node<D, K>,
+    hand: &mut Hand<K>,
+) -> Result<Option<u64>, Refusal> {
+    let Some(ticket) = hand.ticket.take() else {
+        return Err(Refusal::NotStaged);
+    };
+    match hand.purse.poll(node, ticket) {
+        Polled::Done(ack) => {
+            hand.ack = Some(ack);
+            Ok(None)
+        }
+        Polled::Back(ticket, known) => {
+            hand.ticket = Some(ticket);
+            Ok(Some(known))
+        }
+    }
+}
+
+/// Settles the ticket in the hand.
+pub fn settle<D: PageDisk, K: Naming, R: Wait>(
+    rt: &R,
+    node: &Node<D, K>,
+    hand: &mut Hand<K>,
+) -> Result<Option<u64>, Refusal> {
+    let Some(ticket) = hand.ticket.take() else {
+        return Err(Refusal::NotStaged);
+    };
+    match node.settle(rt, &mut hand.purse, ticket) {
+        Settled::Done(ack) => {
+            hand.ack = Some(ack);
+            Ok(None)
+        }
+        Settled::Back(ticket, why) => {
+            hand.ticket = Some(ticket);
+            answer_of(why)
+        }
+    }
+}
+
+/// Why a ticket came back.
+fn answer_of(why: Why) -> Result<Option<u64>, Refusal> {
+    match why {
+        Why::NotYet(known) => Ok(Some(known)),
+        Why::HistoryFull => Err(Refusal::HistoryFull),
+        Why::OutOfMemory => Err(Refusal::OutOfMemory),
+    }
+}
+
+/// Puts the ticket in the hand into the purse.
+fn keep_ticket<K: Naming>(hand: &mut Hand<K>) -> bool {
+    let Some(ticket) = hand.ticket.take() else {
+        return false;
+    };
+    let is_kept = hand.purse.keep_ticket(ticket).is_ok();
+    if is_kept {
+        hand.kept = hand.kept.saturating_add(1);
+    }
+    is_kept
+}
+
+/// Puts the ack in the hand, which has this number, into the purse.
+pub fn keep_ack<K: Naming>(hand: &mut Hand<K>, number: u64) -> bool {
+    let Some(ack) = hand.ack.take() else {
+        return false;
+    };
+    let found = ack.number();
+    hand.purse.keep_ack(ack).is_ok() && found == number
+}
+
+/// Whether the purse's calls have these places.
+fn are_places<K: Naming>(hand: &Hand<K>, wanted: &[u64]) -> bool {
+    match hand.purse.places(hand.alloc) {
+        Ok(found) => found.as_slice() == wanted,
+        Err(_) => false,
+    }
+}
+
+/// Takes the pilot into the hand, if it is given.
+fn hire<D: PageDisk, K: Naming, R: Wait>(rt: &R, node: &Node<D, K>, hand: &mut Hand<K>) -> bool {
+    match node.pilot(rt) {
+        Some(pilot) => {
+            hand.pilot = Some(pilot);
+            true
+        }
+        None => false,
+    }
+}
+
+/// Syncs by the pilot in the hand.
+pub fn sync<D: PageDisk, K: Naming, R: Wait>(
+    rt: &R,
+    node: &Node<D, K>,
+    hand: &mut Hand<K>,
+) -> Result<u64, Refusal> {
+    match &mut hand.pilot {
+        Some(pilot) => node.sync(rt, pilot),
+        None => Err(Refusal::NotStaged),
+    }
+}
+
+/// The same for the acts of the pilot in the hand.
+fn is_flown<D: PageDisk, K: Naming, R: Wait, G: Gate>(
+    rt: &R,
+    node: &Node<D, K>,
+    hand: &mut Hand<K>,
+    gate: &G,
+    act: Act,
+) -> bool {
+    let Some(mut pilot) = hand.pilot.take() else {
+        return false;
+    };
+    let answered = match act {
+        Act::Fly(wanted) => pilot.turn(rt, node, gate) == Ok(wanted),
+        Act::RunPilot(wanted) => pilot.run(rt, node, gate).err() == wanted,
+        _ => fly_often(rt, node, &mut pilot, gate),
+    };
+    hand.pilot = Some(pilot);
+    answered
+}
+
+/// The same for the acts of a stream with the pilot in the hand.
+fn is_streamed<D: PageDisk, K: Naming, R: Wait, G: Gate>(
+    rt: &R,
+    node: &Node<D, K>,
+    hand: &mut Hand<K>,
+    gate: &G,
+    act: Act,
+) -> bool {
+    let Some(pilot) = hand.pilot.take() else {
+        return false;
+    };
+    let mut stream = Stream::new(pilot);
+    let answered = match act {
+        Act::Stream(wanted) => stream.turn(rt, node, gate) == Ok(wanted),
+        Act::RunStream(wanted) => stream.run(rt, node, gate).err() == wanted,
+        _ => false,
+    };
+    hand.pilot = Some(stream.into_pilot());
+    answered
+}
+
+/// Waits until the gate was reached.
+fn is_reached<K: Naming>(hand: &Hand<K>) -> bool {
+    match &hand.signals {
+        Some(signals) => is_raised(&signals.reached),
+        None => false,
+    }
+}
+
+/// Tells the gate that this hand was answered.
+fn tell<K: Naming>(hand: &Hand<K>) -> bool {
+    match &hand.signals {
+        Some(signals) => {
+            signals.answered.store(1, Ordering::SeqCst);
+            true
+        }
+        None => false,
+    }
+}
+
+/// Sends the ticket off.
+fn carry<K: Naming, R: Wait>(rt: &R, hand: &mut Hand<K>) -> bool {
+    let Some(ticket) = hand.ticket.take() else {
+        return false;
+    };
+    match &hand.ramp {
+        Some(ramp) => ramp.carry(rt, ticket).is_ok(),
+        None => false,
+    }
+}
+
+/// Keeps all tickets that come.
+fn take_all<K: Naming, R: Wait>(rt: &R, hand: &mut Hand<K>) -> bool {
+    for _ in rt.forever() {
+        hand.ticket = next_of(rt, hand);
+        if !keep_ticket(hand) {
             break;
         }
-        seat.hand.acts = seat.hand.acts.saturating_add(1);
     }
-    seat.hand
+    true
 }
 
-/// A node that is lent to a test.
-#[derive_where(Clone, Copy)]
-pub struct Lent<'a, D: PageDisk, K: Naming, R> {
-    pub rt: &'a R,
-    pub alloc: Global,
-    pub node: &'a Node<D, K>,
+/// The next ticket that comes.
+fn next_of<K: Naming, R: Wait>(rt: &R, hand: &Hand<K>) -> Option<Ticket<K>> {
+    match &hand.dock {
+        Some(dock) => dock.next(rt),
+        None => None,
+    }
 }
 
-impl<D: PageDisk, K: Naming, R: Wait + Abort> Lent<'_, D, K, R> {
-    /// A hand with a new purse and nothing else.
-    pub fn new_hand(&self) -> Hand<K> {
-        hand_of(
-            self.alloc,
-            self.node
-                .purse(self.rt, self.alloc)
-                .expect(self.rt, "a purse"),
-        )
+/// Puts, gets and deletes three shards over and over, and keeps the tickets.
+fn rival<D: PageDisk, K: Naming, R: Wait>(
+    rt: &R,
+    node: &Node<D, K>,
+    hand: &mut Hand<K>,
+    mark: u8,
+) -> bool {
+    for turn in 0..12u8 {
+        let content = mark | turn;
+        let _number = put(rt, node, hand, content % 3, content);
+        keep_ticket(hand);
+        let _found = get(rt, node, hand, content % 2);
+        let _deleted = delete(rt, node, hand, content % 2);
+        keep_ticket(hand);
     }
+    true
+}
 
-    /// Does acts, each of which has to be answered as it says, and gives the hand back.
-    pub fn plays<G: Gate>(&self, hand: Hand<K>, gate: &G, acts: &[Act]) -> Hand<K> {
-        let hand = play(self.rt, self.node, hand, gate, acts);
-        assert!(self.rt; hand.wrong == None);
-        hand
+/// Puts a hundred shards with a gate, and keeps their tickets.
+fn put_hundred<D: PageDisk, K: Naming, R: Wait, G: Gate>(
+    rt: &R,
+    node: &Node<D, K>,
+    hand: &mut Hand<K>,
+    gate: &G,
+) -> bool {
+    for last in 0..100u8 {
+        let _number = put_told(rt, node, hand, gate, last, 1);
+        keep_ticket(hand);
+    }
+    true
+}
+
+/// Takes so many turns of the pilot that most have nothing to do.
+fn fly_often<D: PageDisk, K: Naming, R: Wait, G: Gate>(
+    rt: &R,
+    node: &Node<D, K>,
+    pilot: &mut Pilot<K>,
+    gate: &G,
+) -> bool {
+    for _ in 0..20_000 {
+        if pilot.turn(rt, node, gate).is_err() {
+            return false;
+        }
+        thread::yield_now();
+    }
+    true
+}
+
+impl<K: Naming> Hand<K> {
+    /// Its purse. All else is let go.
+    pub fn into_purse(self) -> Purse<K> {
+        self.purse
     }
 }
 
 /// A hand that does these acts in a thread.
 #[derive(Drop)]
 pub struct Player<K: Naming, G> {
-    hand: Hand<K>,
-    gate: G,
-    acts: &'static [Act],
-}
-
-impl<K: Naming, G> Player<K, G> {
-    /// Passes this gate.
-    pub fn new(hand: Hand<K>, gate: G, acts: &'static [Act]) -> Self {
-        Player { hand, gate, acts }
-    }
+    pub hand: Hand<K>,
+    pub gate: G,
+    pub acts: &'static [Act],
 }
 
 impl<D: PageDisk + Send, K: Naming + Send + Sync, G: Gate + Send + Drop> Job<Node<D, K>>
@@ -257,7 +590,12 @@ impl<D: PageDisk + Send, K: Naming + Send + Sync, G: Gate + Send + Drop> Job<Nod
     type Out = Hand<K>;
 
     fn run<R: Wait>(self, rt: &R, node: &Node<D, K>) -> Hand<K> {
-        let Player { hand, gate, acts } = self;
-        play(rt, node, hand, &gate, acts)
+        let Player {
+            mut hand,
+            gate,
+            acts,
+        } = self;
+        play(rt, node, &mut hand, &gate, acts);
+        hand
     }
 }

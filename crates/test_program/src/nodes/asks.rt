@@ -1,10 +1,9 @@
 //! Polls from within a gate, while the lock is held.
-use super::acts::{Act, Hand, Lent};
+use super::acts::{Act, Hand, new_hand, plays, poll};
 use super::histories::are_steps;
-use super::tasks::{Gave, Task};
+use super::tasks::{Gave, Task, given};
 use super::{Store, Wanted, tries};
 use cs_disk::PageDisk;
-use cs_node::Step::{Begin, End, Idle, Issue, Stage};
 use cs_node::*;
 use std::alloc::Global;
 use std::cell::RefCell;
@@ -24,7 +23,7 @@ struct Asked<K: Naming> {
 impl<K: Naming> Asked<K> {
     /// Polls the ticket after this step, while there is one.
     fn ask<D: PageDisk>(&mut self, node: &Node<D, K>, step: Step) {
-        match self.hand.poll(node) {
+        match poll(node, &mut self.hand) {
             Ok(None) => self.after = Some(step),
             Ok(Some(_)) => {
                 let _ = self.before.push(step);
@@ -57,33 +56,52 @@ impl<'a, D: PageDisk, K: Naming> Gate for Asking<'a, D, K> {
 const PUTS: &[Act] = &[Act::Put(10, Ok(1)), Act::Hire(true)];
 
 /// Takes eleven turns of a stream, which make a put persistent, and one that has nothing to do.
-const STREAMS_ELEVEN: &[Act] = &[Act::Stream(&[
-    Stage, Begin, Issue, Issue, End, Begin, Issue, End, Begin, Issue, End, Idle,
-])];
+const STREAMS_ELEVEN: &[Act] = &[
+    Act::Stream(Step::Stage),
+    Act::Stream(Step::Begin),
+    Act::Stream(Step::Issue),
+    Act::Stream(Step::Issue),
+    Act::Stream(Step::End),
+    Act::Stream(Step::Begin),
+    Act::Stream(Step::Issue),
+    Act::Stream(Step::End),
+    Act::Stream(Step::Begin),
+    Act::Stream(Step::Issue),
+    Act::Stream(Step::End),
+    Act::Stream(Step::Idle),
+];
 
-impl<D: PageDisk, K: Naming, R: Wait + Abort> Lent<'_, D, K, R> {
-    /// Polls within each event of a stream.
-    pub fn asks(&self) -> Gave<K> {
-        let hand = self.plays(self.new_hand(), &Open, PUTS);
-        self.given(self.ask_all(hand))
-    }
+/// Polls within each event of a stream.
+pub fn asks<D: PageDisk, K: Naming, R: Wait + Abort>(
+    rt: &R,
+    alloc: Global,
+    node: &Node<D, K>,
+) -> Gave<K> {
+    let mut hand = new_hand(rt, alloc, node);
+    plays(rt, node, &mut hand, &Open, PUTS);
+    ask_all(rt, alloc, node, &mut hand);
+    given(rt, alloc, hand)
+}
 
-    /// Polls the hand's ticket within each event of a stream, and gives the hand back.
-    fn ask_all(&self, mut hand: Hand<K>) -> Hand<K> {
-        let mut asking = self.new_hand();
-        asking.ticket = hand.ticket.take();
-        let gate = Asking {
-            node: self.node,
-            asked: RefCell::new(Asked {
-                hand: asking,
-                before: Vec::new(self.alloc),
-                after: None,
-            }),
-        };
-        let hand = self.plays(hand, &gate, STREAMS_ELEVEN);
-        are_asked(self.rt, self.alloc, &gate.asked);
-        hand
-    }
+/// Polls the hand's ticket within each event of a stream.
+fn ask_all<D: PageDisk, K: Naming, R: Wait + Abort>(
+    rt: &R,
+    alloc: Global,
+    node: &Node<D, K>,
+    hand: &mut Hand<K>,
+) {
+    let mut asking = new_hand(rt, alloc, node);
+    asking.ticket = hand.ticket.take();
+    let gate = Asking {
+        node,
+        asked: RefCell::new(Asked {
+            hand: asking,
+            before: Vec::new(alloc),
+            after: None,
+        }),
+    };
+    plays(rt, node, hand, &gate, STREAMS_ELEVEN);
+    are_asked(rt, alloc, &gate.asked);
 }
 
 /// Asserts that a put became persistent by the End of the third round, which the gate knew as it was told of that.
@@ -98,5 +116,11 @@ fn are_asked<K: Naming, R: Abort>(rt: &R, alloc: Global, asked: &RefCell<Asked<K
 
 #[test]
 fn a_gate_that_polls_sees_the_end_that_it_is_told_of(rt: HostRuntime) {
-    tries(&rt, Store::Small(64), Task::Asks, Wanted::Unclosed);
+    tries(
+        &rt,
+        rt.alloc(),
+        Store::Small(64),
+        Task::Asks,
+        Wanted::Unclosed,
+    );
 }

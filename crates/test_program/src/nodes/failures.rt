@@ -2,10 +2,11 @@
 ghost use Rattle.std.specs.Prelude.{◌≡◌, []};
 
 use super::acts::Act;
-use super::{Store, Wanted, tries_acts};
+use super::tasks::Task;
+use super::{Store, Wanted, tries};
 use cs_core::{Core, Limits};
 use cs_disk::{FailAt, MemoryDisk};
-use cs_node::Step::{Abandon, BeginSweep, Idle};
+use cs_node::Step;
 use cs_refusal::Refusal;
 use std::alloc::Global;
 use std::process::Abort;
@@ -45,23 +46,38 @@ const HALTS: &[Act] = &[
 /// flush and the root's write: the thirteenth call is the flush of the root.
 #[test]
 fn the_flush_of_the_root_fails(rt: HostRuntime) {
-    tries_acts(&rt, Store::Again(13), HALTS, Wanted::Counts(1, 0));
+    tries(
+        &rt,
+        rt.alloc(),
+        Store::Again(13),
+        Task::Plays(HALTS),
+        Wanted::Counts(1, 0),
+    );
 }
 
 /// Syncs two shards, and abandons their sweep.
 const ABANDONS: &[Act] = &[
-    Act::PutKept(10, 1),
-    Act::PutKept(11, 2),
+    Act::Put(10, Ok(1)),
+    Act::KeepTicket,
+    Act::Put(11, Ok(2)),
+    Act::KeepTicket,
     Act::Hire(true),
     Act::Hire(false),
     Act::Sync(Ok(2)),
     Act::Reclaim(1),
-    Act::Sweep(&[BeginSweep]),
-    Act::SweepRefused(Refusal::DeviceFault),
-    Act::Sweep(&[Abandon, Idle]),
+    Act::Sweep(Ok(Step::BeginSweep)),
+    Act::Sweep(Err(Refusal::DeviceFault)),
+    Act::Sweep(Ok(Step::Abandon)),
+    Act::Sweep(Ok(Step::Idle)),
 ];
 
 #[test]
 fn a_refused_move_is_abandoned(rt: HostRuntime) {
-    tries_acts(&rt, Store::Failing(12), ABANDONS, Wanted::Counts(2, 2));
+    tries(
+        &rt,
+        rt.alloc(),
+        Store::Failing(12),
+        Task::Plays(ABANDONS),
+        Wanted::Counts(2, 2),
+    );
 }

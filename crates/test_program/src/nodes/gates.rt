@@ -1,10 +1,9 @@
 //! What gates are told, and when.
-use super::acts::{Act, Lent};
+use super::acts::{Act, new_hand, plays};
 use super::histories::are_steps;
-use super::tasks::{Gave, Task};
+use super::tasks::{Gave, Task, given};
 use super::{Store, Wanted, tries};
 use cs_disk::PageDisk;
-use cs_node::Step::{Begin, BeginSweep, End, Idle, Issue, MoveOne};
 use cs_node::*;
 use cs_refusal::Refusal;
 use std::alloc::Global;
@@ -42,28 +41,35 @@ const FILLS_TEN: &[Act] = &[
     Act::KeepTicket,
     Act::PutTold(12, TOO_MANY, Err(Refusal::TooLarge)),
     Act::Reclaim(1),
-    Act::Sweep(&[BeginSweep, MoveOne]),
+    Act::Sweep(Ok(Step::BeginSweep)),
+    Act::Sweep(Ok(Step::MoveOne)),
     Act::Reclaim(0),
-    Act::Sweep(&[Idle]),
+    Act::Sweep(Ok(Step::Idle)),
     Act::Hire(true),
-    Act::Fly(&[Begin, Issue]),
-    Act::Stream(&[Issue, Issue, End]),
+    Act::Fly(Step::Begin),
+    Act::Fly(Step::Issue),
+    Act::Stream(Step::Issue),
+    Act::Stream(Step::Issue),
+    Act::Stream(Step::End),
     Act::PutTold(12, TOO_MANY, Err(Refusal::HistoryFull)),
 ];
 
 /// All that the gate is told of, which is the whole history: a refused put is recorded, and a turn with nothing to do isn't.
 const TOLD: &str = "[Put, Put, Put, BeginSweep, MoveOne, Begin, Issue, Issue, Issue, End]";
 
-impl<D: PageDisk, K: Naming, R: Wait + Abort> Lent<'_, D, K, R> {
-    /// Fills a history with a gate that keeps what it is told.
-    pub fn tells_all(&self) -> Gave<K> {
-        let gate = Keeps {
-            told: RefCell::new(Vec::new(self.alloc)),
-        };
-        let hand = self.plays(self.new_hand(), &gate, FILLS_TEN);
-        are_told(self.rt, self.alloc, &gate);
-        self.given(hand)
-    }
+/// Fills a history with a gate that keeps what it is told.
+pub fn tells_all<D: PageDisk, K: Naming, R: Wait + Abort>(
+    rt: &R,
+    alloc: Global,
+    node: &Node<D, K>,
+) -> Gave<K> {
+    let gate = Keeps {
+        told: RefCell::new(Vec::new(alloc)),
+    };
+    let mut hand = new_hand(rt, alloc, node);
+    plays(rt, node, &mut hand, &gate, FILLS_TEN);
+    are_told(rt, alloc, &gate);
+    given(rt, alloc, hand)
 }
 
 /// Asserts what the gate was told.
@@ -76,5 +82,11 @@ fn are_told<R: Abort>(rt: &R, alloc: Global, gate: &Keeps) {
 
 #[test]
 fn a_gate_is_told_of_all_that_is_recorded(rt: HostRuntime) {
-    tries(&rt, Store::Small(10), Task::TellsAll, Wanted::Prints(TOLD));
+    tries(
+        &rt,
+        rt.alloc(),
+        Store::Small(10),
+        Task::TellsAll,
+        Wanted::Prints(TOLD),
+    );
 }

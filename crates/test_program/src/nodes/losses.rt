@@ -20,6 +20,7 @@ const DROPS: &[Act] = &[Act::PutAny(32), Act::PutAny(33), Act::PutAny(34)];
 fn all_tickets_of_a_thread_are_missing(rt: HostRuntime) {
     tries(
         &rt,
+        rt.alloc(),
         Store::Small(64),
         Task::Beside(KEEPS, DROPS),
         Wanted::Missing(3),

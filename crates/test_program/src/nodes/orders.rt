@@ -1,7 +1,7 @@
 //! A gate that two threads share: it is told under the lock, in the order of the history.
-use super::acts::{Act, Lent, Player};
+use super::acts::{Act, Player, new_hand, plays};
 use super::histories::steps_of;
-use super::tasks::{Ended, Gave, Task};
+use super::tasks::{Ended, Gave, Task, beside};
 use super::{Store, Wanted, tries};
 use cs_disk::PageDisk;
 use cs_node::*;
@@ -60,24 +60,30 @@ fn mixing<R: Abort>(rt: &R, told: &Arc<AtomicU64, Global>) -> Mixes {
     }
 }
 
-impl<D: PageDisk + Send, K: Naming + Send + Sync, R: Threads + Wait + Abort + Sync> Lent<
-    '_,
-    D,
-    K,
-    R,
-> {
-    /// What a gate is told by a thread that puts beside one that writes back.
-    pub fn tells_beside(&self) -> Gave<K> {
-        let Ok(told) = Arc::new(self.alloc, AtomicU64::new(0)) else {
-            panic!(self.rt; "a number")
-        };
-        let hand = self.plays(self.new_hand(), &Open, HIRES);
-        let writes = Player::new(hand, mixing(self.rt, &told), WRITES);
-        let puts = Player::new(self.new_hand(), mixing(self.rt, &told), PUTS);
-        let mut gave = self.beside(puts, writes);
-        gave.number = told.load(Ordering::SeqCst);
-        gave
-    }
+/// What a gate is told by a thread that puts beside one that writes back.
+pub fn tell_beside<D: PageDisk + Send, K: Naming + Send + Sync, R: Threads + Wait + Abort + Sync>(
+    rt: &R,
+    alloc: Global,
+    node: &Node<D, K>,
+) -> Gave<K> {
+    let Ok(told) = Arc::new(alloc, AtomicU64::new(0)) else {
+        panic!(rt; "a number")
+    };
+    let mut hand = new_hand(rt, alloc, node);
+    plays(rt, node, &mut hand, &Open, HIRES);
+    let writes = Player {
+        hand,
+        gate: mixing(rt, &told),
+        acts: WRITES,
+    };
+    let puts = Player {
+        hand: new_hand(rt, alloc, node),
+        gate: mixing(rt, &told),
+        acts: PUTS,
+    };
+    let mut gave = beside(rt, alloc, node, puts, writes);
+    gave.number = told.load(Ordering::SeqCst);
+    gave
 }
 
 /// Asserts that what the gate was told is the history.
@@ -91,5 +97,5 @@ pub fn are_told_in_order<R: Abort>(rt: &R, alloc: Global, ended: &Ended) {
 
 #[test]
 fn a_gate_is_told_by_two_threads_in_the_order_of_the_history(rt: HostRuntime) {
-    tries(&rt, Store::Wide, Task::Orders, Wanted::InOrder);
+    tries(&rt, rt.alloc(), Store::Wide, Task::Orders, Wanted::InOrder);
 }

@@ -1,13 +1,13 @@
 //! Threads that put, get and delete the same shards.
-use super::acts::{Act, Lent};
-use super::seats::Seat;
-use super::tasks::{Ended, Gave, Task, give};
+use super::acts::{Act, new_hand, plays, sync};
+use super::tasks::{Ended, Gave, Task, abreast, give};
 use super::threads::add;
 use super::{Store, Wanted, tries};
 use cs_core::{Bytes, Event, Reply};
 use cs_disk::PageDisk;
 use cs_frame::ShardId;
 use cs_node::*;
+use std::alloc::Global;
 use std::process::Abort;
 use std::sync::Wait;
 use std::thread::Threads;
@@ -25,36 +25,33 @@ const HIRES: &[Act] = &[Act::Hire(true), Act::Hire(false)];
 /// Gets all three shards.
 const GETS: &[Act] = &[Act::GetAny(0), Act::GetAny(1), Act::GetAny(2)];
 
-impl<D: PageDisk + Send, K: Naming + Send + Sync, R: Threads + Wait + Abort + Sync> Lent<
-    '_,
-    D,
-    K,
-    R,
-> {
-    /// What three such threads did beside one another, after which all of it is synced and got once more.
-    pub fn contends(&self) -> Gave<K> {
-        let mut rivals = Vec::new(self.alloc);
-        for acts in [FIRST, SECOND, THIRD] {
-            add(self.rt, &mut rivals, self.new_hand(), acts);
-        }
-        let mut gave = self.abreast(rivals);
-        self.sync_and_get(&mut gave);
-        gave
-    }
+/// What three such threads did beside one another, after which all of it is synced and got once more.
+pub fn contend<D: PageDisk + Send, K: Naming + Send + Sync, R: Threads + Wait + Abort + Sync>(
+    rt: &R,
+    alloc: Global,
+    node: &Node<D, K>,
+) -> Gave<K> {
+    let mut rivals = Vec::new(alloc);
+    add(rt, &mut rivals, new_hand(rt, alloc, node), FIRST);
+    add(rt, &mut rivals, new_hand(rt, alloc, node), SECOND);
+    add(rt, &mut rivals, new_hand(rt, alloc, node), THIRD);
+    let mut gave = abreast(rt, alloc, node, rivals);
+    sync_and_get(rt, alloc, node, &mut gave);
+    gave
 }
 
-impl<D: PageDisk, K: Naming, R: Wait + Abort> Lent<'_, D, K, R> {
-    /// Syncs all that was accepted, and gets all three shards.
-    fn sync_and_get(&self, gave: &mut Gave<K>) {
-        let mut seat = Seat {
-            rt: self.rt,
-            node: self.node,
-            gate: &Open,
-            hand: self.plays(self.new_hand(), &Open, HIRES),
-        };
-        assert!(self.rt; seat.sync() == Ok(gave.number));
-        give(self.rt, gave, self.plays(seat.hand, &Open, GETS));
-    }
+/// Syncs all that was accepted, and gets all three shards.
+fn sync_and_get<D: PageDisk, K: Naming, R: Wait + Abort>(
+    rt: &R,
+    alloc: Global,
+    node: &Node<D, K>,
+    gave: &mut Gave<K>,
+) {
+    let mut hand = new_hand(rt, alloc, node);
+    plays(rt, node, &mut hand, &Open, HIRES);
+    assert!(rt; sync(rt, node, &mut hand) == Ok(gave.number));
+    plays(rt, node, &mut hand, &Open, GETS);
+    give(rt, gave, hand);
 }
 
 /// Whether an event asks about the identifier that ends with this byte.
@@ -131,5 +128,5 @@ pub fn is_agreed<R: Abort>(rt: &R, ended: &Ended) {
 
 #[test]
 fn threads_agree_on_the_shards_that_all_of_them_put(rt: HostRuntime) {
-    tries(&rt, Store::Wide, Task::Rivals, Wanted::Agreed);
+    tries(&rt, rt.alloc(), Store::Wide, Task::Rivals, Wanted::Agreed);
 }

@@ -1,36 +1,59 @@
 //! Sweeps by one reclaimer, turn by turn and to their end.
 use super::acts::Act;
 use super::tasks::Task;
-use super::{Store, Wanted, tries, tries_acts};
+use super::{Store, Wanted, tries};
 use cs_core::{Event, Reply};
-use cs_node::Step::{Abandon, Begin, BeginSweep, End, Idle, Issue, MoveOne, Retire, Stage};
+use cs_node::Step;
 use cs_refusal::Refusal;
 use std::process::Abort;
 
 /// A sweep of an extent with two shards, and the two first turns of the pilot.
 const TAKES_TURNS: &[Act] = &[
-    Act::PutKept(10, 1),
-    Act::PutKept(11, 2),
+    Act::Put(10, Ok(1)),
+    Act::KeepTicket,
+    Act::Put(11, Ok(2)),
+    Act::KeepTicket,
     Act::Reclaim(1),
-    Act::Sweep(&[BeginSweep, MoveOne, MoveOne, MoveOne, Retire, Idle]),
+    Act::Sweep(Ok(Step::BeginSweep)),
+    Act::Sweep(Ok(Step::MoveOne)),
+    Act::Sweep(Ok(Step::MoveOne)),
+    Act::Sweep(Ok(Step::MoveOne)),
+    Act::Sweep(Ok(Step::Retire)),
+    Act::Sweep(Ok(Step::Idle)),
     Act::Hire(true),
-    Act::Fly(&[Begin, Issue]),
+    Act::Fly(Step::Begin),
+    Act::Fly(Step::Issue),
 ];
 
 #[test]
 fn workers_take_turns(rt: HostRuntime) {
-    tries_acts(&rt, Store::Small(64), TAKES_TURNS, Wanted::Counts(2, 0));
+    tries(
+        &rt,
+        rt.alloc(),
+        Store::Small(64),
+        Task::Plays(TAKES_TURNS),
+        Wanted::Counts(2, 0),
+    );
 }
 
 /// Two sweeps, the second of the extent to which the first moved the two shards.
 const SWEEPS_TWICE: &[Act] = &[
-    Act::PutKept(10, 1),
-    Act::PutKept(11, 2),
+    Act::Put(10, Ok(1)),
+    Act::KeepTicket,
+    Act::Put(11, Ok(2)),
+    Act::KeepTicket,
     Act::Reclaim(2),
-    Act::Sweep(&[
-        BeginSweep, MoveOne, MoveOne, MoveOne, Retire, BeginSweep, MoveOne, MoveOne, MoveOne,
-        Retire, Idle,
-    ]),
+    Act::Sweep(Ok(Step::BeginSweep)),
+    Act::Sweep(Ok(Step::MoveOne)),
+    Act::Sweep(Ok(Step::MoveOne)),
+    Act::Sweep(Ok(Step::MoveOne)),
+    Act::Sweep(Ok(Step::Retire)),
+    Act::Sweep(Ok(Step::BeginSweep)),
+    Act::Sweep(Ok(Step::MoveOne)),
+    Act::Sweep(Ok(Step::MoveOne)),
+    Act::Sweep(Ok(Step::MoveOne)),
+    Act::Sweep(Ok(Step::Retire)),
+    Act::Sweep(Ok(Step::Idle)),
 ];
 
 /// Whether the event at this place begins a sweep of this extent.
@@ -49,11 +72,23 @@ pub fn are_both_swept<R: Abort>(rt: &R, history: &[(Event, Reply)]) {
 
 #[test]
 fn a_second_sweep_is_of_the_next_extent(rt: HostRuntime) {
-    tries_acts(&rt, Store::Small(64), SWEEPS_TWICE, Wanted::BothExtents);
+    tries(
+        &rt,
+        rt.alloc(),
+        Store::Small(64),
+        Task::Plays(SWEEPS_TWICE),
+        Wanted::BothExtents,
+    );
 }
 
 /// Puts two shards, for two sweeps.
-const PUTS_TWO: &[Act] = &[Act::PutKept(10, 1), Act::PutKept(11, 2), Act::Reclaim(2)];
+const PUTS_TWO: &[Act] = &[
+    Act::Put(10, Ok(1)),
+    Act::KeepTicket,
+    Act::Put(11, Ok(2)),
+    Act::KeepTicket,
+    Act::Reclaim(2),
+];
 
 /// Runs until two sweeps are done.
 const RUNS: &[Act] = &[Act::RunReclaimer(None)];
@@ -61,57 +96,93 @@ const RUNS: &[Act] = &[Act::RunReclaimer(None)];
 #[test]
 fn a_reclaimer_runs_until_its_sweeps_are_done(rt: HostRuntime) {
     let task = Task::Counts(64, PUTS_TWO, 0, RUNS, 54, 10);
-    tries(&rt, Store::Small(64), task, Wanted::Counts(2, 0));
+    tries(
+        &rt,
+        rt.alloc(),
+        Store::Small(64),
+        task,
+        Wanted::Counts(2, 0),
+    );
 }
 
 /// A sweep of format 3 whose second move fails is abandoned, once all commands are persistent. No other begins while its copy is noted. The
 /// pilot writes the copy, and then stages a root alone, after which the next sweep goes to its end.
 const GIVES_UP_APART: &[Act] = &[
-    Act::PutKept(10, 1),
-    Act::PutKept(11, 2),
+    Act::Put(10, Ok(1)),
+    Act::KeepTicket,
+    Act::Put(11, Ok(2)),
+    Act::KeepTicket,
     Act::Hire(true),
     Act::Sync(Ok(2)),
-    Act::Fly(&[Idle]),
+    Act::Fly(Step::Idle),
     Act::Reclaim(2),
-    Act::Sweep(&[BeginSweep, MoveOne]),
-    Act::SweepRefused(Refusal::DeviceFault),
-    Act::Sweep(&[Abandon]),
-    Act::Fly(&[Begin, Issue, Issue, End]),
-    Act::Sweep(&[Idle]),
-    Act::Fly(&[Stage, Begin, Issue, End, Idle]),
-    Act::Sweep(&[BeginSweep, MoveOne, MoveOne, MoveOne, Retire, Idle]),
+    Act::Sweep(Ok(Step::BeginSweep)),
+    Act::Sweep(Ok(Step::MoveOne)),
+    Act::Sweep(Err(Refusal::DeviceFault)),
+    Act::Sweep(Ok(Step::Abandon)),
+    Act::Fly(Step::Begin),
+    Act::Fly(Step::Issue),
+    Act::Fly(Step::Issue),
+    Act::Fly(Step::End),
+    Act::Sweep(Ok(Step::Idle)),
+    Act::Fly(Step::Stage),
+    Act::Fly(Step::Begin),
+    Act::Fly(Step::Issue),
+    Act::Fly(Step::End),
+    Act::Fly(Step::Idle),
+    Act::Sweep(Ok(Step::BeginSweep)),
+    Act::Sweep(Ok(Step::MoveOne)),
+    Act::Sweep(Ok(Step::MoveOne)),
+    Act::Sweep(Ok(Step::MoveOne)),
+    Act::Sweep(Ok(Step::Retire)),
+    Act::Sweep(Ok(Step::Idle)),
 ];
 
 /// Three calls format the store, five are the writes of the two shards, the run and the superblock, and their flush, and two the
 /// write of the root and its flush. The eleventh call reads the first shard, the twelfth the second one.
 #[test]
 fn a_pilot_stages_a_root_for_copies_that_are_left(rt: HostRuntime) {
-    tries_acts(&rt, Store::Apart(12), GIVES_UP_APART, Wanted::Counts(2, 2));
+    tries(
+        &rt,
+        rt.alloc(),
+        Store::Apart(12),
+        Task::Plays(GIVES_UP_APART),
+        Wanted::Counts(2, 2),
+    );
 }
 
 /// The same, where the sweep is given up through the node, and a stream writes back: it stages before it begins.
 const GIVES_UP_TO_A_STREAM: &[Act] = &[
-    Act::PutKept(10, 1),
+    Act::Put(10, Ok(1)),
+    Act::KeepTicket,
     Act::Hire(true),
     Act::Sync(Ok(1)),
-    Act::Stream(&[Idle]),
+    Act::Stream(Step::Idle),
     Act::ReclaimOf(0),
-    Act::Sweep(&[BeginSweep, MoveOne]),
-    Act::Stream(&[Begin, Issue]),
+    Act::Sweep(Ok(Step::BeginSweep)),
+    Act::Sweep(Ok(Step::MoveOne)),
+    Act::Stream(Step::Begin),
+    Act::Stream(Step::Issue),
     Act::Abandon(0, Ok(())),
     Act::Reclaim(1),
-    Act::Sweep(&[Idle]),
-    Act::Stream(&[Issue, End, Stage]),
-    Act::Sweep(&[BeginSweep]),
-    Act::Stream(&[Begin, Issue, End, Idle]),
+    Act::Sweep(Ok(Step::Idle)),
+    Act::Stream(Step::Issue),
+    Act::Stream(Step::End),
+    Act::Stream(Step::Stage),
+    Act::Sweep(Ok(Step::BeginSweep)),
+    Act::Stream(Step::Begin),
+    Act::Stream(Step::Issue),
+    Act::Stream(Step::End),
+    Act::Stream(Step::Idle),
 ];
 
 #[test]
 fn a_stream_stages_a_root_for_copies_that_are_left(rt: HostRuntime) {
-    tries_acts(
+    tries(
         &rt,
+        rt.alloc(),
         Store::Apart(0),
-        GIVES_UP_TO_A_STREAM,
+        Task::Plays(GIVES_UP_TO_A_STREAM),
         Wanted::Counts(1, 1),
     );
 }

@@ -1,25 +1,30 @@
 //! What a sync does, event by event, where a round is out as it begins.
 use super::acts::Act;
-use super::{Store, Wanted, tries_acts};
-use cs_node::Step::{Begin, Idle, Issue, Stage};
+use super::tasks::Task;
+use super::{Store, Wanted, tries};
+use cs_node::Step;
 
 /// Syncs while a round is out whose only member is written: that round ends, then come the chunk and the index's page with the superblock of
 /// the chunk before, then the next superblock, then the root.
 const BEFORE_AN_END: &[Act] = &[
     Act::Hire(true),
-    Act::PutKept(10, 1),
-    Act::Fly(&[Begin, Issue]),
-    Act::PutKept(12, 2),
+    Act::Put(10, Ok(1)),
+    Act::KeepTicket,
+    Act::Fly(Step::Begin),
+    Act::Fly(Step::Issue),
+    Act::Put(12, Ok(2)),
+    Act::KeepTicket,
     Act::Sync(Ok(2)),
-    Act::Fly(&[Idle]),
+    Act::Fly(Step::Idle),
 ];
 
 #[test]
 fn a_sync_ends_the_round_that_is_out(rt: HostRuntime) {
-    tries_acts(
+    tries(
         &rt,
+        rt.alloc(),
         Store::Small(64),
-        BEFORE_AN_END,
+        Task::Plays(BEFORE_AN_END),
         Wanted::Prints(
             "[Put, Begin, Issue, Put, Stage, End, Begin, Issue, Issue, Issue, End, Begin, Issue, End, Begin, Issue, End]",
         ),
@@ -29,20 +34,25 @@ fn a_sync_ends_the_round_that_is_out(rt: HostRuntime) {
 /// Syncs while a round is out of which one of two chunks is written: the other is, and the round ends. Then it is as above.
 const BETWEEN_ISSUES: &[Act] = &[
     Act::Hire(true),
-    Act::PutKept(10, 1),
-    Act::PutKept(11, 2),
-    Act::Fly(&[Begin, Issue]),
-    Act::PutKept(12, 3),
+    Act::Put(10, Ok(1)),
+    Act::KeepTicket,
+    Act::Put(11, Ok(2)),
+    Act::KeepTicket,
+    Act::Fly(Step::Begin),
+    Act::Fly(Step::Issue),
+    Act::Put(12, Ok(3)),
+    Act::KeepTicket,
     Act::Sync(Ok(3)),
-    Act::Fly(&[Idle]),
+    Act::Fly(Step::Idle),
 ];
 
 #[test]
 fn a_sync_goes_on_with_a_round_that_is_half_written(rt: HostRuntime) {
-    tries_acts(
+    tries(
         &rt,
+        rt.alloc(),
         Store::Small(64),
-        BETWEEN_ISSUES,
+        Task::Plays(BETWEEN_ISSUES),
         Wanted::Prints(
             "[Put, Put, Begin, Issue, Put, Stage, Issue, End, Begin, Issue, Issue, Issue, End, Begin, Issue, End, Begin, Issue, End]",
         ),
@@ -54,19 +64,24 @@ fn a_sync_goes_on_with_a_round_that_is_half_written(rt: HostRuntime) {
 /// second root.
 const BEHIND_A_ROOT: &[Act] = &[
     Act::Hire(true),
-    Act::PutKept(10, 1),
-    Act::Stream(&[Stage, Begin, Issue]),
-    Act::PutKept(12, 2),
+    Act::Put(10, Ok(1)),
+    Act::KeepTicket,
+    Act::Stream(Step::Stage),
+    Act::Stream(Step::Begin),
+    Act::Stream(Step::Issue),
+    Act::Put(12, Ok(2)),
+    Act::KeepTicket,
     Act::Sync(Ok(2)),
-    Act::Fly(&[Idle]),
+    Act::Fly(Step::Idle),
 ];
 
 #[test]
 fn a_sync_outlasts_a_root_without_the_last_put(rt: HostRuntime) {
-    tries_acts(
+    tries(
         &rt,
+        rt.alloc(),
         Store::Small(64),
-        BEHIND_A_ROOT,
+        Task::Plays(BEHIND_A_ROOT),
         Wanted::Prints(
             "[Put, Stage, Begin, Issue, Put, Stage, Issue, End, Begin, Issue, Issue, Issue, End, Begin, Issue, Issue, End, Begin, Issue, End]",
         ),

@@ -3,7 +3,13 @@
 ghost use Rattle.std.specs.Prelude.{◌≡◌, []};
 ghost use Rattle.cs_node.specs.Starts.{start_of};
 
-use super::acts::{Act, Hand, Lent, Player, hand_of};
+use super::acts::{Act, Hand, Player, hand_of, is_right, new_hand, plays};
+use super::asks::asks;
+use super::gates::tells_all;
+use super::orders::tell_beside;
+use super::rivals::contend;
+use super::threads::{numbers_in_order, polls_beside_a_put, puts_beside_a_round, rides};
+use super::workers::count_events;
 use cs_core::{Core, Event, Reply};
 use cs_disk::PageDisk;
 use cs_node::*;
@@ -89,15 +95,6 @@ fn run_named<D: PageDisk + Send + Drop, K: Naming + Send + Sync, R: Threads + Wa
     }
 }
 
-/// A node as it is lent.
-fn lend<'a, D: PageDisk, K: Naming, R>(
-    rt: &'a R,
-    alloc: Global,
-    node: &'a Node<D, K>,
-) -> Lent<'a, D, K, R> {
-    Lent { rt, alloc, node }
-}
-
 /// Lends the node, and closes it over what is given back.
 fn lends<D: PageDisk + Send + Drop, K: Naming + Send + Sync, R: Threads + Wait + Abort + Sync>(
     rt: &R,
@@ -105,7 +102,7 @@ fn lends<D: PageDisk + Send + Drop, K: Naming + Send + Sync, R: Threads + Wait +
     node: Node<D, K>,
     task: Task,
 ) -> End {
-    let gave = lend(rt, alloc, &node).gives(task);
+    let gave = given_by(rt, alloc, &node, task);
     end_of(alloc, node.rest(), gave)
 }
 
@@ -160,21 +157,27 @@ fn goes_on<D: PageDisk + Drop, K: Naming, R: Wait + Abort>(
     alloc: Global,
     node: Node<D, K>,
 ) -> End {
-    let gave = lend(rt, alloc, &node).does(&[Act::Put(10, Ok(1))]);
+    let gave = lent(rt, alloc, &node, &[Act::Put(10, Ok(1))]);
     let NotClosed {
         why: _,
         rest,
         purses,
     } = miss(rt, alloc, node.rest(), gave, 1);
     let node = rest.resume();
-    let hand = hand_of(alloc, only_purse(rt, purses));
-    let gave = lend(rt, alloc, &node).goes_on(hand, &[Act::Put(11, Ok(2))]);
+    let gave = put_next(rt, alloc, &node, purses);
     end_of(alloc, node.rest(), gave)
 }
 
-/// The one purse of a list.
-fn only_purse<K: Naming, R: Abort>(rt: &R, mut purses: Vec<Purse<K>>) -> Purse<K> {
-    purses.pop().expect(rt, "the purse")
+/// Puts a second shard by the one purse of a list.
+fn put_next<D: PageDisk, K: Naming, R: Wait + Abort>(
+    rt: &R,
+    alloc: Global,
+    node: &Node<D, K>,
+    mut purses: Vec<Purse<K>>,
+) -> Gave<K> {
+    let mut hand = hand_of(alloc, purses.pop().expect(rt, "the purse"));
+    plays(rt, node, &mut hand, &Open, &[Act::Put(11, Ok(2))]);
+    given(rt, alloc, hand)
 }
 
 /// Rests between two purses, is not closed over the second, and is over both.
@@ -183,9 +186,9 @@ fn rests<D: PageDisk + Drop, K: Naming, R: Wait + Abort>(
     alloc: Global,
     node: Node<D, K>,
 ) -> End {
-    let mut gave = lend(rt, alloc, &node).does(&[Act::Hire(true)]);
+    let mut gave = lent(rt, alloc, &node, &[Act::Hire(true)]);
     let node = has_given(rt, node.rest(), 1).resume();
-    let second = lend(rt, alloc, &node).does(&[Act::Hire(false)]);
+    let second = lent(rt, alloc, &node, &[Act::Hire(false)]);
     let NotClosed {
         why: _,
         rest,
@@ -208,6 +211,50 @@ fn gather<K: Naming, R: Abort>(rt: &R, alloc: Global, gave: &mut Gave<K>, purses
     }
 }
 
+/// What hands give back on a node that is lent.
+fn given_by<D: PageDisk + Send, K: Naming + Send + Sync, R: Threads + Wait + Abort + Sync>(
+    rt: &R,
+    alloc: Global,
+    node: &Node<D, K>,
+    task: Task,
+) -> Gave<K> {
+    match task {
+        Task::Plays(acts) => lent(rt, alloc, node, acts),
+        Task::Counts(turns, first, counted, then, left, events) => {
+            count_events(
+                rt,
+                alloc,
+                node,
+                turns,
+                (first, counted),
+                (then, left, events),
+            )
+        }
+        Task::Beside(first, second) => two(rt, alloc, node, first, second),
+        Task::TellsAll => tells_all(rt, alloc, node),
+        Task::Asks => asks(rt, alloc, node),
+        Task::PollsBesideAPut => polls_beside_a_put(rt, alloc, node),
+        Task::PutsBesideARound => puts_beside_a_round(rt, alloc, node),
+        Task::Rides => rides(rt, alloc, node),
+        Task::Numbers => numbers_in_order(rt, alloc, node),
+        Task::Rivals => contend(rt, alloc, node),
+        Task::Orders => tell_beside(rt, alloc, node),
+        Task::GoesOn | Task::Rests => nothing(alloc),
+    }
+}
+
+/// What one hand gives back that did these acts.
+fn lent<D: PageDisk, K: Naming, R: Wait + Abort>(
+    rt: &R,
+    alloc: Global,
+    node: &Node<D, K>,
+    acts: &[Act],
+) -> Gave<K> {
+    let mut hand = new_hand(rt, alloc, node);
+    plays(rt, node, &mut hand, &Open, acts);
+    given(rt, alloc, hand)
+}
+
 /// Nothing is given back yet.
 pub fn nothing<K: Naming>(alloc: Global) -> Gave<K> {
     Gave {
@@ -218,84 +265,66 @@ pub fn nothing<K: Naming>(alloc: Global) -> Gave<K> {
 
 /// Gives a hand's purse back, whose acts were all answered as they had to be.
 pub fn give<K: Naming, R: Abort>(rt: &R, gave: &mut Gave<K>, hand: Hand<K>) {
-    assert!(rt; hand.wrong == None);
+    is_right(rt, &hand);
     gave.number = gave.number.saturating_add(hand.kept);
     assert!(rt; gave.purses.push(hand.into_purse()).is_ok());
 }
 
-impl<D: PageDisk, K: Naming, R: Wait + Abort> Lent<'_, D, K, R> {
-    /// What one hand gives back.
-    pub fn given(&self, hand: Hand<K>) -> Gave<K> {
-        let mut gave = nothing(self.alloc);
-        give(self.rt, &mut gave, hand);
-        gave
-    }
-
-    /// What this hand gives back that did these acts.
-    fn goes_on(&self, hand: Hand<K>, acts: &[Act]) -> Gave<K> {
-        self.given(self.plays(hand, &Open, acts))
-    }
-
-    /// The same of a new hand.
-    fn does(&self, acts: &[Act]) -> Gave<K> {
-        self.goes_on(self.new_hand(), acts)
-    }
+/// What one hand gives back.
+pub fn given<K: Naming, R: Abort>(rt: &R, alloc: Global, hand: Hand<K>) -> Gave<K> {
+    let mut gave = nothing(alloc);
+    give(rt, &mut gave, hand);
+    gave
 }
 
-impl<D: PageDisk + Send, K: Naming + Send + Sync, R: Threads + Wait + Abort + Sync> Lent<
-    '_,
-    D,
-    K,
-    R,
-> {
-    /// What hands give back.
-    fn gives(&self, task: Task) -> Gave<K> {
-        match task {
-            Task::Plays(acts) => self.does(acts),
-            Task::Counts(turns, first, counted, then, left, events) => {
-                self.counts(turns, (first, counted), (then, left, events))
-            }
-            Task::Beside(first, second) => self.two(first, second),
-            Task::TellsAll => self.tells_all(),
-            Task::Asks => self.asks(),
-            Task::PollsBesideAPut => self.polls_beside_a_put(),
-            Task::PutsBesideARound => self.puts_beside_a_round(),
-            Task::Rides => self.rides(),
-            Task::Numbers => self.numbers_in_order(),
-            Task::Rivals => self.contends(),
-            Task::Orders => self.tells_beside(),
-            Task::GoesOn | Task::Rests => nothing(self.alloc),
-        }
-    }
+/// Two hands that do these acts beside one another.
+fn two<D: PageDisk + Send, K: Naming + Send + Sync, R: Threads + Wait + Abort + Sync>(
+    rt: &R,
+    alloc: Global,
+    node: &Node<D, K>,
+    first: &'static [Act],
+    second: &'static [Act],
+) -> Gave<K> {
+    let first = Player {
+        hand: new_hand(rt, alloc, node),
+        gate: Open,
+        acts: first,
+    };
+    let second = Player {
+        hand: new_hand(rt, alloc, node),
+        gate: Open,
+        acts: second,
+    };
+    beside(rt, alloc, node, first, second)
+}
 
-    /// Two hands that do these acts beside one another.
-    fn two(&self, first: &'static [Act], second: &'static [Act]) -> Gave<K> {
-        let first = Player::new(self.new_hand(), Open, first);
-        let second = Player::new(self.new_hand(), Open, second);
-        self.beside(first, second)
-    }
+/// What two hands give back that do their acts beside one another.
+pub fn beside<
+    D: PageDisk + Send,
+    K: Naming + Send + Sync,
+    R: Threads + Wait + Abort + Sync,
+    G: Gate + Send + Drop,
+    H: Gate + Send + Drop,
+>(rt: &R, alloc: Global, node: &Node<D, K>, first: Player<K, G>, second: Player<K, H>) -> Gave<K> {
+    let (first, second) = node.beside(rt, first, second);
+    let mut gave = given(rt, alloc, first);
+    give(rt, &mut gave, second);
+    gave
+}
 
-    /// What two hands give back that do their acts beside one another.
-    pub fn beside<G: Gate + Send + Drop, H: Gate + Send + Drop>(
-        &self,
-        first: Player<K, G>,
-        second: Player<K, H>,
-    ) -> Gave<K> {
-        let (first, second) = self.node.beside(self.rt, first, second);
-        let mut gave = self.given(first);
-        give(self.rt, &mut gave, second);
-        gave
+/// What hands give back that do their acts beside one another.
+pub fn abreast<D: PageDisk + Send, K: Naming + Send + Sync, R: Threads + Wait + Abort + Sync>(
+    rt: &R,
+    alloc: Global,
+    node: &Node<D, K>,
+    plays: Vec<Player<K, Open>>,
+) -> Gave<K> {
+    let mut gave = nothing(alloc);
+    let Ok(hands) = node.abreast(rt, plays) else {
+        panic!(rt; "hands")
+    };
+    for hand in hands {
+        give(rt, &mut gave, hand);
     }
-
-    /// What hands give back that do their acts beside one another.
-    pub fn abreast(&self, plays: Vec<Player<K, Open>>) -> Gave<K> {
-        let mut gave = nothing(self.alloc);
-        let Ok(hands) = self.node.abreast(self.rt, plays) else {
-            panic!(self.rt; "hands")
-        };
-        for hand in hands {
-            give(self.rt, &mut gave, hand);
-        }
-        gave
-    }
+    gave
 }

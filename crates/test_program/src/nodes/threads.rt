@@ -1,6 +1,6 @@
 //! Two threads on one node, each of which waits for the other at most a bounded number of loads.
-use super::acts::{Act, Hand, Lent, Player};
-use super::tasks::{Gave, Task, nothing};
+use super::acts::{Act, Hand, Player, new_hand, plays};
+use super::tasks::{Gave, Task, abreast, beside, nothing};
 use super::{Store, Wanted, tries};
 use cs_disk::PageDisk;
 use cs_node::*;
@@ -95,72 +95,28 @@ const PUTS: &[Act] = &[Act::PutTold(11, 1, Ok(2))];
 /// Polls once the gate was reached.
 const POLLS: &[Act] = &[Act::Await, Act::Poll(None), Act::Tell, Act::KeepAck(1)];
 
-impl<D: PageDisk + Send, K: Naming + Send + Sync, R: Threads + Wait + Abort + Sync> Lent<
-    '_,
-    D,
-    K,
-    R,
-> {
-    /// Puts beside a poll that waits until the put has the lock.
-    pub fn polls_beside_a_put(&self) -> Gave<K> {
-        let signals = signals(self.alloc).expect(self.rt, "signals");
-        let mut first = self.plays(self.new_hand(), &Open, PUT_AND_SYNC);
-        let mut second = self.new_hand();
-        second.ticket = first.ticket.take();
-        let gate = KeepsPut {
-            signals: another(self.rt, &signals),
-        };
-        let puts = Player::new(first, gate, PUTS);
-        let polls = signalled(self.rt, second, &signals, POLLS);
-        let gave = self.beside(puts, polls);
-        was_seen(self.rt, &signals);
-        gave
-    }
-
-    /// Flies beside a put that waits until a round is out.
-    pub fn puts_beside_a_round(&self) -> Gave<K> {
-        let signals = signals(self.alloc).expect(self.rt, "signals");
-        let first = self.plays(self.new_hand(), &Open, PUT_AND_HIRE);
-        let gate = KeepsPilot {
-            signals: another(self.rt, &signals),
-            began: AtomicU64::new(0),
-            ended: AtomicU64::new(0),
-        };
-        let flies = Player::new(first, gate, FLIES);
-        let puts = signalled(self.rt, self.new_hand(), &signals, PUTS_THEN);
-        let gave = self.beside(flies, puts);
-        was_seen(self.rt, &signals);
-        gave
-    }
-
-    /// Two threads that put and send, and one that takes.
-    pub fn rides(&self) -> Gave<K> {
-        let (ramp, dock) = ferry(self.alloc, 1).expect(self.rt, "a ferry");
-        let mut rides = Vec::new(self.alloc);
-        let mut hand = self.new_hand();
-        hand.ramp = Some(ramp.another().expect(self.rt, "a ramp"));
-        add(self.rt, &mut rides, hand, FIRST_RIDES);
-        let mut hand = self.new_hand();
-        hand.ramp = Some(ramp);
-        add(self.rt, &mut rides, hand, SECOND_RIDES);
-        let mut hand = self.new_hand();
-        hand.dock = Some(dock);
-        add(self.rt, &mut rides, hand, TAKES);
-        self.abreast(rides)
-    }
-
-    /// Asserts that jobs give what they gave in their order. No purse is given back.
-    pub fn numbers_in_order(&self) -> Gave<K> {
-        let jobs = three(self.rt, self.alloc);
-        let Ok(numbers) = self.node.abreast(self.rt, jobs) else {
-            panic!(self.rt; "numbers")
-        };
-        assert!(self.rt; numbers.as_slice() == [1, 2, 3].as_slice());
-        let (fourth, fifth) = self.node.beside(self.rt, Numbered(4), Numbered(5));
-        assert!(self.rt; fourth == 4);
-        assert!(self.rt; fifth == 5);
-        nothing(self.alloc)
-    }
+/// Puts beside a poll that waits until the put has the lock.
+pub fn polls_beside_a_put<
+    D: PageDisk + Send,
+    K: Naming + Send + Sync,
+    R: Threads + Wait + Abort + Sync,
+>(rt: &R, alloc: Global, node: &Node<D, K>) -> Gave<K> {
+    let signals = signals(alloc).expect(rt, "signals");
+    let mut first = new_hand(rt, alloc, node);
+    plays(rt, node, &mut first, &Open, PUT_AND_SYNC);
+    let mut second = new_hand(rt, alloc, node);
+    second.ticket = first.ticket.take();
+    let puts = Player {
+        hand: first,
+        gate: KeepsPut {
+            signals: another(rt, &signals),
+        },
+        acts: PUTS,
+    };
+    let polls = signalled(rt, second, &signals, POLLS);
+    let gave = beside(rt, alloc, node, puts, polls);
+    was_seen(rt, &signals);
+    gave
 }
 
 /// A hand that does these acts in a thread, with the signals.
@@ -171,7 +127,11 @@ fn signalled<K: Naming, R: Abort>(
     acts: &'static [Act],
 ) -> Player<K, Open> {
     hand.signals = Some(another(rt, signals));
-    Player::new(hand, Open, acts)
+    Player {
+        hand,
+        gate: Open,
+        acts,
+    }
 }
 
 /// Asserts that the gate saw the other thread answered.
@@ -183,6 +143,7 @@ fn was_seen<R: Abort>(rt: &R, signals: &Signals) {
 fn a_poll_answers_while_a_put_has_the_lock(rt: HostRuntime) {
     tries(
         &rt,
+        rt.alloc(),
         Store::Small(64),
         Task::PollsBesideAPut,
         Wanted::Unclosed,
@@ -228,10 +189,35 @@ const PUT_AND_HIRE: &[Act] = &[Act::Put(10, Ok(1)), Act::Hire(true)];
 /// Puts once the gate was reached.
 const PUTS_THEN: &[Act] = &[Act::Await, Act::Put(11, Ok(2)), Act::Tell];
 
+/// Flies beside a put that waits until a round is out.
+pub fn puts_beside_a_round<
+    D: PageDisk + Send,
+    K: Naming + Send + Sync,
+    R: Threads + Wait + Abort + Sync,
+>(rt: &R, alloc: Global, node: &Node<D, K>) -> Gave<K> {
+    let signals = signals(alloc).expect(rt, "signals");
+    let mut first = new_hand(rt, alloc, node);
+    plays(rt, node, &mut first, &Open, PUT_AND_HIRE);
+    let flies = Player {
+        hand: first,
+        gate: KeepsPilot {
+            signals: another(rt, &signals),
+            began: AtomicU64::new(0),
+            ended: AtomicU64::new(0),
+        },
+        acts: FLIES,
+    };
+    let puts = signalled(rt, new_hand(rt, alloc, node), &signals, PUTS_THEN);
+    let gave = beside(rt, alloc, node, flies, puts);
+    was_seen(rt, &signals);
+    gave
+}
+
 #[test]
 fn a_put_answers_while_a_round_is_out(rt: HostRuntime) {
     tries(
         &rt,
+        rt.alloc(),
         Store::Small(64),
         Task::PutsBesideARound,
         Wanted::Unclosed,
@@ -259,6 +245,26 @@ const SECOND_RIDES: &[Act] = &[
 /// Takes the tickets in.
 const TAKES: &[Act] = &[Act::TakeAll];
 
+/// Two threads that put and send, and one that takes.
+pub fn rides<D: PageDisk + Send, K: Naming + Send + Sync, R: Threads + Wait + Abort + Sync>(
+    rt: &R,
+    alloc: Global,
+    node: &Node<D, K>,
+) -> Gave<K> {
+    let (ramp, dock) = ferry(alloc, 1).expect(rt, "a ferry");
+    let mut rides = Vec::new(alloc);
+    let mut hand = new_hand(rt, alloc, node);
+    hand.ramp = Some(ramp.another().expect(rt, "a ramp"));
+    add(rt, &mut rides, hand, FIRST_RIDES);
+    let mut hand = new_hand(rt, alloc, node);
+    hand.ramp = Some(ramp);
+    add(rt, &mut rides, hand, SECOND_RIDES);
+    let mut hand = new_hand(rt, alloc, node);
+    hand.dock = Some(dock);
+    add(rt, &mut rides, hand, TAKES);
+    abreast(rt, alloc, node, rides)
+}
+
 /// One hand more that does acts in a thread.
 pub fn add<K: Naming, R: Abort>(
     rt: &R,
@@ -266,12 +272,23 @@ pub fn add<K: Naming, R: Abort>(
     hand: Hand<K>,
     acts: &'static [Act],
 ) {
-    assert!(rt; plays.push(Player::new(hand, Open, acts)).is_ok());
+    let more = Player {
+        hand,
+        gate: Open,
+        acts,
+    };
+    assert!(rt; plays.push(more).is_ok());
 }
 
 #[test]
 fn two_ramps_lead_to_one_dock(rt: HostRuntime) {
-    tries(&rt, Store::Small(64), Task::Rides, Wanted::Counts(4, 0));
+    tries(
+        &rt,
+        rt.alloc(),
+        Store::Small(64),
+        Task::Rides,
+        Wanted::Counts(4, 0),
+    );
 }
 
 /// Gives its number.
@@ -287,6 +304,23 @@ impl<N> Job<N> for Numbered {
     }
 }
 
+/// Asserts that jobs give what they gave in their order. No purse is given back.
+pub fn numbers_in_order<
+    D: PageDisk + Send,
+    K: Naming + Send + Sync,
+    R: Threads + Wait + Abort + Sync,
+>(rt: &R, alloc: Global, node: &Node<D, K>) -> Gave<K> {
+    let jobs = three(rt, alloc);
+    let Ok(numbers) = node.abreast(rt, jobs) else {
+        panic!(rt; "numbers")
+    };
+    assert!(rt; numbers.as_slice() == [1, 2, 3].as_slice());
+    let (fourth, fifth) = node.beside(rt, Numbered(4), Numbered(5));
+    assert!(rt; fourth == 4);
+    assert!(rt; fifth == 5);
+    nothing(alloc)
+}
+
 /// Jobs that give 1, 2 and 3.
 fn three<R: Abort>(rt: &R, alloc: Global) -> Vec<Numbered> {
     let mut jobs = Vec::new(alloc);
@@ -298,5 +332,11 @@ fn three<R: Abort>(rt: &R, alloc: Global) -> Vec<Numbered> {
 
 #[test]
 fn jobs_answer_in_their_order(rt: HostRuntime) {
-    tries(&rt, Store::Small(64), Task::Numbers, Wanted::Counts(0, 0));
+    tries(
+        &rt,
+        rt.alloc(),
+        Store::Small(64),
+        Task::Numbers,
+        Wanted::Counts(0, 0),
+    );
 }

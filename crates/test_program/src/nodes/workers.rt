@@ -1,10 +1,10 @@
 //! Gates that count, a stream, and a node that rests between two purses.
-use super::acts::{Act, Lent};
-use super::tasks::{Gave, Task};
-use super::{Store, Wanted, tries, tries_acts};
+use super::acts::{Act, new_hand, plays};
+use super::tasks::{Gave, Task, given};
+use super::{Store, Wanted, tries};
 use cs_disk::PageDisk;
-use cs_node::Step::{Begin, End, Issue, Stage};
 use cs_node::*;
+use std::alloc::Global;
 use std::process::Abort;
 use std::sync::Wait;
 use std::sync::atomic::{AtomicU64, Ordering};
@@ -39,20 +39,26 @@ impl Gate for Counts {
     }
 }
 
-impl<D: PageDisk, K: Naming, R: Wait + Abort> Lent<'_, D, K, R> {
-    /// Does acts with a gate that lets through so many turns, up to a look at how many events it counted, and after it up to one at how many
-    /// turns are left and how many events were counted.
-    pub fn counts(&self, turns: u64, first: (&[Act], u64), then: (&[Act], u64, u64)) -> Gave<K> {
-        let gate = Counts {
-            turns: AtomicU64::new(turns),
-            events: AtomicU64::new(0),
-        };
-        let hand = self.plays(self.new_hand(), &gate, first.0);
-        gate.are_left(self.rt, turns, first.1);
-        let hand = self.plays(hand, &gate, then.0);
-        gate.are_left(self.rt, then.1, then.2);
-        self.given(hand)
-    }
+/// Does acts with a gate that lets through so many turns, up to a look at how many events it counted, and after it up to one at how many
+/// turns are left and how many events were counted.
+pub fn count_events<D: PageDisk, K: Naming, R: Wait + Abort>(
+    rt: &R,
+    alloc: Global,
+    node: &Node<D, K>,
+    turns: u64,
+    first: (&[Act], u64),
+    then: (&[Act], u64, u64),
+) -> Gave<K> {
+    let gate = Counts {
+        turns: AtomicU64::new(turns),
+        events: AtomicU64::new(0),
+    };
+    let mut hand = new_hand(rt, alloc, node);
+    plays(rt, node, &mut hand, &gate, first.0);
+    gate.are_left(rt, turns, first.1);
+    plays(rt, node, &mut hand, &gate, then.0);
+    gate.are_left(rt, then.1, then.2);
+    given(rt, alloc, hand)
 }
 
 /// Puts with a gate.
@@ -64,22 +70,41 @@ const FLIES: &[Act] = &[Act::RunPilot(None)];
 #[test]
 fn a_gate_counts_events(rt: HostRuntime) {
     let task = Task::Counts(3, PUTS, 1, FLIES, 0, 4);
-    tries(&rt, Store::Small(64), task, Wanted::Counts(1, 0));
+    tries(
+        &rt,
+        rt.alloc(),
+        Store::Small(64),
+        task,
+        Wanted::Counts(1, 0),
+    );
 }
 
 /// Puts once more while a round of a stream is out.
 const STREAMS: &[Act] = &[
-    Act::PutKept(10, 1),
+    Act::Put(10, Ok(1)),
+    Act::KeepTicket,
     Act::Hire(true),
-    Act::Stream(&[Stage, Begin, Issue]),
-    Act::PutKept(11, 2),
-    Act::Stream(&[Issue, End, Stage, Begin]),
+    Act::Stream(Step::Stage),
+    Act::Stream(Step::Begin),
+    Act::Stream(Step::Issue),
+    Act::Put(11, Ok(2)),
+    Act::KeepTicket,
+    Act::Stream(Step::Issue),
+    Act::Stream(Step::End),
+    Act::Stream(Step::Stage),
+    Act::Stream(Step::Begin),
     Act::Sync(Ok(2)),
 ];
 
 #[test]
 fn a_stream_stages_before_each_round(rt: HostRuntime) {
-    tries_acts(&rt, Store::Small(64), STREAMS, Wanted::Counts(2, 2));
+    tries(
+        &rt,
+        rt.alloc(),
+        Store::Small(64),
+        Task::Plays(STREAMS),
+        Wanted::Counts(2, 2),
+    );
 }
 
 /// Puts, for a stream.
@@ -91,10 +116,22 @@ const STREAM_RUNS: &[Act] = &[Act::RunStream(None), Act::Poll(None), Act::KeepAc
 #[test]
 fn a_stream_runs_until_its_gate_ends_it(rt: HostRuntime) {
     let task = Task::Counts(64, STREAM_PUTS, 0, STREAM_RUNS, 0, 11);
-    tries(&rt, Store::Small(64), task, Wanted::Counts(1, 1));
+    tries(
+        &rt,
+        rt.alloc(),
+        Store::Small(64),
+        task,
+        Wanted::Counts(1, 1),
+    );
 }
 
 #[test]
 fn a_node_that_rested_keeps_what_it_gave(rt: HostRuntime) {
-    tries(&rt, Store::Small(64), Task::Rests, Wanted::Counts(0, 0));
+    tries(
+        &rt,
+        rt.alloc(),
+        Store::Small(64),
+        Task::Rests,
+        Wanted::Counts(0, 0),
+    );
 }

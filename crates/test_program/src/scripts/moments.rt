@@ -1,5 +1,5 @@
 //! A crash at each moment of a script, with each mask, over superblocks of one section and of several.
-use super::{Counts, run_on_sections, script_text};
+use super::{run_on_sections, script_text};
 use std::alloc::Global;
 use std::process::Abort;
 use std::test::Fail;
@@ -64,22 +64,23 @@ fn mask_text(alloc: Global, count: usize, number: u64) -> Result<String, Fail> {
     Ok(digits)
 }
 
-/// Crashes after these lines, which leave such a core, opens what is left, and asserts that it is the map after the first commands, of which
-/// none that was acknowledged is missing.
+/// Crashes after these lines, opens what is left, and asserts that it is the map after the first commands, of which none that was
+/// acknowledged is missing.
 fn crashes(
     rt: &(impl Abort + AllocGlobal),
     sections: u64,
     lines: &str,
     mask: &str,
-    counts: Counts,
+    acknowledged: u64,
+    accepted: u64,
 ) -> Result<(), Fail> {
     let alloc = rt.alloc();
     let end = script_text(alloc, "get @a / get @b / get @c")?;
     let text = format!(in alloc; "{lines}crash {mask}\n{end}")?;
     let ended = run_on_sections(rt, sections, &text)?;
     let commands = ended.counts(rt).found;
-    assert!(rt; counts.persistent <= commands, "{text}");
-    assert!(rt; commands <= counts.accepted, "{text}");
+    assert!(rt; acknowledged <= commands, "{text}");
+    assert!(rt; commands <= accepted, "{text}");
     let mut wanted = String::new(alloc);
     for digit in "abc".chars() {
         wanted.push_str(&line_after(alloc, commands, digit)?)?;
@@ -100,7 +101,14 @@ fn crashes_with_each_mask(
     let masks = 1 << counts.volatile as u64;
     for number in 0..masks {
         let mask = mask_text(alloc, counts.volatile, number)?;
-        crashes(rt, sections, lines, &mask, counts)?;
+        crashes(
+            rt,
+            sections,
+            lines,
+            &mask,
+            counts.persistent,
+            counts.accepted,
+        )?;
     }
     Ok(masks)
 }

@@ -40,7 +40,8 @@ fn tells_over<D: CrashDisk + Drop>(
     core: Core<D>,
     text: &[u8],
     last: u64,
-    (lines, told, status): (&str, &str, u8),
+    (lines, told): (&str, &str),
+    status: u8,
 ) -> Result<(), Fail> {
     let mut output = Vec::new(rt.alloc());
     let mut notes = Notes {
@@ -62,11 +63,12 @@ fn tells(
     rt: &(impl Abort + AllocGlobal),
     script: &str,
     last: u64,
-    wanted: (&str, &str, u8),
+    wanted: (&str, &str),
+    status: u8,
 ) -> Result<(), Fail> {
     let text = script_text(rt.alloc(), script)?;
     let core = new_core(rt, 6)?;
-    tells_over(rt, core, text.as_bytes(), last, wanted)
+    tells_over(rt, core, text.as_bytes(), last, wanted, status)
 }
 
 /// Each reason why a line isn't readable but those of files.
@@ -77,11 +79,11 @@ fn why_lines_are_bad(rt: HostRuntime) -> Result<(), Fail> {
             .len()
             .saturating_add(line.matches('@').count().saturating_mul(30));
         let told = format!(in rt.alloc(); "1 ({length}) bad line: {why}")?;
-        tells(&rt, line, 0, ("bad line", &told, 1))?;
+        tells(&rt, line, 0, ("bad line", &told), 1)?;
     }
     let core = new_core(&rt, 6)?;
-    let wanted = ("bad line", "2 (7) bad line: it isn't UTF-8", 1);
-    tells_over(&rt, core, b"# \xff\ngot a \xff\n", 0, wanted)
+    let wanted = ("bad line", "2 (7) bad line: it isn't UTF-8");
+    tells_over(&rt, core, b"# \xff\ngot a \xff\n", 0, wanted, 1)
 }
 
 /// Lines that aren't readable, and why.
@@ -131,8 +133,8 @@ fn lines_that_need_memory(rt: HostRuntime) -> Result<(), Fail> {
             (
                 "bad line / bad line",
                 "2 (4) bad line: step and crash need a store in memory / 4 (7) bad line: step and crash need a store in memory",
-                1,
             ),
+            1,
         )?,
         Err(refusal) => panic!(rt; "{}", refusal.name()),
     }
@@ -151,8 +153,8 @@ fn refusals_are_told(rt: HostRuntime) -> Result<(), Fail> {
         (
             "put 1 / begin: [w1] / refused 5 InFlight / refused 33 NotSweepable / value 61",
             "3 (4) a round is out / 4 (7) the extent can't be swept",
-            0,
         ),
+        0,
     )?;
     tells(
         &rt,
@@ -161,8 +163,8 @@ fn refusals_are_told(rt: HostRuntime) -> Result<(), Fail> {
         (
             "put 1 / begin: [w1] / refused 5 InFlight",
             "3 (4) a round is out",
-            1,
         ),
+        1,
     )
 }
 
@@ -177,7 +179,7 @@ fn a_lost_store_is_told(rt: HostRuntime) -> Result<(), Fail> {
         (
             "bad line / crash kept 0 of 0 / refused 1 DeviceFault",
             "1 (4) bad line: no such command / 2 (7) the device failed",
-            3,
         ),
+        3,
     )
 }
