@@ -5,10 +5,12 @@ import reader
 
 PAGE = reader.PAGE
 ROOT = 1
+# What a half is filled with once it was passed over.
+FENCE = b"\xff" * PAGE
 
 
 class Passed(NamedTuple):
-    """A page that isn't whole, that of its other copy, and the version that this one has."""
+    """A page that is neither whole nor a fence, that of its other copy, and the version that this one has."""
 
     page: int
     other: int
@@ -65,10 +67,10 @@ class Pairs:
             yield (own, own, twin) if self.version(own, own) > self.version(own, twin) else (own, twin, own)
 
     def passed(self):
-        """Of each pair the half that isn't whole beside one that is, but for zeros beside a first version."""
+        """Of each pair the half that is neither whole nor a fence, beside one that is whole."""
         for own, newest, other in self.newest():
             version = self.version(own, newest)
-            if version > 0 and self.version(own, other) == 0 and (version > 1 or any(self.page(other))):
+            if version > 0 and self.version(own, other) == 0 and self.page(other) != FENCE:
                 yield Passed(other, newest, version)
 
     def passed_over(self):

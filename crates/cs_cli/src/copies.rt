@@ -2,7 +2,7 @@
 ghost use Rattle.std.specs.Prelude.{◌≤◌};
 
 use crate::creates::{geometry_said, mode_given, plural_of, warn_of_format};
-use crate::files::{OverFile, Place, Read, Written, disk_to_read, new_disk};
+use crate::files::{OverFile, Place, Read, Written, disk_to_read, new_disk, sync_folder};
 use crate::manners::Manner;
 use crate::openings::{Shown, Unopened, open_typed};
 use crate::progress::Told;
@@ -237,12 +237,7 @@ fn fill<R: AllocGlobal + Clock + Files<File = File> + Eprint>(
 /// Gives a file its name, and syncs the folder, so that a crash leaves it so.
 fn name<R: Files<File = File>>(rt: &R, from: &str, to: &str) -> io::Result<()> {
     fs::rename(rt, from, to)?;
-    let folder = match to.rsplit_once('/') {
-        None => File::open(rt, ".")?,
-        Some(("", _)) => File::open(rt, "/")?,
-        Some((folder, _)) => File::open(rt, folder)?,
-    };
-    folder.sync_all()
+    sync_folder(rt, to)
 }
 
 /// Prints what was copied, and gives the exit status.

@@ -6,7 +6,7 @@ use cs_refusal::Refusal;
 use std::fs::File;
 use std::rt::Files;
 use std::time::{Clock, Duration};
-use std::{fs, thread};
+use std::{fs, io, thread};
 
 /// A file of a store, what it is opened for, and for how many seconds at most it is waited for.
 #[derive(Clone, Copy)]
@@ -117,4 +117,14 @@ pub fn emptied_disk<R: AllocGlobal + Files<File = File>>(
         Ok(disk) => Ok(disk),
         Err(_) => Err(Refusal::DeviceFault),
     }
+}
+
+/// Syncs the folder of a file, so that a crash leaves the file's name.
+pub fn sync_folder<R: Files<File = File>>(rt: &R, path: &str) -> io::Result<()> {
+    let folder = match path.rsplit_once('/') {
+        None => File::open(rt, ".")?,
+        Some(("", _)) => File::open(rt, "/")?,
+        Some((folder, _)) => File::open(rt, folder)?,
+    };
+    folder.sync_all()
 }

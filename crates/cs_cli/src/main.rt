@@ -6,6 +6,7 @@ mod command_lines;
 mod copies;
 mod creates;
 mod descriptors;
+mod fences;
 mod files;
 mod heads;
 mod inputs;

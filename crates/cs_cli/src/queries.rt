@@ -1,7 +1,8 @@
 //! The commands over the whole of a store in a file: `list`, `stat`, `scrub`, `reclaim`, `export`.
 ghost use Rattle.std.specs.Prelude.{◌≤◌};
 
-use crate::files::{OverFile, Place, Read, Written, disk_to_read, disk_to_write};
+use crate::fences::open_core_to_write;
+use crate::files::{OverFile, Place, Read, disk_to_read};
 use crate::manners::Manner;
 use crate::openings::{Opened, Shown, Unopened, open_core};
 use crate::progress::Told;
@@ -58,8 +59,10 @@ pub fn ask_file<R: AllocGlobal + Clock + Files<File = File> + Print + Eprint>(
         return explain(rt, Outcome::Failed, &Known::nothing(), manner.style);
     };
     if let Query::Reclaim(_) = query {
-        let opened = open_core::<Mounted<Written>, R>(rt, disk_to_write(rt, place));
-        return ask_opened(rt, opened, query, manner, &mut writer);
+        return match open_core_to_write(rt, place, manner.style) {
+            Ok(core) => ask_core(rt, core, &[], query, manner, &mut writer),
+            Err(unopened) => explain_unopened(rt, &unopened, manner.style),
+        };
     }
     if older {
         let opened = open_core::<AsOf<Mounted<Read>>, R>(rt, disk_to_read(rt, place));
@@ -93,9 +96,22 @@ fn ask_opened<E: Shown + Drop, R: AllocGlobal + Clock + Eprint, W: Write>(
         findings,
         ..
     } = opened;
-    let mut core = store;
+    ask_core(rt, store, &findings, query, manner, writer)
+}
+
+/// Asks a store of whose pages this was found, and gives the exit status.
+fn ask_core<E: Shown + Drop, R: AllocGlobal + Clock + Eprint, W: Write>(
+    rt: &R,
+    mut core: Core<E>,
+    findings: &[Finding],
+    query: Query,
+    manner: Manner,
+    writer: &mut W,
+) -> u8
+    ensures { result ≤ 7 }
+{
     let told = Told::new(rt, manner);
-    let outcome = ask(rt.alloc(), &mut core, &findings, query, &told, writer);
+    let outcome = ask(rt.alloc(), &mut core, findings, query, &told, writer);
     let known = Known::of_system(core.into_disk().into_below().fault());
     explain(rt, outcome, &known, manner.style)
 }

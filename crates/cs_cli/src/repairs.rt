@@ -1,8 +1,8 @@
 //! The command `scrub --repair`.
 ghost use Rattle.std.specs.Prelude.{◌≤◌};
 
+use crate::fences::open_kept;
 use crate::files::{OverFile, Place, Written, disk_to_write};
-use crate::kept_pages::keep_pages;
 use crate::manners::Manner;
 use crate::openings::{Opened, Shown, Unopened, open_core};
 use crate::progress::Told;
@@ -79,29 +79,14 @@ fn mended<R: AllocGlobal + Files<File = File> + Eprint>(
     } = opened;
     let core = match loss {
         Loss::Stops => store,
-        Loss::Accepted => kept(rt, place, store, &findings, manner)?,
+        Loss::Accepted => {
+            let disk = store.into_disk().into_below();
+            open_kept(rt, place.path, disk, &findings, manner.style)?
+        }
     };
     match mend(core) {
         Ok(disk) => reopened(rt, Core::open(rt.alloc(), disk, LIMITS), findings),
         Err(refused) => reopened(rt, Err(refused), findings),
-    }
-}
-
-/// The store, after each of its damaged pages was kept.
-fn kept<R: AllocGlobal + Files<File = File> + Eprint>(
-    rt: &R,
-    place: Place,
-    core: Core<Mounted<Written>>,
-    findings: &[Finding],
-    manner: Manner,
-) -> Result<Core<Mounted<Written>>, Unopened> {
-    let mut disk = core.into_disk().into_below();
-    if !keep_pages(rt, place.path, &mut disk, findings, manner.style) {
-        return Err(Unopened::of_outcome(rt.alloc(), Outcome::MayBeLost, disk.fault()));
-    }
-    match Mounted::<Written>::open_core(rt.alloc(), disk) {
-        Ok((core, _)) => Ok(core),
-        Err((refusal, mut disk)) => Err(Unopened::of_disk(rt.alloc(), refusal, &mut disk)),
     }
 }
 

@@ -1,6 +1,7 @@
 //! The command `run`.
 ghost use Rattle.std.specs.Prelude.{◌≤◌};
 
+use crate::fences::open_core_to_write;
 use crate::files::{Place, Written, disk_to_write, emptied_disk};
 use crate::lefts::{Left, left_in, tell_left};
 use crate::manners::Manner;
@@ -125,8 +126,10 @@ fn in_old_file<R: AllocGlobal + Clock + Files<File = File> + Eprint>(
     place: Place,
     manner: Manner,
 ) -> Result<Core<Mounted<Written>>, Refusal> {
-    let opened = open_core::<Mounted<Written>, R>(rt, disk_to_write(rt, place));
-    core_told(rt, opened, manner)
+    match open_core_to_write(rt, place, manner.style) {
+        Ok(core) => Ok(core),
+        Err(unopened) => untold(rt, &unopened, manner),
+    }
 }
 
 /// The store in a file that is there, as of the newest root that is whole. The file is opened for reading alone.
@@ -154,11 +157,18 @@ fn core_told<E: Shown + Drop, R: AllocGlobal + Eprint>(
             warn_of(rt, &opened, commands, manner.style);
             Ok(opened.store)
         }
-        Err(unopened) => {
-            tell_unopened(rt, &unopened, manner.style);
-            Err(refusal_in(unopened.outcome))
-        }
+        Err(unopened) => untold(rt, &unopened, manner),
     }
+}
+
+/// No store, by the refusal for which it wasn't opened, after that was explained.
+fn untold<T, R: AllocGlobal + Eprint>(
+    rt: &R,
+    unopened: &Unopened,
+    manner: Manner,
+) -> Result<T, Refusal> {
+    tell_unopened(rt, unopened, manner.style);
+    Err(refusal_in(unopened.outcome))
 }
 
 /// The refusal that a script prints of a store that isn't opened.

@@ -1,7 +1,8 @@
 //! The commands over one shard of a store in a file: `get`, `put`, `del`.
 ghost use Rattle.std.specs.Prelude.{◌≤◌, IfErr};
 
-use crate::files::{OverFile, Place, Read, Written, disk_to_read, disk_to_write};
+use crate::fences::open_typed_to_write;
+use crate::files::{OverFile, Place, Read, Written, disk_to_read};
 use crate::inputs::bytes_left;
 use crate::manners::Manner;
 use crate::openings::{Opened, Shown, Unopened, open_typed};
@@ -76,6 +77,20 @@ fn store_of<E: Shown + Drop, R: AllocGlobal + Eprint>(
     }
 }
 
+/// The typed store in a file, to be written; or the exit status if it isn't opened.
+fn store_to_write<R: AllocGlobal + Clock + Files<File = File> + Eprint>(
+    rt: &R,
+    place: Place,
+    manner: Manner,
+) -> Result<Store<Mounted<Written>>, u8>
+    ensures { IfErr result (λ status. status ≤ 7) }
+{
+    match open_typed_to_write(rt, place, manner.style) {
+        Ok(store) => Ok(store),
+        Err(unopened) => Err(explain_unopened(rt, &unopened, manner.style)),
+    }
+}
+
 /// Prints how a command over a store ended, with what the operating system said where the disk failed, and gives the exit status.
 fn explain_over<E: Shown + Drop, R: Eprint>(
     rt: &R,
@@ -100,8 +115,7 @@ where
     R::Reader: Drop,
     ensures { result ≤ 7 }
 {
-    let opened = open_typed::<Mounted<Written>, R>(rt, disk_to_write(rt, place));
-    let mut store = match store_of(rt, opened, manner) {
+    let mut store = match store_to_write(rt, place, manner) {
         Ok(store) => store,
         Err(status) => return status,
     };
@@ -130,8 +144,7 @@ pub fn delete_from_file<R: AllocGlobal + Clock + Files<File = File> + Eprint>(
 ) -> u8
     ensures { result ≤ 7 }
 {
-    let opened = open_typed::<Mounted<Written>, R>(rt, disk_to_write(rt, place));
-    let mut store = match store_of(rt, opened, manner) {
+    let mut store = match store_to_write(rt, place, manner) {
         Ok(store) => store,
         Err(status) => return status,
     };

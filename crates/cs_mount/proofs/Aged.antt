@@ -96,7 +96,8 @@ aged pages image d root s some is shows =
     ap (lowered_state d root) shows ∙ ap (λ r. record { durable = as_of (Some d) r (shown_on pages image); volatile = [] }) is
     ∙ ap (λ (o : Option Dimensions). record { durable = as_of o (newest_root pages image) (shown_on pages image); volatile = [] }) (sym some)
 
--- It is what is opened, by the steps of an opening: `was` is what the disk holds behind the reads, `n` the number of its pages then.
+-- It is what is opened, by the steps of an opening: `was` is what the disk holds behind the reads, `n` the number of
+-- its pages then.
 pub aged_behind : (pages n : ℕ) (s was b : State) (d g : Dimensions) (root r : ℕ) (found : List Finding) → IsGeometry d.format d.extents d.pages d.sections → Some d ≡ dimensions_on pages (seen s) → pages_of d ≡ pages → length s.durable ≡ pages → 10 ≤ pages
     → n ≡ pages → was ≡ s → found ≡ findings_on n (seen was) → root ≡ root_found found → g ≡ d → r ≡ root → b ≡ record { durable = shown_on n (seen was); volatile = [] }
     → lowered_state g r b ≡ record { durable = older_on pages (seen s); volatile = [] }

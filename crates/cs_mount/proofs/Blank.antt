@@ -64,13 +64,13 @@ new_shows V d s g durable none =
 no_digit : slice_index zeros 3 ≡ 0
 no_digit = get_or-replicate 4096 3 0 0 (omega arith)
 
-no_section : (format : ℕ) → superblock_fault format zeros ≡ None → ⊥
+pub no_section : (format : ℕ) → superblock_fault format zeros ≡ None → ⊥
 no_section format none = let fourth = superblocks.fourth_is format zeros none in omega (arith, fourth, no_digit)
 
-no_first : page_zero_fault zeros ≡ None → ⊥
+pub no_first : page_zero_fault zeros ≡ None → ⊥
 no_first none = ⊎_elim (λ (first : first_format_fault zeros ≡ None). let fourth = frames.fourth_is zeros first in omega (arith, fourth, no_digit)) (no_section (zero_format zeros)) (frames.zero_is_one zeros none)
 
-says_none : (n : ℕ) → first_says n zeros ≡ None
+pub says_none : (n : ℕ) → first_says n zeros ≡ None
 says_none n = by_fault (superblock_fault 3 zeros) refl
   where
     by_fault : (o : Option FormatFault) → superblock_fault 3 zeros ≡ o → last_says n o zeros ≡ None

@@ -1,5 +1,5 @@
 -- What page 0 holds, where it is the first section of a store.
-use Rattle.std.proofs.Common.{◌≡◌, ◌∙◌, ◌↔◌, List, Bool, false, Option, Some, None, is_some, IsTrue, ap, ℕ}
+use Rattle.std.proofs.Common.{◌≡◌, ◌↔◌, List, Bool, false, Option, Some, None, is_some, IsTrue, ℕ}
 use Rattle.cs_frame.specs.declared.superblocks.Superblock.{Superblock}
 use Rattle.cs_frame.specs.FirstFormat.{page_zero_fault}
 use Rattle.cs_mount.proofs.Spelling.{zero_reads}

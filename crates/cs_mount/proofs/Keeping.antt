@@ -1,5 +1,5 @@
 -- Whatever is written by way of a store's disk in pairs, it is that of the store which page 0 shows.
-use Rattle.std.proofs.Common.{◌≡◌, inl, ⊎_elim, if◌then◌else◌, ◌==◌, ◌&&◌, not, ℕ, zero, suc, ◌+◌, ◌-◌, ◌<◌, ◌≤◌, Bool, true, false, List, [], Option, Some, None, Contains, IfSome, slice_get, slice_index, length, map, nat_le, refl, sym, ◌∙◌, ap, subst, arith, eq-eqb}
+use Rattle.std.proofs.Common.{◌≡◌, ◌≢◌, inl, ⊎_elim, if◌then◌else◌, ◌==◌, ◌&&◌, not, ℕ, zero, suc, ◌+◌, ◌-◌, ◌<◌, ◌≤◌, Bool, true, false, List, [], Option, Some, None, Contains, IfSome, slice_get, slice_index, length, map, nat_le, refl, sym, ◌∙◌, ap, subst, arith, eq-eqb}
 use Rattle.std.proofs.lemmas.Bool.{eqb-true}
 use Rattle.std.proofs.lemmas.Bool.Decides.{nat_tests}
 use Rattle.std.specs.List.{range_with_len}
@@ -13,10 +13,11 @@ use Rattle.cs_twin.specs.Kept.{AreAllowed}
 use Rattle.cs_mount.specs.OfStores.{IsOfStore, is_allowed}
 use Rattle.cs_twin.specs.Pairs.{ArePairs, AreNoOlder, Versions, half, held_in, is_turned, shown, shown_page, version_at}
 use Rattle.cs_mount.specs.StorePairs.{dimensions_on, first_says, pages_of, pairs_where, section_version, store_pair, store_pairs, store_version}
-use Rattle.cs_twin.specs.Tears.{IsLeft, IsUnpaired, MayTear}
-use Rattle.cs_mount.proofs.Refinding.{IsWrite, by_turned, first_pair, left_at, older, told_alike}
+use Rattle.cs_twin.specs.Tears.{IsLeft, IsUnpaired}
+use Rattle.cs_mount.proofs.Refinding.{IsWrite, by_turned, fence_damaged, first_pair, left_at, older, told_alike}
 use Rattle.cs_twin.proofs.Roles.{IsOwn, shown_page-none, shown_page-own}
 use Rattle.cs_twin.proofs.Shown.{page-shown}
+use Rattle.cs_twin.proofs.Tearing.{MaySpoil}
 use Rattle.cs_mount.proofs.Telling.{found_by_zero, last_found, said_found, said_third, says_version, version_says, zero_says}
 
 -- a crash image has of each page what some of the writes leave
@@ -33,6 +34,14 @@ no_less a b test = grind (arith, nat_tests)
 pub not_both : (o : Option Dimensions) (e : Dimensions) → o ≡ None → o ≡ Some e → ⊥
 not_both None e none some = cc
 not_both (Some d) e none some = cc
+
+-- where page 0 isn't whole, what the last page says is found
+damaged_last : (n : ℕ) (image : Image) → page_zero_fault (page image 0) ≢ None → dimensions_on n image ≡ first_says n (page image (n - 1))
+damaged_last n image damaged = by_fault (page_zero_fault (page image 0)) refl
+  where
+    by_fault : (o : Option FormatFault) → page_zero_fault (page image 0) ≡ o → dimensions_on n image ≡ first_says n (page image (n - 1))
+    by_fault None whole = absurd (damaged whole)
+    by_fault (Some fault) is = last_found n image fault is
 
 -- ---- page 0 is in no pair
 
@@ -91,7 +100,7 @@ module _ (d : Dimensions) (three : d.format ≡ 3) (s : State) (c : Image) (are 
   there : slice_get (store_pairs d) 0 ≡ Some x
   there = first_pair d three
 
-  tear : MayTear V (store_pairs d) s c
+  tear : MaySpoil V (store_pairs d) s c
   tear = record { size = same_size s c left; each = λ p inside. inl (is_left s c p left) }
 
   pair_shows : (image : Image) → length image ≡ length s.durable → page (shown V (store_pairs d) image) 0 ≡ page image (half x (is_turned V image x))
@@ -103,7 +112,7 @@ module _ (d : Dimensions) (three : d.format ≡ 3) (s : State) (c : Image) (are 
   as_it_was : (twin : Bool) → is_turned V s.durable x ≡ twin → page c (half x twin) ≡ page s.durable (half x twin)
   as_it_was twin turned = ⊎_elim
       (λ (same : page c (half x twin) ≡ page s.durable (half x twin)). same)
-      (λ (w : IsWrite s (half x twin) (page c (half x twin))). absurd ((newer 0 w.place x w.write there w.at twin w.goes).0 (sym turned)))
+      (λ (w : IsWrite s (half x twin) (page c (half x twin))). absurd ((newer.each 0 w.place x w.write there w.at twin w.goes).0 (sym turned)))
       (left_at s (half x twin) (page c (half x twin)) (are.inside 0 x twin there) (is_left s c (half x twin) left))
 
   turned_newer : (image : Image) → is_turned V image x ≡ true → version_at V image x false ≤ version_at V image x true
@@ -161,10 +170,9 @@ module _ (d : Dimensions) (three : d.format ≡ 3) (s : State) (c : Image) (are 
                 (λ (own : page c 0 ≡ page s.durable 0). told_alike (pages_of d) c s.durable own twin ∙ was.1)
                 (λ (w : IsWrite s 0 (page c 0)).
                 let bytes = ap (section_version d 0) w.is in
-                let at_most : section_version d 0 (page c 0) ≡ version_at V s.durable x (is_turned V s.durable x) = omega (arith, newest, durable, same, le, none) in
-                let is : w.write.1 ≡ page s.durable (half x (is_turned V s.durable x)) = (newer 0 w.place x w.write there w.at false w.goes).2 (sym bytes ∙ at_most) in
-                let again : page c 0 ≡ page (shown V (store_pairs d) c) 0 = w.is ∙ is ∙ ap (λ (b : Bool). page s.durable (half x b)) turned ∙ sym twin ∙ sym shown_now in
-                said_found (pages_of d) c e (ap (first_says (pages_of d)) again ∙ says))
+                let hollow : section_version d 0 w.write.1 ≡ 0 = omega (arith, newest, le, none, bytes) in
+                let damaged = fence_damaged (page c 0) (w.is ∙ (newer.each 0 w.place x w.write there w.at false w.goes).2 hollow) in
+                damaged_last (pages_of d) c damaged ∙ ap (first_says (pages_of d)) (sym shown_now) ∙ says)
                 (left_at s 0 (page c 0) (are.inside 0 x false there) (is_left s c 0 left)),
           )
 

@@ -15,3 +15,16 @@ pub mod Aged
 pub mod Looking
 pub mod Opened
 pub mod Torn
+pub mod Laying
+pub mod NewPages
+pub mod Halves
+pub mod Laid
+pub mod NewShown
+pub mod NewOn
+pub mod NewRead
+pub mod Once
+pub mod NewStore
+pub mod Steps
+pub mod Cleared
+pub mod NewMade
+pub mod Sectored

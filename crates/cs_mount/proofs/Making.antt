@@ -1,9 +1,7 @@
 -- What is written of a new store is taken by a device that is free, and 1 is then an answer of the device.
-use Rattle.std.proofs.Common.{◌≡◌, ◌≢◌, ◌⊎◌, inl, inr, ⊎_elim, if◌then◌else◌, ◌==◌, ◌&&◌, ◌^◌, ℕ, ◌+◌, ◌-◌, ◌*◌, ◌<◌, ◌≤◌, Bool, true, false, not, min, List, [], Option, Some, slice_get, slice_index, replicate, refl, sym, ◌∙◌, ap, subst, arith, eq-eqb}
-use Rattle.std.specs.Prelude.{Contains}
-use Rattle.std.proofs.lemmas.Bool.{cases_eq, cases_lt, ne_eqb}
+use Rattle.std.proofs.Common.{◌≡◌, ◌≢◌, ◌⊎◌, inl, inr, ⊎_elim, if◌then◌else◌, ◌==◌, ◌&&◌, ◌^◌, ℕ, ◌+◌, ◌-◌, ◌*◌, ◌<◌, ◌≤◌, Bool, true, false, not, min, List, [], Option, Some, slice_get, slice_index, refl, sym, ◌∙◌, ap, subst, arith}
+use Rattle.std.proofs.lemmas.Bool.{cases_eq, ne_eqb}
 use Rattle.std.proofs.lemmas.Bool.Decides.{nat_tests}
-use Rattle.std.proofs.lemmas.Option.{get_or_from_slice_get, slice_get_within}
 use Rattle.cs_refusal.specs.Refusals.{number_of}
 use Rattle.cs_refusal.specs.declared.refusals.Refusal.{Refusal}
 use Rattle.cs_refusal.specs.declared.refusals.Refusal.TheVariants.{DeviceFault}
@@ -11,17 +9,14 @@ use Rattle.cs_disk.specs.declared.fault.DiskFault.{DiskFault}
 use Rattle.cs_disk.specs.declared.fault.DiskFault.TheVariants as disk
 use Rattle.cs_disk.specs.Disk.{Image, Rises}
 use Rattle.cs_disk.specs.Faults.{disk_fault_number}
-use Rattle.cs_frame.specs.Geometries.{Dimensions, IsGeometry, section_length}
-use Rattle.cs_frame.specs.Roots.{SpellsRoot}
+use Rattle.cs_frame.specs.Geometries.{Dimensions, IsGeometry}
 use Rattle.cs_frame.specs.Superblocks.{SpellsSuperblock}
 use Rattle.cs_frame.proofs.SuperblockLaws as superblocks
 use Rattle.cs_twin.specs.declared.pairs.Pair.{Pair}
 use Rattle.cs_twin.specs.Kept.{TakesWrite}
-use Rattle.cs_twin.specs.Pairs.{IsNewer, held_in}
 use Rattle.cs_twin.specs.Tears.{IsUnpaired}
 use Rattle.cs_mount.specs.OfStores.{is_allowed}
-use Rattle.cs_mount.specs.StorePairs.{pages_of, root_version, section_at, section_version, store_pair, store_pairs, store_version}
-use Rattle.cs_mount.proofs.Spelling.{root_read, section_read}
+use Rattle.cs_mount.specs.StorePairs.{pages_of, store_pair, store_pairs, store_version}
 use Rattle.cs_mount.proofs.Twins.{made_at, total_pages, unlisted}
 use Rattle.cs_mount.proofs.Unpaired.{listed_pairs, pair_there}
 
@@ -36,14 +31,8 @@ not_and : (b : Bool) → not (b && false) ≡ true
 not_and true = refl
 not_and false = refl
 
-section_there : (F j : ℕ) → (if (if j == 0 then 0 else 1 + F + j) == 0 then 0 else (if j == 0 then 0 else 1 + F + j) - (1 + F)) ≡ j
-section_there F j = grind (arith, nat_tests)
-
 page_below : (F S j : ℕ) → j < S → (if j == 0 then 0 else 1 + F + j) ≤ F + S
 page_below F S j lt = grind (arith, nat_tests)
-
-page_not_root : (F j : ℕ) → (if j == 0 then 0 else 1 + F + j) ≢ 1
-page_not_root F j = grind (arith, nat_tests)
 
 page_other : (F j : ℕ) → (j ≡ 0 → ⊥) → (if j == 0 then 0 else 1 + F + j) ≢ 0
 page_other F j some = grind (arith, nat_tests)
@@ -63,19 +52,6 @@ module _ (d : Dimensions) (g : IsGeometry d.format d.extents d.pages d.sections)
           let total = total_pages d three in
           omega (arith, le, made.0, twin, total, same)
 
-  -- the version of a new section, and of a new root
-  section_first : (j : ℕ) (bytes : List ℕ) (rows : List (ℕ × ℕ)) → SpellsSuperblock bytes d.format 1 0 d.extents d.pages d.sections j rows → store_version (Some d) (section_page d j) bytes ≡ 1
-  section_first j bytes rows spelled =
-      let p = section_page d j in
-      let all : true ≡ (d.extents == d.extents && d.pages == d.pages && d.sections == d.sections && j == j) =
-      let a = eq-eqb d.extents d.extents refl in let b = eq-eqb d.pages d.pages refl in let e = eq-eqb d.sections d.sections refl in let i = eq-eqb j j refl in cc in
-      ap (λ (b : Bool). if b then root_version d.format bytes else section_version d (section_at d p) bytes) (ne_eqb p 1 (page_not_root (d.extents * d.pages) j))
-      ∙ ap (λ n. section_version d n bytes) (section_there (d.extents * d.pages) j)
-      ∙ sym (section_read bytes d d.format 1 0 d.extents d.pages d.sections j j rows spelled true refl all refl)
-
-  root_first : (bytes : List ℕ) → SpellsRoot bytes d.format 1 0 [] → store_version (Some d) 1 bytes ≡ 1
-  root_first bytes spelled = sym (root_read bytes d.format d.format 1 0 [] spelled refl)
-
   -- on a page of no pair a new section may be written
   section_may : (j : ℕ) (bytes : List ℕ) (rows : List (ℕ × ℕ)) → SpellsSuperblock bytes d.format 1 0 d.extents d.pages d.sections j rows → IsUnpaired (store_pairs d) (section_page d j)
       → is_allowed (section_page d j) bytes ≡ true
@@ -91,29 +67,27 @@ module _ (d : Dimensions) (g : IsGeometry d.format d.extents d.pages d.sections)
       by_format first (inr three) =
           absurd (alone 0 (store_pair d 0) false (pair_there d g three 0 (omega arith)) (ap (section_page d) first))
 
-  module _ (image : Image) (free : (x : Pair) → Contains (store_pairs d) x → 0 < (held_in (store_version (Some d)) image x).version → ⊥) where
-    -- bytes of version 1 are newer than a pair that holds none
-    newer_first : (p : ℕ) (bytes : List ℕ) → store_version (Some d) p bytes ≡ 1 → (k : ℕ) (x : Pair) → slice_get (store_pairs d) k ≡ Some x → p ≡ x.page → IsNewer (store_version (Some d)) image x bytes
-    newer_first p bytes first k x at here =
-        let inside = slice_get_within (store_pairs d) k x at in
-        let one : store_version (Some d) x.page bytes ≡ 1 = ap (λ q. store_version (Some d) q bytes) (sym here) ∙ first in
-        ⊎_elim
-        (λ (some : 0 < (held_in (store_version (Some d)) image x).version). absurd (free x (k, inside, get_or_from_slice_get (store_pairs d) k x x at) some))
-        (λ (none : (held_in (store_version (Some d)) image x).version ≤ 0). omega (arith, none, one))
-        (cases_lt 0 (held_in (store_version (Some d)) image x).version)
+  module _ (image : Image) (two : d.format ≡ 2) where
+    -- before format 3 there are no pairs
+    none_there : (k : ℕ) (x : Pair) → slice_get (store_pairs d) k ≡ Some x → ⊥
+    none_there k x at =
+        let none : store_pairs d ≡ [] = sym (unlisted d [] (λ three. omega (arith, two, three)) refl) in
+        nothing k x (ap (λ (l : List Pair). slice_get l k) (sym none) ∙ at)
 
     pub takes_section : (j : ℕ) (bytes : List ℕ) (rows : List (ℕ × ℕ)) → j < d.sections → SpellsSuperblock bytes d.format 1 0 d.extents d.pages d.sections j rows
         → TakesWrite (store_version (Some d)) is_allowed (store_pairs d) image (section_page d j) bytes
     takes_section j bytes rows lt spelled = record {
       shown = not_twin (section_page d j) (page_below (d.extents * d.pages) d.sections j lt);
-      newer = newer_first (section_page d j) bytes (section_first j bytes rows spelled);
+      newer = λ k x at here. absurd (none_there k x at);
+      fenced = λ k x at here. absurd (none_there k x at);
       may = section_may j bytes rows spelled;
     }
 
-    pub takes_root : (bytes : List ℕ) → SpellsRoot bytes d.format 1 0 [] → TakesWrite (store_version (Some d)) is_allowed (store_pairs d) image 1 bytes
-    takes_root bytes spelled = record {
+    pub takes_root : (bytes : List ℕ) → TakesWrite (store_version (Some d)) is_allowed (store_pairs d) image 1 bytes
+    takes_root bytes = record {
       shown = not_twin 1 (let some = g.fewest_sections in omega (arith, some));
-      newer = newer_first 1 bytes (root_first bytes spelled);
+      newer = λ k x at here. absurd (none_there k x at);
+      fenced = λ k x at here. absurd (none_there k x at);
       may = λ alone. refl;
     }
 
@@ -125,7 +99,8 @@ takes_behind d geometry pairs image now p bytes its are same takes =
     (subst (λ (l : List Pair). TakesWrite (store_version (Some d)) is_allowed l now p bytes) (sym are)
     (subst (λ (i : Image). TakesWrite (store_version (Some d)) is_allowed (store_pairs d) i p bytes) (sym same) takes))
 
--- Where a disk refused nothing itself, a failure that it counted is one of the disk below: of a count that is at its end, too.
+-- Where a disk refused nothing itself, a failure that it counted is one of the disk below: of a count that is at its
+-- end, too.
 pub caused_below : (before start now refused later : ℕ) → before ≤ start → refused ≡ 0 → later ≡ refused → Rises (min (start + refused) (2 ^ 64 - 1)) (min (now + later) (2 ^ 64 - 1)) → Rises before now
 caused_below before start now refused later le none same rises = omega (arith, le, none, same, rises)
 

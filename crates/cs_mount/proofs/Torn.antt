@@ -1,15 +1,15 @@
 -- Torn crashes of stores over disks in pairs.
-use Rattle.std.proofs.Common.{◌≡◌, inl, inr, ℕ, ◌+◌, ◌<◌, Bool, true, false, Option, Some, List, [], ◌∷◌, length, replicate, refl, sym, ◌∙◌, ap, subst, arith, ◌==◌, ◌&&◌, eq-eqb}
+use Rattle.std.proofs.Common.{◌≡◌, ◌≢◌, ◌⊎◌, inl, inr, ⊎_elim, ℕ, ◌+◌, ◌<◌, Bool, true, false, Option, Some, None, List, [], ◌∷◌, length, replicate, slice_get, slice_index, refl, sym, ◌∙◌, ap, subst, arith, ◌==◌, ◌&&◌, eq-eqb}
 use denote.Struct.Props.{props}
 use Rattle.std.proofs.Math.Logic.{∥∥₁_elim}
-use Rattle.std.proofs.lemmas.List.{length-replicate}
+use Rattle.std.proofs.lemmas.List.{ext_get_or, length-replicate}
 use Rattle.cs_core.proofs.TornCrashes.{torn_now}
 use Rattle.cs_core.specs.Meanings.{commands_said}
 use Rattle.cs_core.specs.Views.{IsCore, View}
 use Rattle.cs_disk.specs.declared.disk.PageDisk.{Ghosts as PageDisk}
 use Rattle.cs_disk.specs.Disk.{Image, MayLeave, State as DiskState, Write, applied, kept, page}
 use Rattle.cs_core.specs.cs_extent.State.{shape}
-use Rattle.cs_frame.specs.FirstFormat.{SpellsPageZero}
+use Rattle.cs_frame.specs.FirstFormat.{SpellsPageZero, page_zero_fault}
 use Rattle.cs_frame.specs.Formats.{formats_of}
 use Rattle.cs_frame.specs.Geometries.{Dimensions, IsGeometry, section_size}
 use Rattle.cs_reader.proofs.Readable.{section_spelled}
@@ -19,10 +19,16 @@ use Rattle.law_machine.specs.Recovery.{Recovers}
 use Rattle.law_machine.specs.State.{map_after}
 use Rattle.cs_twin.specs.declared.pairs.Pair.{Pair}
 use Rattle.cs_mount.specs.OfStores.{IsOfStore}
-use Rattle.cs_twin.specs.Pairs.{AreNoOlder, shown, shown_state}
+use Rattle.cs_twin.specs.Fences.{AreOverKnown, AreWhole, AreWrittenOnce, IsGuarded, IsWholeOrFence}
+use Rattle.cs_twin.specs.Pairs.{AreNoOlder, Versions, shown, shown_state}
+use Rattle.cs_twin.specs.Tears.{IsLeft, IsMixed, MixesTwo}
+use Rattle.cs_twin.proofs.Mixing.{left_durable, tear_spoils}
+use Rattle.cs_twin.proofs.Shown.{IsLast, latest_of}
+use Rattle.cs_twin.proofs.Tearing.{MaySpoil}
 use Rattle.cs_mount.specs.Showing.{shown_on}
-use Rattle.cs_mount.specs.StorePairs.{dimensions_on, pages_of, pairs_where, section_version, store_pairs, store_version}
-use Rattle.cs_mount.proofs.Refinding.{shows_again}
+use Rattle.cs_mount.specs.StorePairs.{dimensions_on, pages_of, pairs_where, section_version, store_pair, store_pairs, store_version}
+use Rattle.cs_mount.proofs.Once.{core_once, core_whole}
+use Rattle.cs_mount.proofs.Refinding.{first_pair, shows_again}
 use Rattle.cs_mount.proofs.Spelling.{section_read}
 use Rattle.cs_mount.proofs.Telling.{version_says}
 use Rattle.cs_mount.proofs.Unpaired.{torn_store_shows}
@@ -49,22 +55,54 @@ first_whole d bytes version recorded rows three (inl spells) =
     all_true a b c e first second third fourth = cc
 first_whole d bytes version recorded rows three (inr first) = absurd (omega (arith, three, first.written_in))
 
+-- a page to which no write waits mixes nothing
+mixes_none : (s : DiskState) (p : ℕ) (bytes : List ℕ) → ((i : ℕ) (w : Write) → slice_get s.volatile i ≡ Some w → w.0 ≡ p → ⊥) → IsMixed s p bytes → bytes ≡ page s.durable p
+mixes_none s p bytes none mixed = ext_get_or 0 bytes (page s.durable p) mixed.size (λ i lt. from i (mixed.each i lt))
+  where
+    from : (i : ℕ) → (slice_index bytes i ≡ slice_index (page s.durable p) i) ⊎ ((k : ℕ) × (w : Write) × (slice_get s.volatile k ≡ Some w) × (w.0 ≡ p) × (slice_index bytes i ≡ slice_index w.1 i)) → slice_index bytes i ≡ slice_index (page s.durable p) i
+    from i (inl same) = same
+    from i (inr w) = absurd (none w.0 w.1 w.2 w.3)
+
 -- an image that recovers has it so
 recovered_whole : (d : Dimensions) (image : Image) (n : ℕ) (m : Map) → IsGeometry d.format d.extents d.pages d.sections → d.format ≡ 3
     → (let S = shape_of d.extents d.pages d.sections (section_size d.extents d.sections) d.format in Recovers S (formats_of S) (page image) n m → 0 < section_version d 0 (page image 0))
 recovered_whole d image n m g three r =
     first_whole d (page image 0) _ _ _ three (section_spelled d.format d.extents d.pages d.sections g (page image) n m r 0 g.fewest_sections)
 
+-- Each page waits over a half that is whole or a fence, and each pair is written once. So page 0 is what some of the
+-- writes leave, or it is whole in no format.
+pub first_told : (s : DiskState) (image : Image) (e : Dimensions) → e.format ≡ 3 → AreNoOlder (store_version (Some e)) (store_pairs e) s → AreOverKnown (store_version (Some e)) (store_pairs e) s → AreWrittenOnce (store_pairs e) s
+    → MayTearStore e s image → IsLeft s 0 (page image 0) ⊎ (page_zero_fault (page image 0) ≢ None)
+first_told s image e of_three newer known once tear = ⊎_elim
+    (λ (mixed : IsMixed s 0 (page image 0)). ⊎_elim
+    (λ (last : IsLast s.volatile 0). tear.told (mixes_first last) mixed)
+    (λ (none : (i : ℕ) (w : Write) → slice_get s.volatile i ≡ Some w → w.0 ≡ 0 → ⊥). inl (left_durable s 0 (page image 0) (mixes_none s 0 (page image 0) none mixed)))
+    (latest_of s.volatile 0))
+    (λ (damaged : page_zero_fault (page image 0) ≢ None). inr damaged)
+    tear.mixed
+  where
+    mixes_first : IsLast s.volatile 0 → MixesTwo (store_version (Some e)) (store_pairs e) s 0
+    mixes_first last = record {
+      one_write = λ i j v w at_i at_j goes also. once 0 i j (store_pair e 0) v w false false (first_pair e of_three) at_i at_j goes also;
+      durable = λ k y twin at is. subst (λ q. IsWholeOrFence (store_version (Some e)) y.page (page s.durable q)) (sym is) (known k last.place y last.write twin at last.at (last.goes ∙ is));
+      written = λ i w at_i goes k y twin at is. (newer.each k i y w at at_i twin (goes ∙ is)).2;
+    }
+
+-- pages that are whole, over halves of pairs that are guarded
+pub known_of : (V : Versions) (pairs : List Pair) (s : DiskState) → IsGuarded V pairs s → AreWhole V pairs s → AreOverKnown V pairs s
+known_of V pairs s guarded whole k i x w twin at at_i goes = guarded k i x w twin twin at at_i goes (whole k i x w twin at at_i goes)
+
 module _ {D : Type 0} (disks : PageDisk D) (v : View D) (core : IsCore disks v) (honest : disks.honest v.disk) (sized : length (disks.state v.disk).durable ≡ disks.page_count v.disk) (three : v.store.extents.format ≡ 3)
     (s : DiskState) (image : Image) where
   torn_in_pairs : IsGeometry v.store.extents.format (length v.store.extents.written) v.store.extents.pages v.store.extents.sections → disks.state v.disk ≡ shown_state (store_version (Some (dimensions_of v.store.extents))) (store_pairs (dimensions_of v.store.extents)) s
-      → length s.durable ≡ pages_of (dimensions_of v.store.extents) → AreNoOlder (store_version (Some (dimensions_of v.store.extents))) (store_pairs (dimensions_of v.store.extents)) s → MayTearStore (dimensions_of v.store.extents) s image
+      → length s.durable ≡ pages_of (dimensions_of v.store.extents) → AreNoOlder (store_version (Some (dimensions_of v.store.extents))) (store_pairs (dimensions_of v.store.extents)) s
+      → MaySpoil (store_version (Some (dimensions_of v.store.extents))) (store_pairs (dimensions_of v.store.extents)) s image → IsLeft s 0 (page image 0) ⊎ (page_zero_fault (page image 0) ≢ None)
       → dimensions_on (pages_of (dimensions_of v.store.extents)) s.durable ≡ Some (dimensions_of v.store.extents) → ((c : Image) → MayLeave (disks.state v.disk) c → IsPrefix (shape v.store.extents) (page v.opened) (commands_said v.history) v.store.frontier v.store.accepted c)
       → IsPrefix (shape v.store.extents) (page v.opened) (commands_said v.history) v.store.frontier v.store.accepted (shown_on (pages_of (dimensions_of v.store.extents)) image)
-  torn_in_pairs g shows length_is newer tear before left count start recovers undamaged =
+  torn_in_pairs g shows length_is newer spoils first before left count start recovers undamaged =
       let e = dimensions_of v.store.extents in
       let V = store_version (Some e) in
-      let torn = torn_store_shows e g three V s image length_is newer tear.tears in
+      let torn = torn_store_shows e g three V s image length_is newer spoils in
       let near = subst (λ (z : DiskState). MayLeave z torn.0) (sym shows) torn.1 in
       let from : IsTornFrom (shape v.store.extents) (disks.state v.disk) torn.0 (shown V (store_pairs e) image) =
       subst (λ (z : DiskState). IsTornFrom (shape v.store.extents) z torn.0 (shown V (store_pairs e) image)) (sym shows) (record { size = torn.2.size; each = torn.2.each }) in
@@ -72,15 +110,16 @@ module _ {D : Type 0} (disks : PageDisk D) (v : View D) (core : IsCore disks v) 
       let durable_left = subst (λ (z : DiskState). MayLeave z (shown V (store_pairs e) s.durable)) (sym shows) (durable_MayLeave (shown_state V (store_pairs e) s)) in
       let now = left (shown V (store_pairs e) s.durable) durable_left count start recovers undamaged in
       let whole = recovered_whole e (shown V (store_pairs e) s.durable) _ _ g three now.3 in
-      let again = shows_again e s image g three length_is newer tear.tears before whole tear.first in
+      let again = shows_again e s image g three length_is newer spoils before whole first in
       (prefix.0, prefix.1, prefix.2, subst (λ (c : Image). Recovers (shape v.store.extents) (formats_of (shape v.store.extents)) (page c) (count + prefix.0) (map_after start (commands_said v.history) prefix.0)) (sym again) prefix.3)
 
   -- the rules of the disk and its pairs are those of the store that page 0 shows, which is this one
   pub torn_opened : IsGeometry v.store.extents.format (length v.store.extents.written) v.store.extents.pages v.store.extents.sections → (store : Option Dimensions) (pairs : List Pair) → disks.state v.disk ≡ shown_state (store_version store) pairs s
-      → length s.durable ≡ pages_of (dimensions_of v.store.extents) → AreNoOlder (store_version store) pairs s → ∥ IsOfStore store pairs (pages_of (dimensions_of v.store.extents)) s.durable ∥₁ → MayTearStore (dimensions_of v.store.extents) s image
+      → length s.durable ≡ pages_of (dimensions_of v.store.extents) → AreNoOlder (store_version store) pairs s → IsGuarded (store_version store) pairs s → ∥ IsOfStore store pairs (pages_of (dimensions_of v.store.extents)) s.durable ∥₁
+      → MayTearStore (dimensions_of v.store.extents) s image
       → ((c : Image) → MayLeave (disks.state v.disk) c → IsPrefix (shape v.store.extents) (page v.opened) (commands_said v.history) v.store.frontier v.store.accepted c)
       → IsPrefix (shape v.store.extents) (page v.opened) (commands_said v.history) v.store.frontier v.store.accepted (shown_on (pages_of (dimensions_of v.store.extents)) image)
-  torn_opened g store pairs shows length_is newer fits tear left count start recovers undamaged =
+  torn_opened g store pairs shows length_is newer guarded fits tear left count start recovers undamaged =
       let e = dimensions_of v.store.extents in
       let durable = shown (store_version store) pairs s.durable in
       let durable_left = subst (λ (z : DiskState). MayLeave z durable) (sym shows) (durable_MayLeave (shown_state (store_version store) pairs s)) in
@@ -92,5 +131,13 @@ module _ {D : Type 0} (disks : PageDisk D) (v : View D) (core : IsCore disks v) 
       let its : store ≡ Some e = ∥∥₁_elim fits is_its (λ of. (of.found e says).0) in
       let lie : pairs ≡ store_pairs e = ∥∥₁_elim fits are_its (λ of. of.its) ∙ ap pairs_where its in
       let found : dimensions_on (pages_of e) s.durable ≡ Some e = ∥∥₁_elim fits is_found (λ of. (of.found e says).1) in
-      torn_in_pairs g (shows ∙ ap (λ (o : Option Dimensions). shown_state (store_version o) pairs s) its ∙ ap (λ (l : List Pair). shown_state (store_version (Some e)) l s) lie) length_is
-      (subst (λ (l : List Pair). AreNoOlder (store_version (Some e)) l s) lie (subst (λ (o : Option Dimensions). AreNoOlder (store_version o) pairs s) its newer)) tear found left count start recovers undamaged
+      let V = store_version (Some e) in
+      let here : disks.state v.disk ≡ shown_state V (store_pairs e) s = shows ∙ ap (λ (o : Option Dimensions). shown_state (store_version o) pairs s) its ∙ ap (λ (l : List Pair). shown_state V l s) lie in
+      let older = subst (λ (l : List Pair). AreNoOlder V l s) lie (subst (λ (o : Option Dimensions). AreNoOlder (store_version o) pairs s) its newer) in
+      let guards = subst (λ (l : List Pair). IsGuarded V l s) lie (subst (λ (o : Option Dimensions). IsGuarded (store_version o) pairs s) its guarded) in
+      let is = core.legal honest in
+      let issued = sym (ap (λ (z : DiskState). z.volatile) here) ∙ is.1.disk.volatile in
+      let whole = core_whole e g three is.0 is.1.store.sound V s issued in
+      let known = known_of V (store_pairs e) s guards whole in
+      let once = core_once e g three is.0 is.1.store.sound V s issued in
+      torn_in_pairs g here length_is older (tear_spoils V (store_pairs e) s image older known once tear.tears) (first_told s image e three older known once tear) found left count start recovers undamaged

@@ -58,7 +58,7 @@ module _ (F N S : ℕ) (some : 2 ≤ F) (total : N ≡ 2 + F + 2 * S) where
   one_place i j false false a b same = (own_one i j same, refl)
 
 -- a store has frames
-frames : (d : Dimensions) → IsGeometry d.format d.extents d.pages d.sections → d.format ≡ 3 → 2 ≤ d.extents * d.pages
+pub frames : (d : Dimensions) → IsGeometry d.format d.extents d.pages d.sections → d.format ≡ 3 → 2 ≤ d.extents * d.pages
 frames d g three =
     let many = subst (λ f. (if f == 3 then 5 else 4) ≤ d.extents) three g.fewest_extents in
     let some = le-mul_of_pos_right {m = d.pages} d.extents (omega (arith, g.fewest_pages)) in

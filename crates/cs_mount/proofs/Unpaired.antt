@@ -10,10 +10,10 @@ use Rattle.law_machine.specs.Device.{FramePage, RootPage, SectionPage}
 use Rattle.cs_twin.specs.declared.pairs.Pair.{Pair}
 use Rattle.cs_twin.specs.Pairs.{ArePairs, AreNoOlder, Versions, shown, shown_state}
 use Rattle.cs_mount.specs.StorePairs.{pages_of, store_pair, store_pairs, store_shape}
-use Rattle.cs_twin.specs.Tears.{IsTornBeside, IsUnpaired, MayTear}
+use Rattle.cs_twin.specs.Tears.{IsTornBeside, IsUnpaired}
 use Rattle.cs_mount.specs.TornStores.{IsTornFrom}
 use Rattle.cs_twin.proofs.Shown.{length-shown}
-use Rattle.cs_twin.proofs.Tearing.{torn_shows}
+use Rattle.cs_twin.proofs.Tearing.{MaySpoil, torn_shows}
 use Rattle.cs_mount.proofs.Twins.{are_store_pairs, high, total_pages}
 
 -- an element of a list that is made of its places is there
@@ -64,11 +64,12 @@ module _ (d : Dimensions) (g : IsGeometry d.format d.extents d.pages d.sections)
     each = λ p lt. ⊎_elim (λ same. inl same) (λ beside. inr (is_frame p (omega (arith, lt, sized)) beside.0, beside.1)) (torn.each p lt);
   }
 
-  are_pairs : ArePairs (store_pairs d) (pages_of d)
+  pub are_pairs : ArePairs (store_pairs d) (pages_of d)
   are_pairs = subst (λ (l : List Pair). ArePairs l (pages_of d)) (sym listed_pairs) (are_store_pairs d g three)
 
-  -- What a crash tears of a store's disk shows as what a crash of the disk as it shows might leave, but for pages of frames that were being written.
-  pub torn_store_shows : (V : Versions) (s : State) (image : Image) → length s.durable ≡ pages_of d → AreNoOlder V (store_pairs d) s → MayTear V (store_pairs d) s image
+  -- What a crash tears of a store's disk shows as what a crash of the disk as it shows might leave, but for pages of
+  -- frames that were being written.
+  pub torn_store_shows : (V : Versions) (s : State) (image : Image) → length s.durable ≡ pages_of d → AreNoOlder V (store_pairs d) s → MaySpoil V (store_pairs d) s image
       → (left : Image) × MayLeave (shown_state V (store_pairs d) s) left × IsTornFrom (store_shape d) (shown_state V (store_pairs d) s) left (shown V (store_pairs d) image)
   torn_store_shows V s image sized newer tear =
       let pairs = store_pairs d in
@@ -77,7 +78,7 @@ module _ (d : Dimensions) (g : IsGeometry d.format d.extents d.pages d.sections)
       (torn.0, torn.1, torn_frames (shown_state V pairs s) torn.0 (shown V pairs image) size torn.2)
 
   -- the same of pairs that are those
-  pub torn_pairs_show : (V : Versions) (pairs : List Pair) (s : State) (image : Image) → pairs ≡ store_pairs d → length s.durable ≡ pages_of d → AreNoOlder V pairs s → MayTear V (store_pairs d) s image
+  pub torn_pairs_show : (V : Versions) (pairs : List Pair) (s : State) (image : Image) → pairs ≡ store_pairs d → length s.durable ≡ pages_of d → AreNoOlder V pairs s → MaySpoil V (store_pairs d) s image
       → (left : Image) × MayLeave (shown_state V pairs s) left × IsTornFrom (store_shape d) (shown_state V pairs s) left (shown V (store_pairs d) image)
   torn_pairs_show V pairs s image these sized newer tear =
       subst (λ (l : List Pair). (left : Image) × MayLeave (shown_state V l s) left × IsTornFrom (store_shape d) (shown_state V l s) left (shown V (store_pairs d) image)) (sym these)

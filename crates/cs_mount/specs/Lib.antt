@@ -7,3 +7,6 @@ pub mod TornStores
 pub mod Looks
 pub mod Older
 pub mod Torn
+pub mod Makings
+pub mod Hollow
+pub mod Sectors

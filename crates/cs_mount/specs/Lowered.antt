@@ -10,8 +10,8 @@ use Rattle.cs_frame.specs.declared.faults.FormatFault.{FormatFault}
 use Rattle.cs_frame.specs.Geometries.{Dimensions}
 use Rattle.cs_frame.specs.Superblocks.{spelled_superblock, superblock_extents, superblock_fault, superblock_record}
 
--- bytes as of a root, by what is wrong with them as a section of format 3: where nothing is, they are those of the same section with no later root on record
--- than this one; others stay
+-- bytes as of a root, by what is wrong with them as a section of format 3: where nothing is, they are those of the
+-- same section with no later root on record than this one; others stay
 abbrev pub lowered_by : Option FormatFault → (root : ℕ) → List ℕ → List ℕ
 lowered_by None root bytes =
     spelled_superblock 3 (number 4 12 bytes) (min (superblock_record 3 bytes) root) (number 12 14 bytes) (number 14 16 bytes) (slice_index bytes 16) (slice_index bytes 17) (superblock_extents 3 bytes)
@@ -21,7 +21,8 @@ lowered_by (Some fault) root bytes = bytes
 abbrev pub lowered_page : (root : ℕ) → List ℕ → List ℕ
 lowered_page root bytes = lowered_by (superblock_fault 3 bytes) root bytes
 
--- The sections of a store have page 0 and pages behind the frames and the root. Their twins are behind these too, but show as zeros, which spell no section.
+-- The sections of a store have page 0 and pages behind the frames and the root. Their twins are behind these too, but
+-- show as zeros, which spell no section.
 abbrev pub is_of_section : Dimensions → (page : ℕ) → Bool
 is_of_section d p = p == 0 || nat_lt (1 + d.extents * d.pages) p
 

@@ -6,12 +6,13 @@ use Rattle.cs_mount.specs.StorePairs.{dimensions_on, first_says, pages_of, pairs
 use Rattle.cs_twin.specs.declared.pairs.Pair.{Pair}
 use Rattle.cs_twin.specs.Pairs.{shown}
 
--- any bytes, but on page 0 none that say of themselves that they are of format 3: where that page is in no pair no store of format 3 is
+-- any bytes, but on page 0 none that say of themselves that they are of format 3: where that page is in no pair no
+-- store of format 3 is
 abbrev pub is_allowed : (page : ℕ) → List ℕ → Bool
 is_allowed p bytes = not (p == 0 && slice_index bytes 3 == 51)
 
--- The pairs are those of a store of these dimensions, which has the device's pages. And where page 0 as it shows spells the first section of a store of format 3, it is
--- that store, and an opening finds it.
+-- The pairs are those of a store of these dimensions, which has the device's pages. And where page 0 as it shows
+-- spells the first section of a store of format 3, it is that store, and an opening finds it.
 pub record IsOfStore (store : Option Dimensions) (pairs : List Pair) (pages : ℕ) (image : Image) : Type 0 where
   pub its : pairs ≡ pairs_where store
   pub sized : IfSome store (λ d. pages_of d ≡ pages)

@@ -22,8 +22,8 @@ pages_of d = device_pages d.format d.extents d.pages d.sections
 abbrev pub blank_disk : Dimensions → State
 blank_disk d = record { durable = replicate (pages_of d) (replicate 4096 0); volatile = [] }
 
--- The pairs of a store count from 0: that of section 0, that of the root, and those of the other sections. Their twins are the last pages of
--- the device, from the very last on downwards.
+-- The pairs of a store count from 0: that of section 0, that of the root, and those of the other sections. Their
+-- twins are the last pages of the device, from the very last on downwards.
 abbrev pub store_pair : Dimensions → (k : ℕ) → Pair
 store_pair d k = record { page = if nat_lt k 2 then k else d.extents * d.pages + k; twin = pages_of d - (1 + k) }
 
@@ -90,8 +90,8 @@ abbrev pub zero_or_last : (pages : ℕ) → (fault : Option FormatFault) → (ze
 zero_or_last pages None zero last = if slice_index zero 3 == 51 then named_by pages 3 zero else None
 zero_or_last pages (Some fault) zero last = last
 
--- The dimensions of the store on a device whose pages lie in pairs: those that page 0 says, where it is whole in whatever format, and else
--- those that the last page says; none where there is no store of format 3.
+-- The dimensions of the store on a device whose pages lie in pairs: those that page 0 says, where it is whole in
+-- whatever format, and else those that the last page says; none where there is no store of format 3.
 abbrev pub dimensions_on : (pages : ℕ) → Image → Option Dimensions
 dimensions_on pages image =
     zero_or_last pages (page_zero_fault (page image 0)) (page image 0) (first_says pages (page image (pages - 1)))

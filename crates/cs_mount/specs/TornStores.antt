@@ -4,7 +4,8 @@ use Rattle.cs_disk.specs.Disk.{Image, MayLeave, State, page}
 use Rattle.law_machine.specs.Device.{FramePage, Shape}
 use Rattle.cs_twin.specs.Tears.{HasWaitingWrite}
 
--- It is what a crash left of a store's disk, but that each page of frames to which a write wasn't flushed may hold anything.
+-- It is what a crash left of a store's disk, but that each page of frames to which a write wasn't flushed may hold
+-- anything.
 pub record IsTornFrom (S : Shape) (disk : State) (left image : Image) : Type 0 where
   pub size : length image ≡ length left
   pub each : (p : ℕ) → p < length left → (page image p ≡ page left p) ⊎ ((S.kind p ≡ FramePage) × HasWaitingWrite disk p)

@@ -8,11 +8,12 @@ use cs_disk::{CrashDisk, DiskFault, PageDisk};
 use cs_frame::{Format, Geometry, Superblock, decode_section, encode_superblock};
 use std::alloc::Global;
 
-/// A disk over which a store of format 3 opens, though a newer root was persistent than is whole: it shows each section of the superblock as if that root hadn't been
-/// persistent as it was written. Nothing is written by way of it: a write is refused 1 DeviceFault, and counted.
+/// A disk over which a store of format 3 opens, though a newer root was persistent than is whole: it shows each
+/// section of the superblock as if that root hadn't been persistent as it was written. Nothing is written by way of
+/// it: a write is refused 1 DeviceFault, and counted.
 ///
-/// It is honest where the disk below is. That is said of its calls alone: what it shows was maybe never all there at once, as what that root names may have been
-/// written over since.
+/// It is honest where the disk below is. That is said of its calls alone: what it shows was maybe never all there at
+/// once, as what that root names may have been written over since.
 #[derive(Drop)]
 pub struct AsOf<D: PageDisk> {
     alloc: Global,
@@ -76,8 +77,8 @@ fn lowered(superblock: Superblock, root: u64) -> Superblock
     superblock
 }
 
-/// Spells a section anew where it records a later root than this one, as if this one had been persistent. Bytes that spell no section stay. Refused 9 OutOfMemory
-/// alone.
+/// Spells a section anew where it records a later root than this one, as if this one had been persistent. Bytes that
+/// spell no section stay. Refused 9 OutOfMemory alone.
 fn lower(alloc: Global, root: u64, bytes: &mut [u8; 4096]) -> Result<(), DiskFault>
     ensures lowered { OnOk result (bytes.new ≡ lowered_page root bytes.old) }
     ensures memory { IsOkUnless result DiskFault.OutOfMemory }

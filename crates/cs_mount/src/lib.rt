@@ -1,8 +1,12 @@
-//! How stores lie on their disks: from format 3 on the root and each section of the superblock have two pages, of which the newest that is whole shows.
+//! How stores lie on their disks: from format 3 on the root and each section of the superblock have two pages, of
+//! which the newest that is whole shows.
 #![tactic(auto)]
 
 mod as_of;
+mod creates;
+mod fences;
 mod looks;
+mod makings;
 mod mount_laws;
 mod mount_options;
 mod older;
@@ -11,10 +15,14 @@ mod store_pairs;
 pub use as_of::AsOf;
 pub use cs_core as the_core;
 pub use cs_twin::Finding;
+pub use fences::fence;
 pub use looks::look;
+pub use makings::lay_store;
 pub use mount_laws::{
-    a_torn_crash_is_opened, the_geometry_is_found, torn_disks_show_a_crash,
-    torn_stores_are_found_again, torn_stores_show_a_crash,
+    a_cleared_disk_holds_no_store, a_core_writes_a_half_once, a_crash_of_a_making,
+    a_fence_is_whole_in_no_format, a_fenced_sector_is_whole_in_no_format, a_torn_crash_is_opened,
+    a_torn_fence_of_a_store_shows_the_same, a_torn_making, the_geometry_is_found,
+    torn_disks_show_a_crash, torn_stores_are_found_again, torn_stores_show_a_crash,
 };
 pub use mount_options::{LIMITS, MountOptions, Mounted, mend};
 pub use store_pairs::{

@@ -1,27 +1,19 @@
-//! How stores over disks in pairs are made and opened: by methods of one type, `MountOptions`.
+//! How stores over disks in pairs are opened, fenced and mended: by methods of one type, `MountOptions`, and by
+//! functions.
 ghost use Rattle.std.specs.Prelude.{◌+◌, ◌<◌, ◌↔◌, ◌≡◌, ◌≢◌, ◌≤◌, ◌⊎◌, Err, IfErr, IfOk, MatchResult, None, OnOk, Some, [], ℕ};
 ghost use Rattle.std.specs.List.{AllByRecursion};
 ghost use Rattle.cs_core.specs.Openings.{IfStoreOn, IsOpened, IsOpenedAs};
-ghost use Rattle.cs_core.specs.Started.{IsNewOn, new_stored};
 ghost use Rattle.cs_core.specs.cs_chunk.Reads.{IsNoAnswer};
-ghost use Rattle.cs_core.specs.cs_extent.State.{shape};
 ghost use Rattle.cs_disk.specs.Disk.{Image, LeavesOnly, MayLeave, Rises, flushed, page, seen};
-ghost use Rattle.cs_frame.specs.Formats.{formats_of};
-ghost use Rattle.cs_frame.specs.Geometries.{device_pages};
-ghost use Rattle.cs_mount.specs.Looks.{IsTaken};
 ghost use Rattle.cs_mount.specs.Showing.{ShowsOn, findings_on, shown_on};
-ghost use Rattle.cs_mount.specs.StorePairs.{blank_disk, store_pairs, store_version};
 ghost use Rattle.cs_reader.specs.Openings.{IsOpeningRefusal, IsWhyNotOpened};
 ghost use Rattle.cs_twin.specs.Findings.{finding_in, passed_over};
 ghost use Rattle.cs_twin.specs.Paired.{IsSound, disk_below, failures_of, left_as_shown, moment_of, pairs_of, refusals_of, rules_of, state_shown, versions_of};
-ghost use Rattle.cs_twin.specs.Pairs.{half, is_turned, shown_state};
-ghost use Rattle.law_machine.specs.Recovery.{Recovers};
+ghost use Rattle.cs_twin.specs.Pairs.{half, is_turned};
 
-use crate::looks::is_taken;
 use crate::store_pairs::{StoreRules, open_pairs};
 use cs_core::{Core, Limits};
-use cs_disk::{MemoryDisk, PageDisk, refusal_of_disk};
-use cs_frame::Geometry;
+use cs_disk::{PageDisk, refusal_of_disk};
 use cs_refusal::Refusal;
 use cs_twin::{Finding, Paired};
 use std::alloc::Global;
@@ -75,76 +67,16 @@ impl MountOptions {
 pub type Mounted<D> = Paired<D, StoreRules>;
 
 impl MountOptions {
-    /// Makes a new store of this geometry on a disk that holds none. It looks for a store, flushes the disk, writes the
-    /// superblock and the root, each of them once, and makes them durable.
-    ///
-    /// If the call is refused, it returns the disk. 43 NotAStore: the disk hasn't the geometry's pages. 45 Occupied: a
-    /// store is on the disk, or what is left of one, and nothing is written or flushed. 1 DeviceFault: the device
-    /// refused a call; and 9 OutOfMemory. After these two the superblock and the root may be there in part. That
-    /// nothing else was written then is by its form.
-    ///
-    /// A disk is occupied if page 0 is a first section of a superblock, of whatever format and geometry, or the last
-    /// page is one of format 3, or a page is whole of which the new store has two.
-    pub fn create<D: PageDisk + Drop>(
-        self,
-        disk: D,
-        geometry: Geometry,
-    ) -> Result<Core<Mounted<D>>, (Refusal, D)>
-        ensures new { IfOk result (λ core. (core.history ≡ []) × (core.base ≡ 0) × (core.limit ≡ self.history)) }
-        ensures store { IfOk result (λ core. core.store ≡ new_stored geometry.format geometry.extents geometry.pages geometry.sections) }
-        ensures found { IfOk result (λ core. core.found ≡ (0, 0)) }
-        ensures start { IfOk result (λ core. D.honest disk → Recovers (shape core.store.extents) (formats_of (shape core.store.extents)) (page core.opened) 0 (λ id. None)) }
-        ensures written { D.honest disk → IfOk result (λ core. IsNewOn geometry.format geometry.extents geometry.pages geometry.sections (shown_state (store_version (Some geometry)) (store_pairs geometry) (flushed (D.state disk))) (state_shown core.disk)) }
-        // So it is on pages of zeros.
-        ensures zeros { D.honest disk → D.state disk ≡ blank_disk geometry → IfOk result (λ core. IsNewOn geometry.format geometry.extents geometry.pages geometry.sections (blank_disk geometry) (state_shown core.disk)) }
-        ensures pages { MatchResult result (λ core. D.page_count (disk_below core.disk) ≡ D.page_count disk) (λ refused. D.page_count refused.1 ≡ D.page_count disk) }
-        ensures honest { MatchResult result (λ core. D.honest disk ↔ D.honest (disk_below core.disk)) (λ refused. D.honest disk ↔ D.honest refused.1) }
-        ensures sized { OnOk result (D.page_count disk ≡ device_pages geometry.format geometry.extents geometry.pages geometry.sections) }
-        ensures not_a_store { IfErr result (λ refused. (refused.0 ≡ Refusal.NotAStore) ↔ (D.page_count disk ≢ device_pages geometry.format geometry.extents geometry.pages geometry.sections)) }
-        ensures refusals { IfErr result (λ refused. (refused.0 ≡ Refusal.NotAStore) ⊎ (refused.0 ≡ Refusal.Occupied) ⊎ (refused.0 ≡ Refusal.DeviceFault) ⊎ (refused.0 ≡ Refusal.OutOfMemory)) }
-        ensures same { D.page_count disk ≢ device_pages geometry.format geometry.extents geometry.pages geometry.sections → result ≡ Err (Refusal.NotAStore, disk) }
-        // It is refused 45 only where a store is there, or what is left of one.
-        ensures occupied { D.honest disk → IfErr result (λ refused. refused.0 ≡ Refusal.Occupied → IsTaken (D.page_count disk) (seen (D.state disk)) (store_version (Some geometry)) (store_pairs geometry)) }
-        // Of an honest disk the device alone refuses it 1.
-        ensures cause { D.honest disk → IfErr result (λ refused. refused.0 ≡ Refusal.DeviceFault → Rises (D.failure_count disk) (D.failure_count refused.1)) }
-        // No store is made there, and it is as it was then.
-        ensures taken { D.honest disk → IsTaken (D.page_count disk) (seen (D.state disk)) (store_version (Some geometry)) (store_pairs geometry) → MatchResult result (λ core. ⊥) (λ refused. D.state refused.1 ≡ D.state disk) }
-    {
-        let MountOptions { alloc, limits } = self;
-        // Called for its contract alone: what every geometry keeps.
-        geometry.extents();
-        if disk.pages() != geometry.device_pages() {
-            return Err((Refusal::NotAStore, disk));
-        }
-        let rules = StoreRules {
-            alloc,
-            geometry: Some(geometry),
-        };
-        let Ok(pairs) = rules.pairs() else {
-            return Err((Refusal::OutOfMemory, disk));
-        };
-        let mut disk = disk;
-        match is_taken(alloc, &mut disk, &rules, &pairs) {
-            Ok(false) => {}
-            Ok(true) => return Err((Refusal::Occupied, disk)),
-            Err(fault) => return Err((refusal_of_disk(fault), disk)),
-        }
-        match Paired::new(alloc, disk, rules, pairs) {
-            Ok(paired) => match Core::format(alloc, paired, geometry, limits) {
-                Ok(core) => Ok(core),
-                Err((refusal, paired)) => Err((refusal, paired.into_disk())),
-            },
-            Err((fault, disk)) => Err((refusal_of_disk(fault), disk)),
-        }
-    }
-
     /// Opens the store on a disk, as it was made persistent or as a crash left it, and returns what the pages hold of
     /// which it has two. It flushes, and reads the superblock, the root and the index's runs.
     ///
-    /// Nothing is written, so the pages that don't show stay as well. If the call is refused, it returns the disk. 43
-    /// NotAStore: no store of that many pages is on it. 20 to 26: a page is damaged, and if the store has two of it,
-    /// both are. 27 RootLost: the newest root that is whole is older than one that was persistent. 1 DeviceFault, and 9
-    /// OutOfMemory.
+    /// Nothing is written, so the pages that don't show stay as well. A page that is damaged is passed over if the
+    /// pair's other page is whole. Until each such page is filled, by `fence` or `mend`, a write to the superblock or
+    /// to the root is refused 1 DeviceFault.
+    ///
+    /// If the call is refused, it returns the disk. 43 NotAStore: no store of that many pages is on it. 20 to 26: a
+    /// page is damaged, and if the store has two of it, both are. 27 RootLost: the newest root that is whole is older
+    /// than one that was persistent. 1 DeviceFault, and 9 OutOfMemory.
     pub fn open<D: PageDisk + Drop>(
         self,
         disk: D,
@@ -168,6 +100,8 @@ impl MountOptions {
         ensures calls { D.honest disk → MatchResult result (λ opened. D.moment (disk_below opened.0.disk) ≡ D.moment disk + 2) (λ refused. D.moment refused.1 ≤ D.moment disk + 2) }
         // A crash meanwhile leaves what shows as what one before it might have left.
         ensures crash { D.honest disk → IfOk result (λ opened. (left : Image) → left_as_shown opened.0.disk (D.moment disk) left → ShowsOn (D.page_count disk) (seen (D.state disk)) (MayLeave (D.state disk)) left) }
+        // For a run that began earlier.
+        ensures before { D.honest disk → IfOk result (λ opened. (t : ℕ) (left : Image) → t ≤ D.moment disk → left_as_shown opened.0.disk t left → ShowsOn (D.page_count disk) (seen (D.state disk)) (λ image. D.left_since disk t image ⊎ MayLeave (D.state disk) image) left) }
         ensures honest { MatchResult result (λ opened. D.honest disk ↔ D.honest (disk_below opened.0.disk)) (λ refused. D.honest disk ↔ D.honest refused.1) }
         ensures pages { MatchResult result (λ opened. D.page_count (disk_below opened.0.disk) ≡ D.page_count disk) (λ refused. D.page_count refused.1 ≡ D.page_count disk) }
     {
@@ -183,40 +117,21 @@ impl MountOptions {
             Err((fault, disk)) => Err((refusal_of_disk(fault), disk)),
         }
     }
-
-    /// Makes a new store of this geometry in memory, with nothing in it. It takes 4,096 bytes for each page of the
-    /// disk. Refused 9 OutOfMemory alone.
-    pub fn create_in_memory(self, geometry: Geometry) -> Result<Core<Mounted<MemoryDisk>>, Refusal>
-        ensures new { IfOk result (λ core. (core.history ≡ []) × (core.base ≡ 0) × (core.limit ≡ self.history)) }
-        ensures store { IfOk result (λ core. core.store ≡ new_stored geometry.format geometry.extents geometry.pages geometry.sections) }
-        ensures found { IfOk result (λ core. core.found ≡ (0, 0)) }
-        ensures start { IfOk result (λ core. Recovers (shape core.store.extents) (formats_of (shape core.store.extents)) (page core.opened) 0 (λ id. None)) }
-        // The superblock and the root are written and durable, on pages of zeros.
-        ensures written { IfOk result (λ core. IsNewOn geometry.format geometry.extents geometry.pages geometry.sections (blank_disk geometry) (state_shown core.disk)) }
-        ensures memory { IfErr result (λ refusal. refusal ≡ Refusal.OutOfMemory) }
-    {
-        // Called for its contract alone: what every geometry keeps.
-        geometry.extents();
-        let Ok(disk) = MemoryDisk::new(self.alloc, geometry.device_pages()) else {
-            return Err(Refusal::OutOfMemory);
-        };
-        match self.create(disk, geometry) {
-            Ok(core) => Ok(core),
-            Err((refusal, _)) => Err(refusal),
-        }
-    }
 }
 
-/// Closes an opened store, and writes each page anew that it has twice and of which one is damaged, with what the other holds, and makes that durable. What shows
-/// stays as it is, and the disk comes back: `Core::open` over it opens the store again. What the store had staged and not made persistent ends with it.
+/// Closes an opened store, and writes anew each page that its opening passed over, as a copy of the pair's other page.
+/// Before each copy it fences the page: it fills it with bytes of 255, and flushes. What shows stays as it is, and the
+/// disk comes back: `Core::open` over it opens the store again. What the store had staged and not made persistent ends
+/// with it.
 ///
-/// It takes an opened store, so that nothing is written over which an opening would be refused without: a damaged page may have held a newer root or section than the
-/// whole one. An opening is refused 27 RootLost where a section records a later root than the newest that is whole, 43 NotAStore where an older section doesn't show a place
-/// that the root names, and by the number of its fault where neither page of a pair is whole; the pages stay as they are then, for a reader by hand or `MountOptions::open_older`.
-/// Where an opening can't tell, as of a root that no section records yet, the store was opened as of the older one, and that is what is written.
+/// It takes an opened store, so nothing is written over without which an opening would be refused: a damaged page may
+/// have held a newer root or section than the whole one. Such an opening is refused 27 RootLost, 43 NotAStore, or by
+/// the number of a fault. The pages stay as they are then, for a reader by hand or `MountOptions::open_older`. If no
+/// section records the newer root yet, the store was opened as of the older one, and that is what is copied.
 ///
-/// Refused 1 DeviceFault, and 9 OutOfMemory, with the disk: some of the damaged pages may be written anew then and the rest not, and what shows is the same, so the
-/// store can be opened from the device and this be done again. A store of the older formats has no page twice, and the disk is flushed alone.
+/// Refused 1 DeviceFault, and 9 OutOfMemory, with the disk. Some of the damaged pages may be written anew then, and
+/// the rest not. What shows is the same, so the store can be opened from the device and this be done again. A store of
+/// the older formats has no page twice, and the disk is flushed alone.
 pub fn mend<D: PageDisk + Drop>(core: Core<Mounted<D>>) -> Result<Mounted<D>, (Refusal, Mounted<D>)>
     // No page is passed over any more.
     ensures whole { D.honest (disk_below core.disk) → IfOk result (λ disk. AllByRecursion (λ x. passed_over (finding_in (versions_of core.disk) (seen (D.state (disk_below disk))) x) ≡ None) (pairs_of core.disk)) }

@@ -17,8 +17,9 @@ use cs_frame::{
 use cs_twin::{Finding, PageRules, Pair, Paired};
 use std::alloc::{AllocError, Global};
 
-/// What tells of the pages of a store that lie in pairs whether they are whole: the root of its format, and of each section of its superblock that
-/// it is that section of a store of these dimensions. Where there is no store no page is.
+/// What tells of the pages of a store that lie in pairs whether they are whole: the root of its format, and of each
+/// section of its superblock that it is that section of a store of these dimensions. Where there is no store no page
+/// is.
 #[derive(Clone, Copy, Drop)]
 pub struct StoreRules {
     pub alloc: Global,
@@ -112,6 +113,8 @@ impl StoreRules {
 }
 
 impl PageRules for StoreRules {
+    ghost use Rattle.cs_mount.specs.Hollow.{no_fence};
+
     ghost version = { λ r. store_version r.geometry };
 
     ghost fits = { λ r. IsOfStore r.geometry };
@@ -136,10 +139,12 @@ impl PageRules for StoreRules {
     }
 
     fn keep(&self) {}
+
+    ghost fence_is_none = { λ r number. no_fence r.geometry number };
 }
 
 /// A pair of a store of format 3, from 0 on: that of section 0, that of the root, those of the other sections.
-fn store_pair(geometry: Geometry, k: u64) -> Pair
+pub fn store_pair(geometry: Geometry, k: u64) -> Pair
     requires { k ≤ geometry.sections }
     ensures { result ≡ store_pair geometry k }
 {
@@ -150,8 +155,8 @@ fn store_pair(geometry: Geometry, k: u64) -> Pair
     }
 }
 
-/// The pairs of a store: those of section 0, of the root, and of the other sections, whose twins are the last pages of the device, from
-/// the very last on downwards. Before format 3 there are none.
+/// The pairs of a store: those of section 0, of the root, and of the other sections, whose twins are the last pages
+/// of the device, from the very last on downwards. Before format 3 there are none.
 pub fn pairs_of_store(alloc: Global, geometry: Geometry) -> Result<Vec<Pair>, AllocError>
     ensures pairs { IfOk result (λ pairs. pairs.items ≡ store_pairs geometry) }
     ensures are { IfOk result (λ pairs. ArePairs pairs.items (pages_of geometry)) }
@@ -267,7 +272,8 @@ pub fn holds_superblock<D: PageDisk>(alloc: Global, disk: &mut D) -> Result<bool
     }
 }
 
-/// The geometry of the store of format 3 whose first section the last page holds, whatever is on page 0; nothing where it holds none of a store with the device's pages.
+/// The geometry of the store of format 3 whose first section the last page holds, whatever is on page 0; nothing
+/// where it holds none of a store with the device's pages.
 pub fn find_last<D: PageDisk>(alloc: Global, disk: &mut D) -> Result<Option<Geometry>, DiskFault>
     requires { 0 < D.page_count disk.old }
     ensures found { D.honest disk.old → IfOk result (λ found. found ≡ first_says (D.page_count disk.old) (page (seen (D.state disk.old)) (D.page_count disk.old - 1))) }
@@ -278,8 +284,8 @@ pub fn find_last<D: PageDisk>(alloc: Global, disk: &mut D) -> Result<Option<Geom
     read_last(alloc, disk, pages)
 }
 
-/// The geometry of the store on a device whose pages lie in pairs, where there is one, of format 3: that which page 0 says where it is whole,
-/// in whatever format, and else that which the last page says.
+/// The geometry of the store on a device whose pages lie in pairs, where there is one, of format 3: that which page 0
+/// says where it is whole, in whatever format, and else that which the last page says.
 pub fn find_geometry<D: PageDisk>(
     alloc: Global,
     disk: &mut D,
@@ -298,8 +304,9 @@ pub fn find_geometry<D: PageDisk>(
     }
 }
 
-/// Opens the disk of a store whose pages lie in pairs, and tells what the halves hold: the disk below is flushed. Where there is no store of format 3, there
-/// are no pairs, and the disk passes all calls through. Where neither half of a pair is whole, it shows what one of them holds.
+/// Opens the disk of a store whose pages lie in pairs, and tells what the halves hold: the disk below is flushed.
+/// Where there is no store of format 3, there are no pairs, and the disk passes all calls through. Where neither half
+/// of a pair is whole, it shows what one of them holds.
 pub fn open_pairs<D: PageDisk>(
     alloc: Global,
     disk: D,
@@ -311,6 +318,8 @@ pub fn open_pairs<D: PageDisk>(
     ensures shown { D.honest disk → IfOk result (λ opened. state_shown opened.0 ≡ record { durable = shown_on (D.page_count disk) (seen (D.state disk)); volatile = [] }) }
     // What shows of what a crash at some moment since might have left shows of what one before might have left.
     ensures left { D.honest disk → IfOk result (λ opened. (left : Image) → left_as_shown opened.0 (D.moment disk) left → ShowsOn (D.page_count disk) (seen (D.state disk)) (MayLeave (D.state disk)) left) }
+    // For a run that began earlier.
+    ensures before { D.honest disk → IfOk result (λ opened. (t : ℕ) (left : Image) → t ≤ D.moment disk → left_as_shown opened.0 t left → ShowsOn (D.page_count disk) (seen (D.state disk)) (λ image. D.left_since disk t image ⊎ MayLeave (D.state disk) image) left) }
     ensures state { D.honest disk → MatchResult result (λ opened. D.state (disk_below opened.0) ≡ flushed (D.state disk)) (λ refused. (D.state refused.1 ≡ D.state disk) ⊎ (D.state refused.1 ≡ flushed (D.state disk))) }
     ensures crash { D.honest disk → MatchResult result (λ opened. LeavesOnly D.moment D.left_since disk (disk_below opened.0) (MayLeave (D.state disk))) (λ refused. LeavesOnly D.moment D.left_since disk refused.1 (MayLeave (D.state disk))) }
     ensures calls { D.honest disk → MatchResult result (λ opened. D.moment (disk_below opened.0) ≡ D.moment disk + 1) (λ refused. D.moment refused.1 ≤ D.moment disk + 1) }

@@ -4,6 +4,7 @@ pub mod Commands
 pub mod Accepting
 pub mod Asking
 pub mod Deleting
+pub mod Fenced
 pub mod Filling
 pub mod Getting
 pub mod Listing

@@ -7,6 +7,7 @@
 #![tactic(auto)]
 
 mod errors;
+mod fences;
 mod figures;
 mod gets;
 mod options;

@@ -3,10 +3,11 @@ ghost use Rattle.std.specs.Prelude.{◌+◌, ◌<◌, ◌↔◌, ◌≡◌, ◌�
 ghost use Rattle.cs_chunk.specs.Reads.{IsNoAnswer};
 ghost use Rattle.cs_core.specs.Openings.{IfStoreOn, IsOpened};
 ghost use Rattle.cs_core.specs.Started.{IsNewOn, new_stored};
-ghost use Rattle.cs_disk.specs.Disk.{Image, MayLeave, Rises, flushed, page, seen};
+ghost use Rattle.cs_disk.specs.Disk.{Image, Leaves, MayLeave, Rises, flushed, page, seen};
 ghost use Rattle.cs_disk.specs.Files.{file_pages};
 ghost use Rattle.cs_extent.specs.State.{shape};
 ghost use Rattle.cs_mount.specs.Looks.{IsTaken};
+ghost use Rattle.cs_mount.specs.Makings.{HoldsBoth, LeavesLaying};
 ghost use Rattle.cs_mount.specs.Older.{older_on};
 ghost use Rattle.cs_mount.specs.OlderDisks.{shown_below, state_lowered};
 ghost use Rattle.cs_mount.specs.Showing.{ShowsOn, findings_on, shown_on};
@@ -15,7 +16,7 @@ ghost use Rattle.cs_reader.specs.Counts.{HasCount};
 ghost use Rattle.cs_reader.specs.Openings.{IsOpeningRefusal, IsWhyNotOpened};
 ghost use Rattle.cs_store.specs.Maps.{HasMap};
 ghost use Rattle.cs_twin.specs.Paired.{disk_below, left_as_shown, state_shown};
-ghost use Rattle.cs_twin.specs.Pairs.{shown_state};
+ghost use Rattle.cs_twin.specs.Pairs.{Shows, shown_state};
 
 use crate::errors::OpenError;
 use crate::stores::Store;
@@ -109,17 +110,17 @@ impl OpenOptions {
         }
     }
 
-    /// Makes a new store of the options' geometry on a disk, with nothing in it: flushes the disk, writes the
-    /// superblock and the root, and makes them durable. Each section and the root have two pages, but in the older
-    /// formats, and one of each is written.
+    /// Makes a new store of the options' geometry on a disk, with nothing in it. It writes both pages of the root and
+    /// of each section of the superblock, section 0 last, makes them durable, and opens the store. So a crash leaves
+    /// what was there, no store, or the new one. In format 2 there is one page of each.
     ///
     /// If the call is refused, it returns the disk. 43 NotAStore: the disk hasn't the geometry's pages. 45 Occupied: a
     /// store is on it, or what is left of one (`MountOptions::create` of cs_mount), and nothing is written or flushed.
     /// 1 DeviceFault: the disk refused a call; and 9 OutOfMemory.
     pub fn create<D: PageDisk + Drop>(self, disk: D) -> Result<Store<Mounted<D>>, (Refusal, D)>
         ensures new { IfOk result (λ made. (made.history ≡ []) × (made.base ≡ 0) × (made.limit ≡ self.limits.history)) }
-        ensures store { IfOk result (λ made. made.store ≡ new_stored self.geometry.format self.geometry.extents self.geometry.pages self.geometry.sections) }
-        ensures found { IfOk result (λ made. made.found ≡ (0, 0)) }
+        ensures store { D.honest disk → IfOk result (λ made. made.store ≡ new_stored self.geometry.format self.geometry.extents self.geometry.pages self.geometry.sections) }
+        ensures found { D.honest disk → IfOk result (λ made. made.found ≡ (0, 0)) }
         // It has no shard.
         ensures map { D.honest disk → IfOk result (λ made. HasMap made (λ id. None)) }
         ensures written { D.honest disk → IfOk result (λ made. IsNewOn self.geometry.format self.geometry.extents self.geometry.pages self.geometry.sections (shown_state (store_version (Some self.geometry)) (store_pairs self.geometry) (flushed (D.state disk))) (state_shown made.disk)) }
@@ -137,6 +138,12 @@ impl OpenOptions {
         ensures cause { D.honest disk → IfErr result (λ refused. refused.0 ≡ Refusal.DeviceFault → Rises (D.failure_count disk) (D.failure_count refused.1)) }
         // No store is made there, and it is as it was then.
         ensures taken { D.honest disk → IsTaken (D.page_count disk) (seen (D.state disk)) (store_version (Some self.geometry)) (store_pairs self.geometry) → MatchResult result (λ made. ⊥) (λ refused. D.state refused.1 ≡ D.state disk) }
+        // From format 3 on both pages of each pair hold version 1, so an opening finds all of them whole.
+        ensures both { D.honest disk → self.geometry.format ≡ 3 → IfOk result (λ made. HoldsBoth self.geometry (D.state (disk_below made.disk))) }
+        // A crash meanwhile leaves what shows as one of the steps of a making: `a_crash_of_a_making` of cs_mount.
+        ensures crash { D.honest disk → self.geometry.format ≡ 3 → IfOk result (λ made. (left : Image) → left_as_shown made.disk (D.moment disk) left → Shows (store_version (Some self.geometry)) (store_pairs self.geometry) (LeavesLaying self.geometry (D.state disk)) left) }
+        // So does one after a refusal.
+        ensures left { D.honest disk → self.geometry.format ≡ 3 → IfErr result (λ refused. Leaves (D.state refused.1) (LeavesLaying self.geometry (D.state disk))) }
     {
         let OpenOptions {
             alloc,
@@ -154,13 +161,58 @@ impl OpenOptions {
         }
     }
 
+    /// The same, and whatever the disk holds is given up: it isn't refused 45 Occupied. In format 2 it does what `create`
+    /// does, and can be refused so.
+    pub fn create_over<D: PageDisk + Drop>(self, disk: D) -> Result<Store<Mounted<D>>, (Refusal, D)>
+        ensures new { IfOk result (λ made. (made.history ≡ []) × (made.base ≡ 0) × (made.limit ≡ self.limits.history)) }
+        ensures store { D.honest disk → IfOk result (λ made. made.store ≡ new_stored self.geometry.format self.geometry.extents self.geometry.pages self.geometry.sections) }
+        ensures found { D.honest disk → IfOk result (λ made. made.found ≡ (0, 0)) }
+        // It has no shard.
+        ensures map { D.honest disk → IfOk result (λ made. HasMap made (λ id. None)) }
+        ensures written { D.honest disk → IfOk result (λ made. IsNewOn self.geometry.format self.geometry.extents self.geometry.pages self.geometry.sections (shown_state (store_version (Some self.geometry)) (store_pairs self.geometry) (flushed (D.state disk))) (state_shown made.disk)) }
+        // So it is on pages of zeros.
+        ensures zeros { D.honest disk → D.state disk ≡ blank_disk self.geometry → IfOk result (λ made. IsNewOn self.geometry.format self.geometry.extents self.geometry.pages self.geometry.sections (blank_disk self.geometry) (state_shown made.disk)) }
+        ensures not_a_store { IfErr result (λ refused. (refused.0 ≡ Refusal.NotAStore) ↔ (D.page_count disk ≢ pages_of self.geometry)) }
+        ensures pages { MatchResult result (λ made. D.page_count (disk_below made.disk) ≡ D.page_count disk) (λ refused. D.page_count refused.1 ≡ D.page_count disk) }
+        ensures honest { MatchResult result (λ made. D.honest disk ↔ D.honest (disk_below made.disk)) (λ refused. D.honest disk ↔ D.honest refused.1) }
+        ensures sized { OnOk result (D.page_count disk ≡ pages_of self.geometry) }
+        ensures refusals { IfErr result (λ refused. (refused.0 ≡ Refusal.NotAStore) ⊎ ((refused.0 ≡ Refusal.Occupied) × (self.geometry.format ≡ 2)) ⊎ (refused.0 ≡ Refusal.DeviceFault) ⊎ (refused.0 ≡ Refusal.OutOfMemory)) }
+        ensures same { D.page_count disk ≢ pages_of self.geometry → result ≡ Err (Refusal.NotAStore, disk) }
+        // Of an honest disk the device alone refuses it 1.
+        ensures cause { D.honest disk → IfErr result (λ refused. refused.0 ≡ Refusal.DeviceFault → Rises (D.failure_count disk) (D.failure_count refused.1)) }
+        // From format 3 on both pages of each pair hold version 1, so an opening finds all of them whole.
+        ensures both { D.honest disk → self.geometry.format ≡ 3 → IfOk result (λ made. HoldsBoth self.geometry (D.state (disk_below made.disk))) }
+        // A crash meanwhile leaves what shows as one of the steps of a making: `a_crash_of_a_making` of cs_mount.
+        ensures crash { D.honest disk → self.geometry.format ≡ 3 → IfOk result (λ made. (left : Image) → left_as_shown made.disk (D.moment disk) left → Shows (store_version (Some self.geometry)) (store_pairs self.geometry) (LeavesLaying self.geometry (D.state disk)) left) }
+        // So does one after a refusal.
+        ensures left { D.honest disk → self.geometry.format ≡ 3 → IfErr result (λ refused. Leaves (D.state refused.1) (LeavesLaying self.geometry (D.state disk))) }
+    {
+        let OpenOptions {
+            alloc,
+            limits,
+            geometry,
+        } = self;
+        let options = MountOptions::new(alloc).limits(limits);
+        match options.create_over(disk, geometry) {
+            Ok(core) => Ok(Store {
+                alloc,
+                core,
+                findings: Vec::new(alloc),
+            }),
+            Err(refused) => Err(refused),
+        }
+    }
+
     /// Opens the store on a disk, as it was made persistent or as a crash left it: flushes, and reads the superblock,
     /// the root and the index's runs. Each section and the root have two pages, but in the older formats, and it takes the newest
     /// that is whole. It also returns what these pages hold: `Finding::passed_over` names a page that wasn't taken.
     ///
-    /// Nothing is written. If the call is refused, it returns the disk. 43 NotAStore: no store of that many pages is on
-    /// it. 20 to 26: a page is damaged, and if the store has two of it, both are. 27 RootLost: the newest root that is
-    /// whole is older than one that was persistent. 1 DeviceFault, and 9 OutOfMemory.
+    /// Nothing is written. If a page was passed over, the first sync is refused 1 DeviceFault: the store has to be opened
+    /// by `open_to_write` first, or mended (`mend` of cs_mount).
+    ///
+    /// If the call is refused, it returns the disk. 43 NotAStore: no store of that many pages is on it. 20 to 26: a page
+    /// is damaged, and if the store has two of it, both are. 27 RootLost: the newest root that is whole is older than one
+    /// that was persistent. 1 DeviceFault, and 9 OutOfMemory.
     pub fn open<D: PageDisk + Drop>(
         self,
         disk: D,
@@ -221,8 +273,6 @@ impl OpenOptions {
         path: &str,
     ) -> Result<Store<Mounted<FileDisk>>, OpenError>
         ensures new { IfOk result (λ made. (made.history ≡ []) × (made.base ≡ 0) × (made.limit ≡ self.limits.history)) }
-        ensures store { IfOk result (λ made. made.store ≡ new_stored self.geometry.format self.geometry.extents self.geometry.pages self.geometry.sections) }
-        ensures found { IfOk result (λ made. made.found ≡ (0, 0)) }
         ensures pages { IfOk result (λ made. file_pages (disk_below made.disk) ≡ pages_of self.geometry) }
         ensures refusals { IfErr result (λ error. (error ≡ OpenError.DeviceFault) ⊎ (error ≡ OpenError.OutOfMemory) ⊎ (error ≡ OpenError.Occupied) ⊎ (error ≡ OpenError.NotEmpty)) }
     {
@@ -238,14 +288,16 @@ impl OpenOptions {
         }
     }
 
-    /// Opens the store that is in a file, as it was made persistent or as a crash left it. The file is locked as long
-    /// as the store lives. `findings` reports pages of which it has two and one is damaged. Descriptors 0 to 2 have to
-    /// be open, as at `create_file`.
+    /// Opens the store that is in a file, as it was made persistent or as a crash left it, by `open_to_write`. The file
+    /// is locked as long as the store lives. Descriptors 0 to 2 have to be open, as at `create_file`.
+    ///
+    /// If the store has two of a page, and one of them is damaged, that one is written over with bytes of 255.
+    /// `findings` reports which it was. Copy the file before if you want to look at the page.
     ///
     /// Refused 1 DeviceFault if the operating system refuses a call, for example if there is no such file or another
     /// process has it; 6 OddLength; 43 NotAStore if no store of that many pages is in it; 20 to 26 for a page that is
-    /// damaged; 27 RootLost if the root is older than one that was persistent; and 9 OutOfMemory. The file
-    /// is as it was then.
+    /// damaged; 27 RootLost if the root is older than one that was persistent; and 9 OutOfMemory. The file then shows
+    /// what it showed, and it is as it was, but that after 1 or 9 damaged pages may have been written over.
     pub fn open_file<R: Files<File = File>>(
         self,
         rt: &R,
@@ -260,7 +312,7 @@ impl OpenOptions {
             Err(OpenFault::DeviceFault) => return Err(OpenError::DeviceFault),
             Err(OpenFault::OddLength) => return Err(OpenError::OddLength),
         };
-        match self.open(disk) {
+        match self.open_to_write(disk) {
             Ok((mut store, findings)) => {
                 store.findings = findings;
                 Ok(store)

@@ -35,10 +35,13 @@ impl<D: PageDisk> Model for Store<D> {
 }
 
 impl<D: PageDisk> Store<D> {
-    /// What the pages held of which the store has two, as it was opened by `open_file` or `open_older_file`: those of
+    /// What the pages held of which the store has two, before it was opened by `open_file` or `open_older_file`: those of
     /// the root, which show as page 1, and of each section of the superblock. `Finding::passed_over` names a page that
-    /// is damaged. The list is empty for a store that was made, for one of the older formats, and for one that `open` or `open_older`
-    /// opened, which return it beside the store, with a contract. The value of a store is its core's, so no clause speaks of this list.
+    /// was damaged. `open_file` filled it with bytes of 255.
+    ///
+    /// The list is empty for a store that was made, and for one of the older formats. It is also empty for one that
+    /// `open`, `open_to_write` or `open_older` opened: they return it beside the store, with a contract. The value of a
+    /// store is its core's, so no clause speaks of this list.
     pub fn findings(&self) -> &[Finding] {
         &self.findings
     }

@@ -1,17 +1,21 @@
 -- A disk in pairs goes on to fit its rules.
-use Rattle.std.proofs.Common.{◌≡◌, ◌⊎◌, inl, inr, ⊎_elim, ℕ, ◌<◌, Bool, true, not, List, [], Some, slice_get, get_or, length, Result, Ok, Err, OnErr, OnOk, refl, sym, ◌∙◌, ap, subst}
+use Rattle.std.proofs.Common.{◌≡◌, ◌⊎◌, inl, inr, ⊎_elim, ℕ, ◌<◌, Bool, true, not, List, [], ◌∷◌, ◌++◌, Some, slice_get, get_or, length, Result, Ok, Err, OnErr, OnOk, refl, sym, ◌∙◌, ap, subst}
 use Rattle.std.proofs.lemmas.Option.{slice_get-get_or}
 use Rattle.std.proofs.Math.Logic.{∥∥₁_map}
 use Rattle.cs_disk.specs.Disk.{Image, MayLeave, State, Write, crashed, flushed, page, seen, written}
 use Rattle.cs_disk.proofs.Crashes.{seen_MayLeave}
+use Rattle.cs_disk.proofs.Images.{length-applied}
 use Rattle.cs_twin.specs.declared.pairs.Pair.{Pair}
 use Rattle.cs_twin.specs.declared.pairs.PageRules.{Ghosts as PageRules}
+use Rattle.cs_twin.specs.declared.findings.Filling.{Filling}
+use Rattle.cs_twin.specs.declared.findings.Filling.TheVariants.{Copy, Fence}
+use Rattle.cs_twin.specs.Fillings.{IsFilling, fenced_over, filled_with}
 use Rattle.cs_twin.specs.Findings.{finding_in, passed_over}
 use Rattle.cs_twin.specs.Fitting.{IsFit}
 use Rattle.cs_twin.specs.Kept.{AreAllowed}
-use Rattle.cs_twin.specs.Pairs.{ArePairs, AreNoOlder, half, is_turned}
+use Rattle.cs_twin.specs.Pairs.{ArePairs, AreNoOlder, Versions, fence, half, is_turned}
 use Rattle.cs_twin.specs.Tears.{IsUnpaired}
-use Rattle.cs_twin.proofs.Mending.{before_mid, goes_there, newer_there}
+use Rattle.cs_twin.proofs.Mending.{IsPassed, bytes_there, copy_newer, fence_newer, passed_there, sized_pairs}
 use Rattle.cs_twin.proofs.Right.{pushed_at}
 
 -- the law of the rules
@@ -20,9 +24,9 @@ Keeps rules r = (pairs : List Pair) (pages : ℕ) (s : State) (c : Image) → Ar
     → rules.fits r pairs pages s.durable → MayLeave s c → rules.fits r pairs pages c
 
 -- where a write to a half goes, behind reads
-pub goes_below : (x : Pair) (t : Bool) (bytes : List ℕ) (s mid now : State) → mid ≡ s → (now ≡ mid) ⊎ (now ≡ written mid (half x t) bytes) → (now ≡ s) ⊎ ((twin : Bool) × (now ≡ written s (half x twin) bytes))
-goes_below x t bytes s mid now same (inl still) = inl (still ∙ same)
-goes_below x t bytes s mid now same (inr is) = inr (t, is ∙ ap (λ (z : State). written z (half x t) bytes) same)
+pub goes_below : (V : Versions) (x : Pair) (t : Bool) (bytes : List ℕ) (s mid now : State) → mid ≡ s → (now ≡ mid) ⊎ ((0 < V x.page bytes) × (now ≡ written mid (half x t) bytes)) → (now ≡ s) ⊎ ((twin : Bool) × (now ≡ written s (half x twin) bytes))
+goes_below V x t bytes s mid now same (inl still) = inl (still ∙ same)
+goes_below V x t bytes s mid now same (inr is) = inr (t, is.1 ∙ ap (λ (z : State). written z (half x t) bytes) same)
 
 pub goes_below_ok : {T E : Type 0} (result : Result T E) (x : Pair) (t : Bool) (bytes : List ℕ) (s mid now : State) → mid ≡ s → OnOk result (now ≡ written mid (half x t) bytes) → OnOk result ((twin : Bool) × (now ≡ written s (half x twin) bytes))
 goes_below_ok (Ok u) x t bytes s mid now same is = (t, is ∙ ap (λ (z : State). written z (half x t) bytes) same)
@@ -107,17 +111,58 @@ module _ {R : Type 0} (rules : PageRules R) (r : R) (pairs : List Pair) (n : ℕ
       let done = call (subst (λ (l : List Pair). IsFit rules r l m s) (sym same) here) in
       subst (λ j. IsFit rules r pairs j now) (before ∙ sym after) (subst (λ (l : List Pair). IsFit rules r l m now) same done)
 
-  -- ---- a repair
+  -- ---- a page that is passed over is filled
 
-  module _ (s mid : State) (k p : ℕ) (d : Pair) (bytes : List ℕ) (are : ArePairs pairs n) (sized : length s.durable ≡ n) (inside : k < length pairs) (same : mid ≡ s) (none : s.volatile ≡ [])
-      (damaged : Some p ≡ passed_over (finding_in (rules.version r) (seen s) (get_or pairs k d))) (is : bytes ≡ page (seen s) (half (get_or pairs k d) (is_turned (rules.version r) (seen s) (get_or pairs k d)))) (fit : IsFit rules r pairs n s) where
-    pub fit_doubted : (now : State) → (now ≡ mid) ⊎ (now ≡ written mid p bytes) → IsFit rules r pairs n now
-    fit_doubted now either =
-        fit_half s now k (get_or pairs k d) (not (is_turned (rules.version r) s.durable (get_or pairs k d))) p bytes (slice_get-get_or pairs k d inside)
-        (goes_there (rules.version r) pairs s mid n k p d bytes are sized inside same none damaged is) (before_mid (rules.version r) pairs s mid n k p d bytes are sized inside same none damaged is now either) fit
+  module _ (hollow : (q : ℕ) → rules.version r q fence ≡ 0) (filling : Filling) (s mid : State) (k p : ℕ) (d : Pair) (bytes : List ℕ) (are : ArePairs pairs n) (sized : length s.durable ≡ n) (inside : k < length pairs) (same : mid ≡ s) (none : s.volatile ≡ [])
+      (damaged : Some p ≡ passed_over (finding_in (rules.version r) (seen s) (get_or pairs k d))) (is : bytes ≡ page (seen s) (half (get_or pairs k d) (is_turned (rules.version r) (seen s) (get_or pairs k d)))) (fit : IsFit rules r pairs n s) (keeps : Keeps rules r) where
+    abbrev V : Versions
+    V = rules.version r
 
-    pub fit_mended : Keeps rules r → (now : State) → now ≡ flushed (written mid p bytes) → IsFit rules r pairs n now
-    fit_mended keeps now done =
-        fit_flushed keeps (written mid p bytes) now are (ap (λ (z : State). length z.durable) same ∙ sized)
-        (subst (λ (z : State). AreNoOlder (rules.version r) pairs (written z p bytes)) (sym same) (newer_there (rules.version r) pairs s mid n k p d bytes are sized inside same none damaged is))
-        done (fit_doubted (written mid p bytes) (inr refl))
+    abbrev x : Pair
+    x = get_or pairs k d
+
+    at : slice_get pairs k ≡ Some x
+    at = slice_get-get_or pairs k d inside
+
+    here : ArePairs pairs (length s.durable)
+    here = sized_pairs V hollow filling pairs s mid n k p d bytes are sized inside same none damaged is
+
+    passed : IsPassed V s.durable x p
+    passed = passed_there V hollow filling pairs s mid n k p d bytes are sized inside same none damaged is
+
+    newest : bytes ≡ page s.durable (half x (is_turned V s.durable x))
+    newest = bytes_there V hollow filling pairs s mid n k p d bytes are sized inside same none damaged is
+
+    -- a write over it
+    over : (z : State) (b : List ℕ) → IsFit rules r pairs n z → IsFit rules r pairs n (written z p b)
+    over z b fits = fit_half z (written z p b) k x (not (is_turned V s.durable x)) p b at passed.other (inr refl) fits
+
+    fence_waits : IsFit rules r pairs n (written s p fence)
+    fence_waits = over s fence fit
+
+    fence_lies : IsFit rules r pairs n (fenced_over s p)
+    fence_lies = fit_flushed keeps (written s p fence) (fenced_over s p) are sized (fence_newer V hollow pairs s k p x bytes here at none passed newest) refl fence_waits
+
+    copy_waits : IsFit rules r pairs n (written (fenced_over s p) p bytes)
+    copy_waits = over (fenced_over s p) bytes fence_lies
+
+    size_fenced : length (fenced_over s p).durable ≡ n
+    size_fenced = length-applied s.durable (s.volatile ++ (p, fence) ∷ []) ∙ sized
+
+    by_filling : (f : Filling) (now : State) → IsFilling f s now p bytes → IsFit rules r pairs n now
+    by_filling Fence now (inl still) = fit_same s now still fit
+    by_filling Fence now (inr new) = fit_same (written s p fence) now new fence_waits
+    by_filling Copy now (inl (inl still)) = fit_same s now still fit
+    by_filling Copy now (inl (inr new)) = fit_same (written s p fence) now new fence_waits
+    by_filling Copy now (inr (inl done)) = fit_same (fenced_over s p) now done fence_lies
+    by_filling Copy now (inr (inr new)) = fit_same (written (fenced_over s p) p bytes) now new copy_waits
+
+    pub fit_filling : (now : State) → IsFilling filling mid now p bytes → IsFit rules r pairs n now
+    fit_filling now is_on = by_filling filling now (subst (λ (z : State). IsFilling filling z now p bytes) same is_on)
+
+    when_filled : (f : Filling) (now : State) → now ≡ filled_with f s p bytes → IsFit rules r pairs n now
+    when_filled Fence now new = fit_same (fenced_over s p) now new fence_lies
+    when_filled Copy now new = fit_flushed keeps (written (fenced_over s p) p bytes) now are size_fenced (copy_newer V hollow pairs s k p x bytes here at none passed newest) new copy_waits
+
+    pub fit_filled : (now : State) → now ≡ filled_with filling mid p bytes → IsFit rules r pairs n now
+    fit_filled now new = when_filled filling now (new ∙ ap (λ (z : State). filled_with filling z p bytes) same)

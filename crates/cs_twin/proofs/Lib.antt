@@ -2,13 +2,16 @@ pub mod Roles
 pub mod Shown
 pub mod Leaving
 pub mod Holding
+pub mod Fencing
 pub mod Right
 pub mod Writing
 pub mod Over
 pub mod Opening
 pub mod Taking
 pub mod Tearing
+pub mod Mixing
 pub mod Becoming
 pub mod Mending
+pub mod Filled
 pub mod MendingAll
 pub mod Fits

@@ -7,7 +7,7 @@ use Rattle.cs_twin.specs.declared.pairs.Pair.{Pair}
 use Rattle.cs_twin.specs.Laws.{ShowsKept}
 use Rattle.cs_twin.specs.Pairs.{ArePairs, AreNoOlder, Versions, blank, half, is_turned, left_shown, shown_page, shown_state}
 use Rattle.cs_twin.proofs.Leaving.{are_on, elapses_shown, seen_shown, shown_kept, whole_shown}
-use Rattle.cs_twin.proofs.Roles.{IsOwn, shown_page-none, shown_page-own, shown_page-twin, shows_as-none}
+use Rattle.cs_twin.proofs.Roles.{IsOwn, shown_page-none, shown_page-own, shown_page-twin, shown_write-none}
 use Rattle.cs_twin.proofs.Shown.{page-shown}
 use Rattle.cs_twin.proofs.Writing.{shows_as_written}
 
@@ -63,7 +63,7 @@ module _ (V : Versions) (pairs : List Pair) (pages : ℕ) (s : State) (are : Are
 
 module _ (V : Versions) (pairs : List Pair) (s now : State) (p : ℕ) (bytes : List ℕ) (own : IsOwn pairs p) where
   own_written : now ≡ written s p bytes → shown_state V pairs now ≡ written (shown_state V pairs s) p bytes
-  own_written is = ap (shown_state V pairs) is ∙ shows_as_written V pairs s p p bytes (shows_as-none pairs p own)
+  own_written is = ap (shown_state V pairs) is ∙ shows_as_written V pairs s p p bytes (shown_write-none V pairs (p, bytes) own)
 
   pub own_ok : {T E : Type 0} (result : Result T E) → OnOk result (now ≡ written s p bytes) → OnOk result (shown_state V pairs now ≡ written (shown_state V pairs s) p bytes)
   own_ok (Ok t) is = own_written is

@@ -3,9 +3,9 @@ use Rattle.std.proofs.Common.{◌≡◌, ◌≢◌, ◌⊎◌, inl, inr, ⊎_eli
 use Rattle.std.proofs.lemmas.Bool.{cases_eq, cases_lt}
 use Rattle.std.proofs.lemmas.Bool.Decides.{nat_tests}
 use Rattle.std.proofs.lemmas.Option.{get_or_from_slice_get, same_Some}
-use Rattle.cs_disk.specs.Disk.{Image, page}
+use Rattle.cs_disk.specs.Disk.{Image, Write, page}
 use Rattle.cs_twin.specs.declared.pairs.Pair.{Pair}
-use Rattle.cs_twin.specs.Pairs.{ArePairs, Versions, blank, half, is_turned, shown_page, shows_as}
+use Rattle.cs_twin.specs.Pairs.{ArePairs, Versions, blank, half, is_turned, shown_half, shown_page, shown_write}
 
 -- the two cases of a test
 pub if_same : {A : Type 0} (p : ℕ) (x y : A) → (if p == p then x else y) ≡ x
@@ -13,6 +13,9 @@ if_same p x y = grind (arith, nat_tests)
 
 pub if_other : {A : Type 0} (q p : ℕ) (x y : A) → (q ≡ p → ⊥) → (if q == p then x else y) ≡ y
 if_other q p x y other = grind (arith, nat_tests)
+
+pub if_is : {A : Type 0} (q p : ℕ) (x y : A) → q ≡ p → (if q == p then x else y) ≡ x
+if_is q p x y same = grind (arith, nat_tests)
 
 pub others : (y : Pair) (pairs : List Pair) (n : ℕ) → ArePairs (y ∷ pairs) n → ArePairs pairs n
 others y pairs n are = record {
@@ -85,31 +88,35 @@ module _ (V : Versions) (image : Image) where
       ∙ if_other y.page p _ _ (λ e. none 0 y false refl (sym e))
       ∙ shown_page-none pairs p (λ k x twin at is. none (suc k) x twin at is)
 
--- under which number it shows
-pub shows_as-none : (pairs : List Pair) (p : ℕ) → IsOwn pairs p → shows_as pairs p ≡ p
-shows_as-none [] p none = refl
-shows_as-none (y ∷ pairs) p none = if_other y.twin p _ _ (λ e. none 0 y true refl (sym e)) ∙ shows_as-none pairs p (λ k x twin at is. none (suc k) x twin at is)
+-- what a write shows as: one to no pair as it is
+pub shown_write-none : (V : Versions) (pairs : List Pair) (w : Write) → IsOwn pairs w.0 → shown_write V pairs w ≡ w
+shown_write-none V [] w none = refl
+shown_write-none V (y ∷ pairs) w none =
+    if_other y.twin w.0 _ _ (λ e. none 0 y true refl (sym e))
+    ∙ if_other y.page w.0 _ _ (λ e. none 0 y false refl (sym e))
+    ∙ shown_write-none V pairs w (λ k x twin at is. none (suc k) x twin at is)
 
-pub shows_as-half : (pairs : List Pair) (n : ℕ) → ArePairs pairs n → (k : ℕ) (x : Pair) (twin : Bool) → slice_get pairs k ≡ Some x → shows_as pairs (half x twin) ≡ x.page
-shows_as-half [] n are k x twin at = cc
-shows_as-half (y ∷ pairs) n are zero x true at = subst (λ (z : Pair). shows_as (y ∷ pairs) z.twin ≡ z.page) (same_Some y x at) (if_same y.twin _ _)
-shows_as-half (y ∷ pairs) n are zero x false at =
-    subst (λ (z : Pair). shows_as (y ∷ pairs) z.page ≡ z.page) (same_Some y x at)
-    (if_other y.twin y.page _ _ (halves_apart y pairs n are) ∙ shows_as-none pairs y.page (λ k z twin at_k is. first_apart y pairs n are k z false twin at_k is))
-shows_as-half (y ∷ pairs) n are (suc k) x twin at =
-    if_other y.twin (half x twin) _ _ (λ e. first_apart y pairs n are k x true twin at e) ∙ shows_as-half pairs n (others y pairs n are) k x twin at
-
--- what shows under a pair's number is one of its halves
-pub half_of : (pairs : List Pair) (n : ℕ) → ArePairs pairs n → (k : ℕ) (x : Pair) → slice_get pairs k ≡ Some x → (p : ℕ) → shows_as pairs p ≡ x.page → (twin : Bool) × (p ≡ half x twin)
-half_of pairs n are k x at p same = from (role pairs p)
+-- one to a half as one to its pair
+pub shown_write-half : (V : Versions) (pairs : List Pair) (n : ℕ) → ArePairs pairs n → (k : ℕ) (x : Pair) (twin : Bool) (w : Write) → slice_get pairs k ≡ Some x → w.0 ≡ half x twin → shown_write V pairs w ≡ shown_half V x w.1
+shown_write-half V [] n are k x twin w at goes = cc
+shown_write-half V (y ∷ pairs) n are zero x twin w at goes =
+    let same = same_Some y x at in
+    by_half twin (ap (λ (z : Pair). half z twin) same ∙ sym goes) ∙ ap (λ (z : Pair). shown_half V z w.1) same
   where
-    from : IsHalf pairs p ⊎ IsOwn pairs p → (twin : Bool) × (p ≡ half x twin)
-    from (inr none) = (false, sym (shows_as-none pairs p none) ∙ same)
-    from (inl found) =
-        let shows : found.pair.page ≡ x.page = sym (ap (shows_as pairs) found.is ∙ shows_as-half pairs n are found.place found.pair found.twin found.at) ∙ same in
-        let here = are.apart found.place k found.pair x false false found.at at shows in
-        let pair : found.pair ≡ x = same_Some found.pair x (sym found.at ∙ ap (slice_get pairs) here.0 ∙ at) in
-        (found.twin, found.is ∙ ap (λ (z : Pair). half z found.twin) pair)
+    by_half : (b : Bool) → half y b ≡ w.0 → shown_write V (y ∷ pairs) w ≡ shown_half V y w.1
+    by_half true is = if_is y.twin w.0 _ _ is
+    by_half false is = if_other y.twin w.0 _ _ (λ e. halves_apart y pairs n are (e ∙ sym is)) ∙ if_is y.page w.0 _ _ is
+shown_write-half V (y ∷ pairs) n are (suc k) x twin w at goes =
+    if_other y.twin w.0 _ _ (λ e. first_apart y pairs n are k x true twin at (e ∙ goes))
+    ∙ if_other y.page w.0 _ _ (λ e. first_apart y pairs n are k x false twin at (e ∙ goes))
+    ∙ shown_write-half V pairs n (others y pairs n are) k x twin w at goes
+
+-- one of a whole page, and one of another
+pub shown_half-whole : (V : Versions) (x : Pair) (bytes : List ℕ) → 0 < V x.page bytes → shown_half V x bytes ≡ (x.page, bytes)
+shown_half-whole V x bytes some = if_other (V x.page bytes) 0 _ _ (λ e. absurd (omega (arith, some, e)))
+
+pub shown_half-none : (V : Versions) (x : Pair) (bytes : List ℕ) → V x.page bytes ≡ 0 → shown_half V x bytes ≡ (x.twin, blank)
+shown_half-none V x bytes none = if_is (V x.page bytes) 0 _ _ none
 
 -- an element of a front of a list
 slice_get-take : {A : Type 0} (n : ℕ) (xs : List A) (j : ℕ) (x : A) → slice_get (take n xs) j ≡ Some x → (j < n) × (slice_get xs j ≡ Some x)

@@ -1,17 +1,16 @@
 -- What is left where pages tear shows as a crash of the disk as it shows, but for frames that were being written.
-use Rattle.std.proofs.Common.{◌≡◌, ◌≢◌, ◌⊎◌, inl, inr, ⊎_elim, if◌then◌else◌, ◌==◌, ℕ, zero, suc, ◌+◌, ◌<◌, ◌≤◌, Bool, true, false, not, List, [], ◌∷◌, Some, drop, slice_get, get_or, length, map, nat_le, refl, sym, ◌∙◌, ap, subst, arith}
+use Rattle.std.proofs.Common.{◌≡◌, ◌≢◌, ◌⊎◌, inl, inr, ⊎_elim, if◌then◌else◌, ◌==◌, ℕ, zero, suc, ◌+◌, ◌<◌, ◌≤◌, Bool, true, false, not, List, [], ◌∷◌, Some, drop, slice_get, get_or, length, map, refl, sym, ◌∙◌, ap, subst, arith}
 use Rattle.std.proofs.lemmas.Bool.{cases_eq, cases_lt}
-use Rattle.std.proofs.lemmas.Bool.Decides.{nat_tests}
 use Rattle.std.proofs.lemmas.Option.{same_Some}
 use Rattle.cs_disk.specs.Disk.{Image, MayLeave, State, Write, applied, kept, latest, page}
 use Rattle.cs_disk.proofs.Images.{length-applied, page-applied}
 use Rattle.cs_twin.specs.declared.pairs.Held.{Held}
 use Rattle.cs_twin.specs.declared.pairs.Pair.{Pair}
-use Rattle.cs_twin.specs.Pairs.{ArePairs, AreNoOlder, Versions, half, is_turned, shown, shown_page, shown_state, shown_write, shows_as, version_at}
-use Rattle.cs_twin.specs.Tears.{HasWaitingWrite, IsLeft, IsNotWhole, IsTornBeside, MayTear}
+use Rattle.cs_twin.specs.Pairs.{ArePairs, AreNoOlder, Versions, half, is_turned, shown, shown_page, shown_state, shown_write}
+use Rattle.cs_twin.specs.Tears.{HasWaitingWrite, IsLeft, IsNotWhole, IsTornBeside}
 use Rattle.cs_twin.proofs.Leaving.{kept_newer, shows_left}
-use Rattle.cs_twin.proofs.Roles.{IsHalf, IsOwn, if_other, role, shown_page-none, shown_page-own, shown_page-twin, shows_as-none}
-use Rattle.cs_twin.proofs.Shown.{by_halves, held_same, length-shown, newest_stays, page-shown}
+use Rattle.cs_twin.proofs.Roles.{IsHalf, IsOwn, if_other, role, shown_page-none, shown_page-own, shown_page-twin, shown_write-none}
+use Rattle.cs_twin.proofs.Shown.{by_halves, held_same, keeps_turned, length-shown, newest_stays, page-shown}
 
 -- ---- one mask for all pages
 
@@ -91,9 +90,15 @@ mapped_at f (y ∷ xs) (suc i) x at = mapped_at f xs i x at
 
 waits_shown : (V : Versions) (pairs : List Pair) (s : State) (p : ℕ) → IsOwn pairs p → HasWaitingWrite s p → HasWaitingWrite (shown_state V pairs s) p
 waits_shown V pairs s p own waits =
-    (waits.0, shown_write pairs waits.1, mapped_at (shown_write pairs) s.volatile waits.0 waits.1 waits.2, ap (shows_as pairs) waits.3 ∙ shows_as-none pairs p own)
+    (waits.0, shown_write V pairs waits.1, mapped_at (shown_write V pairs) s.volatile waits.0 waits.1 waits.2, ap (λ (w : Write). w.0) (shown_write-none V pairs waits.1 (subst (IsOwn pairs) (sym waits.3) own)) ∙ waits.3)
 
-module _ (V : Versions) (pairs : List Pair) (s : State) (c : Image) (are : ArePairs pairs (length s.durable)) (newer : AreNoOlder V pairs s) (tear : MayTear V pairs s c) where
+-- Each page holds what some of the volatile writes to it leave, each its own; or it was being written, and holds
+-- bytes that aren't whole.
+pub record MaySpoil (V : Versions) (pairs : List Pair) (s : State) (image : Image) : Type 0 where
+  pub size : length image ≡ length s.durable
+  pub each : (p : ℕ) → p < length s.durable → IsLeft s p (page image p) ⊎ (HasWaitingWrite s p × IsNotWhole V pairs p (page image p))
+
+module _ (V : Versions) (pairs : List Pair) (s : State) (c : Image) (are : ArePairs pairs (length s.durable)) (newer : AreNoOlder V pairs s) (tear : MaySpoil V pairs s c) where
   -- ---- the crash that is nearest
 
   abbrev Left : ℕ → Type 0
@@ -152,21 +157,8 @@ module _ (V : Versions) (pairs : List Pair) (s : State) (c : Image) (are : ArePa
   newest_whole : (k : ℕ) (x : Pair) → slice_get pairs k ≡ Some x → page c (half x (is_turned V s.durable x)) ≡ page nearest (half x (is_turned V s.durable x))
   newest_whole k x at = ⊎_elim
       (λ (same : page c (half x (is_turned V s.durable x)) ≡ page nearest (half x (is_turned V s.durable x))). same)
-      (λ (torn : IsTorn (half x (is_turned V s.durable x))). absurd ((newer k torn.written.0 x torn.written.1 at torn.written.2 (is_turned V s.durable x) torn.written.3).0 refl))
+      (λ (torn : IsTorn (half x (is_turned V s.durable x))). absurd ((newer.each k torn.written.0 x torn.written.1 at torn.written.2 (is_turned V s.durable x) torn.written.3).0 refl))
       (near (half x (is_turned V s.durable x)) (are.inside k x (is_turned V s.durable x) at))
-
-  -- a half with no version is never newer than one that was the newest
-  older : (own twin now : ℕ) (t : Bool) → nat_le own twin ≡ t → (now ≡ 0) → (if t then nat_le now twin else nat_le own now) ≡ t
-  older own twin now true is none = grind (arith, nat_tests)
-  older own twin now false is none = grind (arith, nat_tests)
-
-  torn_turned : (x : Pair) (t : Bool) → is_turned V s.durable x ≡ t → page c (half x t) ≡ page s.durable (half x t) → V x.page (page c (half x (not t))) ≡ 0 → is_turned V c x ≡ t
-  torn_turned x true is newest none =
-      let stays = ap (V x.page) newest in
-      ap (λ n. nat_le (version_at V c x false) n) stays ∙ older (version_at V s.durable x false) (version_at V s.durable x true) (version_at V c x false) true is none
-  torn_turned x false is newest none =
-      let stays = ap (V x.page) newest in
-      ap (λ n. nat_le n (version_at V c x true)) stays ∙ older (version_at V s.durable x false) (version_at V s.durable x true) (version_at V c x true) false is none
 
   -- so each pair shows the same
   pair_shows : (k : ℕ) (x : Pair) → slice_get pairs k ≡ Some x → shown_page V pairs c x.page ≡ shown_page V pairs nearest x.page
@@ -181,7 +173,7 @@ module _ (V : Versions) (pairs : List Pair) (s : State) (c : Image) (are : ArePa
           halves (is_turned V c x) ∙ ap (λ (h : Held). page nearest (half x h.turned)) (held_same V c nearest x halves)
       from (inr torn) =
           let durable = newest_whole k x at ∙ nearest_newest k x at in
-          let there = torn_turned x t refl durable (torn.not_whole k x (not t) at refl) in
+          let there = keeps_turned V s.durable c x t refl durable (torn.not_whole k x (not t) at refl) in
           let here = held_same V nearest s.durable x (by_halves t (λ b. page nearest (half x b) ≡ page s.durable (half x b)) (nearest_newest k x at) torn.durable) in
           ap (λ b. page c (half x b)) there ∙ newest_whole k x at ∙ sym (ap (λ (h : Held). page nearest (half x h.turned)) here)
 
@@ -202,7 +194,8 @@ module _ (V : Versions) (pairs : List Pair) (s : State) (c : Image) (are : ArePa
   unfolding nearest
   length-nearest = length-applied s.durable (kept mask s.volatile)
 
-  -- What is left shows as what a crash of the disk as it shows might leave, but for pages of no pair that were being written.
+  -- What is left shows as what a crash of the disk as it shows might leave, but for pages of no pair that were being
+  -- written.
   pub torn_shows : (d : Image) × MayLeave (shown_state V pairs s) d × IsTornBeside pairs (shown_state V pairs s) d (shown V pairs c)
   torn_shows = (
     shown V pairs nearest,

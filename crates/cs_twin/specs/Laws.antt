@@ -9,7 +9,7 @@ use Rattle.cs_twin.specs.Pairs.{Versions, left_shown, shown, shown_page, shown_s
 
 -- whichever of the volatile writes are kept, what is left shows as what they leave, as they show
 abbrev pub ShowsKept : Versions → List Pair → State → Type 0
-ShowsKept V pairs s = (mask : List Bool) → shown V pairs (applied s.durable (kept mask s.volatile)) ≡ applied (shown V pairs s.durable) (kept mask (map (shown_write pairs) s.volatile))
+ShowsKept V pairs s = (mask : List Bool) → shown V pairs (applied s.durable (kept mask s.volatile)) ≡ applied (shown V pairs s.durable) (kept mask (map (shown_write V pairs) s.volatile))
 
 -- The image has as many pages as it shows.
 pub sized_shown : (V : Versions) (pairs : List Pair) (image : Image) → length (shown V pairs image) ≡ length image
@@ -20,11 +20,11 @@ pub counts_pairs : (V : Versions) (pairs : List Pair) (s : State) → ShowsKept 
     → (left : ℕ → Image → Type 0) (t : ℕ) → ((c : Image) → MayLeave s c → left t c) → (c : Image) → MayLeave (shown_state V pairs s) c → left_shown V pairs left t c
 counts_pairs V pairs s shows left t now c is =
     let image = applied s.durable (kept is.0 s.volatile) in
-    (image, now image (is.0, is.1 ∙ length-map s.volatile (shown_write pairs), refl), is.2 ∙ sym (shows is.0))
+    (image, now image (is.0, is.1 ∙ length-map s.volatile (shown_write V pairs), refl), is.2 ∙ sym (shows is.0))
 
 -- Where nothing else might have been left below, nothing else might above.
 pub only_pairs : (V : Versions) (pairs : List Pair) (s : State) → ShowsKept V pairs s
     → (left : ℕ → Image → Type 0) (t : ℕ) → ((c : Image) → left t c → MayLeave s c) → (c : Image) → left_shown V pairs left t c → MayLeave (shown_state V pairs s) c
 only_pairs V pairs s shows left t only c is =
     let below = only is.0 is.1 in
-    (below.0, below.1 ∙ sym (length-map s.volatile (shown_write pairs)), is.2 ∙ ap (shown V pairs) below.2 ∙ shows below.0)
+    (below.0, below.1 ∙ sym (length-map s.volatile (shown_write V pairs)), is.2 ∙ ap (shown V pairs) below.2 ∙ shows below.0)

@@ -1,4 +1,6 @@
+pub mod Fences
 pub mod Findings
+pub mod Fillings
 pub mod Noted
 pub mod Paired
 pub mod Pairs

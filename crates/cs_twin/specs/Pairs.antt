@@ -1,4 +1,5 @@
--- Pairs of pages of a device, each of which shows as one page of the disk above, with the newest that either of the two holds.
+-- Pairs of pages of a device, each of which shows as one page of the disk above, with the newest that either of the
+-- two holds.
 use Rattle.std.specs.Prelude.{◌≡◌, ◌<◌, ◌≤◌, ◌==◌, ℕ, Bool, true, false, if◌then◌else◌, List, [], ◌∷◌, Some, length, map, nat_le, replicate, slice_get}
 use Rattle.std.specs.List.{range_with_len}
 use Rattle.cs_disk.specs.Disk.{Image, State, Write, page}
@@ -12,6 +13,10 @@ Versions = (page : ℕ) → (bytes : List ℕ) → ℕ
 -- a page of zeros
 unfoldable pub blank : List ℕ
 blank = replicate 4096 0
+
+-- a fence: a page of bytes of 255
+unfoldable pub fence : List ℕ
+fence = replicate 4096 255
 
 -- one of the two pages of a pair: its twin, or the one that has the number under which both show
 abbrev pub half : Pair → (twin : Bool) → ℕ
@@ -48,32 +53,42 @@ shown_page V (x ∷ pairs) image p =
 abbrev pub shown : Versions → List Pair → Image → Image
 shown V pairs image = map (shown_page V pairs image) (range_with_len 0 (length image))
 
--- under which number a page of the device shows
-abbrev pub shows_as : List Pair → ℕ → ℕ
-shows_as [] p = p
-shows_as (x ∷ pairs) p = if x.twin == p then x.page else shows_as pairs p
+-- What a write to a half shows as: a write to its pair. Bytes that aren't whole show as zeros written to the twin,
+-- which shows as zeros anyway.
+abbrev pub shown_half : Versions → Pair → List ℕ → Write
+shown_half V x bytes = if V x.page bytes == 0 then (x.twin, blank) else (x.page, bytes)
 
 -- a write as it shows
-abbrev pub shown_write : List Pair → Write → Write
-shown_write pairs w = (shows_as pairs w.0, w.1)
+abbrev pub shown_write : Versions → List Pair → Write → Write
+shown_write V [] w = w
+shown_write V (x ∷ pairs) w =
+    if x.twin == w.0 then shown_half V x w.1 else (if x.page == w.0 then shown_half V x w.1 else shown_write V pairs w)
 
 -- a disk as it shows: its durable image, and each volatile write under the number of its pair
 abbrev pub shown_state : Versions → List Pair → State → State
-shown_state V pairs s = record { durable = shown V pairs s.durable; volatile = map (shown_write pairs) s.volatile }
+shown_state V pairs s = record { durable = shown V pairs s.durable; volatile = map (shown_write V pairs) s.volatile }
 
 -- what images that have P show as
 abbrev pub Shows : Versions → List Pair → (Image → Type 0) → Image → Type 0
 Shows V pairs P c = (image : Image) × P image × (c ≡ shown V pairs image)
 
--- A write that goes to a half of this pair goes to the one that isn't the newest of the image; its version is no less than that one's, and where it
--- is the same, so are its bytes.
+-- A write that goes to a half of this pair goes to the one that isn't the newest of the image. If it is whole, its
+-- version is no less than the newest one's, and where the two are the same, so are the bytes. If it isn't whole, it
+-- is a fence.
 abbrev pub IsNoOlder : Versions → Image → Pair → Write → Type 0
 IsNoOlder V image x w = (twin : Bool) → w.0 ≡ half x twin → (twin ≡ is_turned V image x → ⊥)
-    × (version_at V image x (is_turned V image x) ≤ V x.page w.1) × (V x.page w.1 ≡ version_at V image x (is_turned V image x) → w.1 ≡ page image (half x (is_turned V image x)))
+    × (0 < V x.page w.1 → (version_at V image x (is_turned V image x) ≤ V x.page w.1) × (V x.page w.1 ≡ version_at V image x (is_turned V image x) → w.1 ≡ page image (half x (is_turned V image x))))
+    × (V x.page w.1 ≡ 0 → w.1 ≡ fence)
 
--- so is each volatile write to a pair
+-- So is each of these writes to each pair; and of those to one pair all are whole, or none is.
+pub record NoneIsOlder (V : Versions) (pairs : List Pair) (image : Image) (writes : List Write) : Type 0 where
+  pub each : (k i : ℕ) (x : Pair) (w : Write) → slice_get pairs k ≡ Some x → slice_get writes i ≡ Some w → IsNoOlder V image x w
+  pub alike : (k i j : ℕ) (x : Pair) (v w : Write) (b c : Bool) → slice_get pairs k ≡ Some x → slice_get writes i ≡ Some v → slice_get writes j ≡ Some w → v.0 ≡ half x b → w.0 ≡ half x c
+      → V x.page v.1 ≡ 0 → V x.page w.1 ≡ 0
+
+-- so are the volatile writes
 abbrev pub AreNoOlder : Versions → List Pair → State → Type 0
-AreNoOlder V pairs s = (k i : ℕ) (x : Pair) (w : Write) → slice_get pairs k ≡ Some x → slice_get s.volatile i ≡ Some w → IsNoOlder V s.durable x w
+AreNoOlder V pairs s = NoneIsOlder V pairs s.durable s.volatile
 
 -- the images that a crash at some moment from that one on might have left, as they show
 abbrev pub left_shown : Versions → List Pair → (ℕ → Image → Type 0) → ℕ → Image → Type 0

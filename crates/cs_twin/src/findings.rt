@@ -1,6 +1,7 @@
 //! What the halves of pairs hold, and how they are read and repaired.
-ghost use Rattle.std.specs.Prelude.{◌≡◌, if◌then◌else◌, ◌<◌, IfOk, OnOk, IfErr, length, map, ◌⊎◌, ◌↔◌, IfSome, OnErr};
-ghost use Rattle.cs_twin.specs.Findings.{held_of, is_damaged, passed_over, finding_in, half_in, is_blank};
+ghost use Rattle.std.specs.Prelude.{◌≡◌, ◌&&◌, if◌then◌else◌, ◌<◌, IfOk, OnOk, IfErr, length, map, ◌⊎◌, ◌↔◌, IfSome, OnErr};
+ghost use Rattle.cs_twin.specs.Findings.{are_known, finding_in, half_in, half_version, half_with, held_of, is_damaged, is_fence, is_known, passed_over};
+ghost use Rattle.cs_twin.specs.Fillings.{IsFilling, LeavesFilling, filled_with};
 ghost use Rattle.cs_disk.specs.Disk.{HasCause, seen, LeavesOnly, MayLeave, flushed, page, written};
 ghost use Rattle.cs_disk.specs.Reads.{OnlyReads};
 ghost use Rattle.cs_twin.specs.Pairs.{ArePairs, half, held_in, is_turned};
@@ -11,19 +12,34 @@ use std::alloc::Global;
 
 /// What one half of a pair holds.
 #[derive(Clone, Copy, Debug, PartialEq, Eq)]
-pub struct Half {
-    /// The version, from 1 on; 0 where it isn't whole.
-    pub version: u64,
-    /// It is all zeros.
-    pub blank: bool,
+pub enum Half {
+    /// It is whole, and has this version, from 1 on.
+    Whole(u64),
+    /// All its bytes are 255: it was passed over once, and filled before anything was written.
+    Fence,
+    /// Anything else: torn, or damaged.
+    Damaged,
 }
 
 impl Half {
-    /// A half beside one of this version is damaged: it isn't whole, and not just one that was never written.
-    fn is_damaged(self, beside: u64) -> bool
-        ensures { result ≡ is_damaged self beside }
+    /// The version of what it holds, 0 if it isn't whole.
+    pub fn version(self) -> u64
+        ensures { result ≡ half_version self }
     {
-        self.version == 0 && !(self.blank && beside <= 1)
+        match self {
+            Half::Whole(version) => version,
+            Half::Fence | Half::Damaged => 0,
+        }
+    }
+
+    /// It is neither whole nor a fence.
+    fn is_damaged(self) -> bool
+        ensures { result ≡ is_damaged self }
+    {
+        match self {
+            Half::Damaged => true,
+            Half::Whole(_) | Half::Fence => false,
+        }
     }
 }
 
@@ -42,28 +58,34 @@ impl Finding {
     pub fn held(self) -> Held
         ensures { result ≡ held_of self }
     {
-        let turned = self.own.version <= self.twin.version;
+        let turned = self.own.version() <= self.twin.version();
         Held {
             turned,
             version: if turned {
-                self.twin.version
+                self.twin.version()
             } else {
-                self.own.version
+                self.own.version()
             },
         }
     }
 
-    /// The page that is passed over since it is damaged, where the other half is whole. One that is all zeros beside version 1 counts as
-    /// never written: so is the twin of a new store.
+    /// The page that is passed over since it is damaged, if the other half is whole. A fence is no damage.
     pub fn passed_over(self) -> Option<u64>
         ensures { result ≡ passed_over self }
     {
         let newest = self.held();
-        if newest.version > 0 && self.other(newest.turned).is_damaged(newest.version) {
+        if newest.version > 0 && self.other(newest.turned).is_damaged() {
             Some(half_of(self.pair, !newest.turned))
         } else {
             None
         }
+    }
+
+    /// Each half is whole or a fence.
+    fn is_known(self) -> bool
+        ensures { result ≡ is_known self }
+    {
+        !self.own.is_damaged() && !self.twin.is_damaged()
     }
 
     /// What the other half holds.
@@ -74,24 +96,33 @@ impl Finding {
     }
 }
 
-/// All of the bytes are 0.
-fn is_blank(bytes: &[u8]) -> bool
-    ensures { result ≡ is_blank bytes.now }
+/// All of the bytes are 255.
+fn is_fence(bytes: &[u8]) -> bool
+    ensures { result ≡ is_fence bytes.now }
 {
-    bytes.iter().all(|byte| *byte == 0)
+    bytes.iter().all(|byte| *byte == 255)
+}
+
+/// What a half with these bytes holds, if they spell this version.
+fn half_with(version: u64, bytes: &[u8]) -> Half
+    ensures { result ≡ half_with version bytes.now }
+{
+    if version > 0 {
+        Half::Whole(version)
+    } else if is_fence(bytes) {
+        Half::Fence
+    } else {
+        Half::Damaged
+    }
 }
 
 /// What these bytes hold as a half of a pair.
 fn half_from<R: PageRules>(rules: &R, pair: Pair, bytes: &[u8; 4096]) -> Result<Half, DiskFault>
-    ensures version { IfOk result (λ it. it.version ≡ R.version rules.now pair.page bytes.now) }
-    ensures blank { IfOk result (λ it. it.blank ≡ is_blank bytes.now) }
+    ensures half { IfOk result (λ it. it ≡ half_with (R.version rules.now pair.page bytes.now) bytes.now) }
     ensures memory { IfErr result (λ fault. fault ≡ DiskFault.OutOfMemory) }
 {
     match rules.version_of(pair.page, bytes) {
-        Ok(version) => Ok(Half {
-            version,
-            blank: is_blank(bytes),
-        }),
+        Ok(version) => Ok(half_with(version, bytes)),
         Err(fault) => Err(fault),
     }
 }
@@ -162,29 +193,43 @@ pub fn read_findings<D: PageDisk, R: PageRules>(
     Ok(found)
 }
 
-/// Reads both halves of each pair, and notes which is the newest.
+/// Whether some pairs and one more are known.
+fn are_both_known(known: bool, finding: Finding) -> bool
+    ensures { result ≡ (known && is_known finding) }
+{
+    known && finding.is_known()
+}
+
+/// Reads both halves of each pair, and notes which is the newest. Answers whether each half of each pair is whole or
+/// a fence.
 pub fn read_held<D: PageDisk, R: PageRules>(
     disk: &mut D,
     rules: &R,
     pairs: &[Pair],
     held: &mut [Held],
-) -> Result<(), DiskFault>
+) -> Result<bool, DiskFault>
     requires pairs { ArePairs pairs.now (D.page_count disk.old) }
     requires size { length held.old ≡ length pairs.now }
+    ensures known { D.honest disk.old → IfOk result (λ known. known ≡ are_known (R.version rules.now) (seen (D.state disk.old)) pairs.now) }
     ensures held { D.honest disk.old → OnOk result (held.new ≡ map (held_in (R.version rules.now) (seen (D.state disk.old))) pairs.now) }
     ensures disk { OnlyReads D.PageDisk disk.old disk.new }
     ensures cause { HasCause (D.failure_count disk.old) (D.failure_count disk.new) result }
 {
+    let mut known = true;
     for k in 0..pairs.len() {
         match read_pair(disk, rules, pairs[k]) {
-            Ok(finding) => held[k] = finding.held(),
+            Ok(finding) => {
+                held[k] = finding.held();
+                known = are_both_known(known, finding);
+            }
             Err(fault) => return Err(fault),
         }
     }
-    Ok(())
+    Ok(known)
 }
 
-/// Reads both halves of a pair. Where one is damaged and the other whole, it answers the damaged one's page, and the buffer has what the whole one holds.
+/// Reads both halves of a pair. Where one is damaged and the other whole, it answers the damaged one's page, and the
+/// buffer has what the whole one holds.
 pub fn read_damaged<D: PageDisk, R: PageRules>(
     disk: &mut D,
     rules: &R,
@@ -228,6 +273,39 @@ pub fn write_through<D: PageDisk>(
 {
     match disk.write(number, bytes) {
         Ok(()) => disk.flush(),
+        Err(fault) => Err(fault),
+    }
+}
+
+/// What a half that is passed over is filled with.
+#[derive(Clone, Copy)]
+pub enum Filling {
+    /// A fence.
+    Fence,
+    /// A fence, and then what the newest half holds.
+    Copy,
+}
+
+/// Writes a fence over a page and flushes; for a copy it writes these bytes over it then, and flushes again.
+pub fn fill<D: PageDisk>(
+    disk: &mut D,
+    number: u64,
+    bytes: &[u8; 4096],
+    filling: Filling,
+) -> Result<(), DiskFault>
+    requires { number < D.page_count disk.old }
+    ensures ok { D.honest disk.old → OnOk result (D.state disk.new ≡ filled_with filling (D.state disk.old) number bytes.now) }
+    ensures err { D.honest disk.old → OnErr result (IsFilling filling (D.state disk.old) (D.state disk.new) number bytes.now) }
+    ensures crash { D.honest disk.old → LeavesOnly D.moment D.left_since disk.old disk.new (LeavesFilling filling (D.state disk.old) number bytes.now) }
+    ensures honest { D.honest disk.old ↔ D.honest disk.new }
+    ensures pages { D.page_count disk.new ≡ D.page_count disk.old }
+    ensures cause { HasCause (D.failure_count disk.old) (D.failure_count disk.new) result }
+{
+    match write_through(disk, number, &[255; 4096]) {
+        Ok(()) => match filling {
+            Filling::Fence => Ok(()),
+            Filling::Copy => write_through(disk, number, bytes),
+        },
         Err(fault) => Err(fault),
     }
 }

@@ -10,4 +10,7 @@ mod tears;
 pub use findings::{Finding, Half, read_findings};
 pub use paired::Paired;
 pub use pairs::{Held, PageRules, Pair};
-pub use tears::{Fate, TearDisk, torn_pages_show_a_crash};
+pub use tears::{
+    Fate, Sector, TearDisk, a_torn_fence_shows_the_same, fenced_halves_stay_known,
+    torn_pages_show_a_crash,
+};

@@ -1,6 +1,7 @@
 //! What is noted of pairs.
+ghost use Rattle.std.specs.Prelude.{◌≡◌, if◌then◌else◌};
 
-use crate::findings::{read_damaged, read_held, write_through};
+use crate::findings::{Filling, fill, read_damaged, read_held};
 use crate::pairs::{Held, PageRules, Pair, half_of};
 use cs_disk::{DiskFault, PageDisk};
 use std::alloc::{AllocError, Global};
@@ -10,10 +11,19 @@ use std::alloc::{AllocError, Global};
 pub enum Trust {
     /// Nothing was read yet since the disk was opened, or since it crashed.
     Unread,
-    /// They say what the pairs hold.
+    /// They say what the pairs hold, each half of which is whole or a fence.
     Read,
+    /// They say what the pairs hold, and a half of them is neither whole nor a fence: no pair is written until it is.
+    Unfenced,
     /// A write to a pair failed: it may be among the volatile ones or not.
     Doubted,
+}
+
+/// What the notes are worth after the pairs were read.
+fn trust_in(known: bool) -> Trust
+    ensures { result ≡ (if known then Trust.Read else Trust.Unfenced) }
+{
+    if known { Trust::Read } else { Trust::Unfenced }
 }
 
 /// What is noted of each pair, and how many calls were refused without the device.
@@ -29,13 +39,15 @@ pub struct Notes {
 }
 
 impl Notes {
-    ghost use Rattle.std.specs.Prelude.{◌≡◌, ◌<◌, ◌+◌, ◌-◌, ◌^◌, ◌↔◌, ◌⊎◌, [], Bool, Some, IfOk, IsErrOf, OnErr, OnOk, length, min, not, slice_get};
+    ghost use Rattle.std.specs.Prelude.{◌≡◌, ◌<◌, ◌+◌, ◌-◌, ◌^◌, ◌↔◌, ◌⊎◌, [], Bool, List, Some, IfOk, IsErrOf, OnErr, OnOk, length, min, not, slice_get};
     ghost use Rattle.cs_disk.specs.Disk.{Counts, GoesOn, HasCause, LeavesOnly, MayLeave, StaysSound, flushed, page, seen, written};
     ghost use Rattle.cs_disk.specs.Reads.{OnlyReads};
     ghost use Rattle.cs_twin.specs.declared.pairs.Pair.{Pair};
-    ghost use Rattle.cs_twin.specs.Findings.{AreMended, finding_in, mended, passed_over};
+    ghost use Rattle.cs_twin.specs.Fences.{AreFenced};
+    ghost use Rattle.cs_twin.specs.Findings.{AreLaidOver, finding_in, laid_over, passed_over};
+    ghost use Rattle.cs_twin.specs.Fillings.{filling_of};
     ghost use Rattle.cs_twin.specs.Fitting.{IsFit};
-    ghost use Rattle.cs_twin.specs.Noted.{AreNotes, AreRight, IsUndoubted, failed, refused_of};
+    ghost use Rattle.cs_twin.specs.Noted.{AreNotes, AreRight, IsRead, IsUndoubted, failed, refused_of};
     ghost use Rattle.cs_twin.specs.Pairs.{ArePairs, IsNewer, half, is_turned, shown, shown_state};
 
     /// Notes of so many pairs, of which nothing was read yet.
@@ -83,7 +95,7 @@ impl Notes {
         requires pairs { ArePairs pairs.now (D.page_count disk.old) }
         requires notes { AreNotes pairs.now self.old }
         requires right { D.honest disk.old → AreRight (R.version rules.now) pairs.now self.old (D.state disk.old) }
-        ensures read { OnOk result (self.new.trust ≡ Trust.Read) }
+        ensures read { OnOk result (IsRead self.new.trust) }
         ensures notes { AreNotes pairs.now self.new }
         ensures right { D.honest disk.new → AreRight (R.version rules.now) pairs.now self.new (D.state disk.new) }
         ensures disk { OnlyReads D.PageDisk disk.old disk.new }
@@ -91,12 +103,12 @@ impl Notes {
         ensures sound { StaysSound IsUndoubted refused_of self.old self.new }
     {
         match self.trust {
-            Trust::Read => Ok(()),
+            Trust::Read | Trust::Unfenced => Ok(()),
             Trust::Doubted => self.refuse(),
             Trust::Unread => match read_held(disk, rules, pairs, &mut self.newest) {
-                Ok(()) => {
+                Ok(known) => {
                     self.durable.copy_from_slice(&self.newest);
-                    self.trust = Trust::Read;
+                    self.trust = trust_in(known);
                     Ok(())
                 }
                 Err(fault) => Err(fault),
@@ -131,8 +143,8 @@ impl Notes {
         }
     }
 
-    /// Writes the half of a pair that isn't the newest of the durable image, where the notes count. Refused where the bytes aren't whole, or
-    /// their version isn't greater than that of any half.
+    /// Writes the half of a pair that isn't the newest of the durable image, where the notes count. Refused where the
+    /// bytes aren't whole, or their version isn't greater than that of any half.
     fn write_half<D: PageDisk, R: PageRules>(
         &mut self,
         disk: &mut D,
@@ -149,7 +161,7 @@ impl Notes {
         ensures ok { D.honest disk.old → (x : Pair) → slice_get pairs.now k ≡ Some x → OnOk result
             (D.state disk.new ≡ written (D.state disk.old) (half x (not (is_turned (R.version rules.now) (D.state disk.old).durable x))) bytes.now) }
         ensures fault { D.honest disk.old → (x : Pair) → slice_get pairs.now k ≡ Some x → (D.state disk.new ≡ D.state disk.old)
-            ⊎ (D.state disk.new ≡ written (D.state disk.old) (half x (not (is_turned (R.version rules.now) (D.state disk.old).durable x))) bytes.now) }
+            ⊎ ((0 < R.version rules.now x.page bytes.now) × (D.state disk.new ≡ written (D.state disk.old) (half x (not (is_turned (R.version rules.now) (D.state disk.old).durable x))) bytes.now)) }
         ensures memory { D.honest disk.old → IsErrOf result DiskFault.OutOfMemory → D.state disk.new ≡ D.state disk.old }
         ensures count { D.honest disk.old → Counts result (D.moment disk.old) (D.moment disk.new) }
         ensures time { GoesOn D.honest D.state D.moment D.left_since disk.old disk.new }
@@ -158,6 +170,7 @@ impl Notes {
         ensures notes { AreNotes pairs.now self.new }
         ensures right { D.honest disk.new → AreRight (R.version rules.now) pairs.now self.new (D.state disk.new) }
         ensures cause { HasCause (failed (D.failure_count disk.old) self.old) (failed (D.failure_count disk.new) self.new) result }
+        ensures whole { (x : Pair) → slice_get pairs.now k ≡ Some x → OnOk result (0 < R.version rules.now x.page bytes.now) }
         ensures taken { D.honest disk.old → (x : Pair) → slice_get pairs.now k ≡ Some x → IsNewer (R.version rules.now) (seen (D.state disk.old)) x bytes.now → refused_of self.new ≡ refused_of self.old }
         ensures sound { OnOk result (IsUndoubted self.new) }
     {
@@ -186,7 +199,7 @@ impl Notes {
         }
     }
 
-    /// Writes a pair, as it shows.
+    /// Writes a pair, as it shows. Refused while a half of the pairs is neither whole nor a fence.
     pub fn write_newer<D: PageDisk, R: PageRules>(
         &mut self,
         disk: &mut D,
@@ -215,11 +228,15 @@ impl Notes {
         ensures notes { AreNotes pairs.now self.new }
         ensures right { D.honest disk.new → AreRight (R.version rules.now) pairs.now self.new (D.state disk.new) }
         ensures cause { HasCause (failed (D.failure_count disk.old) self.old) (failed (D.failure_count disk.new) self.new) result }
-        ensures taken { D.honest disk.old → IsUndoubted self.old → (x : Pair) → slice_get pairs.now k ≡ Some x → IsNewer (R.version rules.now) (seen (D.state disk.old)) x bytes.now → refused_of self.new ≡ refused_of self.old }
+        ensures whole { (x : Pair) → slice_get pairs.now k ≡ Some x → OnOk result (0 < R.version rules.now x.page bytes.now) }
+        ensures taken { D.honest disk.old → IsUndoubted self.old → AreFenced (R.version rules.now) pairs.now (seen (D.state disk.old)) → (x : Pair) → slice_get pairs.now k ≡ Some x → IsNewer (R.version rules.now) (seen (D.state disk.old)) x bytes.now → refused_of self.new ≡ refused_of self.old }
         ensures sound { OnOk result (IsUndoubted self.new) }
     {
         match self.refresh(disk, rules, pairs) {
-            Ok(()) => self.write_half(disk, rules, pairs, k, bytes),
+            Ok(()) => match self.trust {
+                Trust::Read => self.write_half(disk, rules, pairs, k, bytes),
+                Trust::Unread | Trust::Unfenced | Trust::Doubted => self.refuse(),
+            },
             Err(fault) => Err(fault),
         }
     }
@@ -257,21 +274,21 @@ impl Notes {
         }
     }
 
-    /// Writes the half of a pair anew that is damaged, where the other is whole, with what that one holds, and flushes. Answers its page.
-    fn rewrite<D: PageDisk, R: PageRules>(
+    /// Fills the half of a pair that is passed over, and flushes. It isn't known what is durable if that fails.
+    fn refill<D: PageDisk, R: PageRules>(
         &mut self,
         disk: &mut D,
         rules: &R,
         pairs: &[Pair],
         k: usize,
-    ) -> Result<Option<u64>, DiskFault>
+        filling: Filling,
+    ) -> Result<(), DiskFault>
         requires inside { k < length pairs.now }
         requires pairs { ArePairs pairs.now (D.page_count disk.old) }
         requires notes { AreNotes pairs.now self.old }
         requires right { D.honest disk.old → AreRight (R.version rules.now) pairs.now self.old (D.state disk.old) }
         requires settled { D.honest disk.old → (D.state disk.old).volatile ≡ [] }
-        ensures damaged { D.honest disk.old → (x : Pair) → slice_get pairs.now k ≡ Some x → IfOk result (λ damaged. damaged ≡ passed_over (finding_in (R.version rules.now) (D.state disk.old).durable x)) }
-        ensures mended { D.honest disk.old → (x : Pair) → slice_get pairs.now k ≡ Some x → OnOk result (D.state disk.new ≡ record { durable = mended (R.version rules.now) (D.state disk.old).durable x; volatile = [] }) }
+        ensures laid { D.honest disk.old → (x : Pair) → slice_get pairs.now k ≡ Some x → OnOk result (D.state disk.new ≡ record { durable = laid_over (R.version rules.now) (D.state disk.old).durable x (filling_of (R.version rules.now) filling (D.state disk.old).durable x); volatile = [] }) }
         ensures shown { D.honest disk.old → shown (R.version rules.now) pairs.now (seen (D.state disk.new)) ≡ shown (R.version rules.now) pairs.now (D.state disk.old).durable }
         ensures crash { D.honest disk.old → LeavesOnly D.moment D.left_since disk.old disk.new (λ left. shown (R.version rules.now) pairs.now left ≡ shown (R.version rules.now) pairs.now (D.state disk.old).durable) }
         ensures fit { D.honest disk.old → IsFit R.PageRules rules.now pairs.now (D.page_count disk.old) (D.state disk.old) → IsFit R.PageRules rules.now pairs.now (D.page_count disk.old) (D.state disk.new) }
@@ -286,66 +303,34 @@ impl Notes {
         rules.keep();
         let mut bytes = [0; 4096];
         match read_damaged(disk, rules, pairs[k], &mut bytes) {
-            Ok(Some(page)) => match write_through(disk, page, &bytes) {
+            Ok(Some(page)) => match fill(disk, page, &bytes, filling) {
                 Ok(()) => {
                     self.trust = Trust::Unread;
-                    Ok(Some(page))
+                    Ok(())
                 }
                 Err(fault) => {
                     self.trust = Trust::Doubted;
                     Err(fault)
                 }
             },
-            Ok(None) => Ok(None),
+            Ok(None) => Ok(()),
             Err(fault) => Err(fault),
         }
     }
 
-    /// Flushes the disk, and writes the half of a pair anew that is damaged, where the other is whole, with what that one holds. Answers its page. Refused
-    /// where a write is in doubt.
-    pub fn repair<D: PageDisk, R: PageRules>(
+    /// Fills the half of each pair that is passed over, and flushes after each of them.
+    fn refill_all<D: PageDisk, R: PageRules>(
         &mut self,
         disk: &mut D,
         rules: &R,
         pairs: &[Pair],
-        k: usize,
-    ) -> Result<Option<u64>, DiskFault>
-        requires inside { k < length pairs.now }
-        requires pairs { ArePairs pairs.now (D.page_count disk.old) }
-        requires notes { AreNotes pairs.now self.old }
-        requires right { D.honest disk.old → AreRight (R.version rules.now) pairs.now self.old (D.state disk.old) }
-        ensures damaged { D.honest disk.old → (x : Pair) → slice_get pairs.now k ≡ Some x → IfOk result (λ damaged. damaged ≡ passed_over (finding_in (R.version rules.now) (seen (D.state disk.old)) x)) }
-        ensures mended { D.honest disk.old → (x : Pair) → slice_get pairs.now k ≡ Some x → OnOk result (D.state disk.new ≡ record { durable = mended (R.version rules.now) (seen (D.state disk.old)) x; volatile = [] }) }
-        ensures shown { D.honest disk.old → seen (shown_state (R.version rules.now) pairs.now (D.state disk.new)) ≡ seen (shown_state (R.version rules.now) pairs.now (D.state disk.old)) }
-        ensures crash { D.honest disk.old → LeavesOnly D.moment D.left_since disk.old disk.new (λ left. MayLeave (shown_state (R.version rules.now) pairs.now (D.state disk.old)) (shown (R.version rules.now) pairs.now left)) }
-        ensures fit { D.honest disk.old → IsFit R.PageRules rules.now pairs.now (D.page_count disk.old) (D.state disk.old) → IsFit R.PageRules rules.now pairs.now (D.page_count disk.old) (D.state disk.new) }
-        ensures honest { D.honest disk.old ↔ D.honest disk.new }
-        ensures pages { D.page_count disk.new ≡ D.page_count disk.old }
-        ensures notes { AreNotes pairs.now self.new }
-        ensures right { D.honest disk.new → AreRight (R.version rules.now) pairs.now self.new (D.state disk.new) }
-        ensures cause { HasCause (failed (D.failure_count disk.old) self.old) (failed (D.failure_count disk.new) self.new) result }
-        ensures refused { IsUndoubted self.old → refused_of self.new ≡ refused_of self.old }
-    {
-        // Called for its contract alone: what is kept by a flush.
-        rules.keep();
-        match self.flush(disk, rules, pairs) {
-            Ok(()) => self.rewrite(disk, rules, pairs, k),
-            Err(fault) => Err(fault),
-        }
-    }
-
-    /// Writes the half of each pair anew that is damaged, where the other is whole, with what that one holds, and flushes after each of them.
-    fn rewrite_all<D: PageDisk, R: PageRules>(
-        &mut self,
-        disk: &mut D,
-        rules: &R,
-        pairs: &[Pair],
+        filling: Filling,
     ) -> Result<(), DiskFault>
         requires pairs { ArePairs pairs.now (D.page_count disk.old) }
         requires notes { AreNotes pairs.now self.old }
         requires right { D.honest disk.old → AreRight (R.version rules.now) pairs.now self.old (D.state disk.old) }
         requires settled { D.honest disk.old → (D.state disk.old).volatile ≡ [] }
-        ensures mended { D.honest disk.old → OnOk result (AreMended (R.version rules.now) pairs.now (D.state disk.old).durable (D.state disk.new).durable) }
+        ensures laid { D.honest disk.old → OnOk result (AreLaidOver (R.version rules.now) (filling_of (R.version rules.now) filling) pairs.now (D.state disk.old).durable (D.state disk.new).durable) }
         ensures settled { D.honest disk.old → OnOk result ((D.state disk.new).volatile ≡ []) }
         ensures shown { D.honest disk.old → shown (R.version rules.now) pairs.now (seen (D.state disk.new)) ≡ shown (R.version rules.now) pairs.now (D.state disk.old).durable }
         ensures crash { D.honest disk.old → LeavesOnly D.moment D.left_since disk.old disk.new (λ left. shown (R.version rules.now) pairs.now left ≡ shown (R.version rules.now) pairs.now (D.state disk.old).durable) }
@@ -358,26 +343,26 @@ impl Notes {
         ensures refused { refused_of self.new ≡ refused_of self.old }
     {
         for k in 0..pairs.len() {
-            match self.rewrite(disk, rules, pairs, k) {
-                Ok(_) => {}
+            match self.refill(disk, rules, pairs, k, filling) {
+                Ok(()) => {}
                 Err(fault) => return Err(fault),
             }
         }
         Ok(())
     }
 
-    /// Flushes the disk, and writes the half of each pair anew that is damaged, where the other is whole, with what that one holds. Refused where a write is
-    /// in doubt.
-    pub fn repair_all<D: PageDisk, R: PageRules>(
+    /// Flushes the disk, and fills the half of each pair that is passed over. Refused while a write is in doubt.
+    pub fn fill_all<D: PageDisk, R: PageRules>(
         &mut self,
         disk: &mut D,
         rules: &R,
         pairs: &[Pair],
+        filling: Filling,
     ) -> Result<(), DiskFault>
         requires pairs { ArePairs pairs.now (D.page_count disk.old) }
         requires notes { AreNotes pairs.now self.old }
         requires right { D.honest disk.old → AreRight (R.version rules.now) pairs.now self.old (D.state disk.old) }
-        ensures mended { D.honest disk.old → OnOk result (AreMended (R.version rules.now) pairs.now (seen (D.state disk.old)) (seen (D.state disk.new))) }
+        ensures laid { D.honest disk.old → OnOk result (AreLaidOver (R.version rules.now) (filling_of (R.version rules.now) filling) pairs.now (seen (D.state disk.old)) (seen (D.state disk.new))) }
         ensures settled { D.honest disk.old → OnOk result ((D.state disk.new).volatile ≡ []) }
         ensures shown { D.honest disk.old → seen (shown_state (R.version rules.now) pairs.now (D.state disk.new)) ≡ seen (shown_state (R.version rules.now) pairs.now (D.state disk.old)) }
         ensures crash { D.honest disk.old → LeavesOnly D.moment D.left_since disk.old disk.new (λ left. MayLeave (shown_state (R.version rules.now) pairs.now (D.state disk.old)) (shown (R.version rules.now) pairs.now left)) }
@@ -392,6 +377,6 @@ impl Notes {
         // Called for its contract alone: what is kept by a flush.
         rules.keep();
         self.flush(disk, rules, pairs)?;
-        self.rewrite_all(disk, rules, pairs)
+        self.refill_all(disk, rules, pairs, filling)
     }
 }

@@ -7,21 +7,29 @@ ghost use Rattle.cs_twin.specs.Kept.{TakesWrite};
 ghost use Rattle.cs_twin.specs.Noted.{AreNotes, AreRight, IsUndoubted, failed, refused_of};
 ghost use Rattle.cs_twin.specs.Pairs.{ArePairs, left_shown, shown_state};
 
-use crate::findings::{Finding, read_findings};
+use crate::findings::{Filling, Finding, read_findings};
 use crate::notes::Notes;
 use crate::pairs::{PageRules, Pair, Place};
 use cs_disk::{CrashDisk, DiskFault, PageDisk};
 use std::alloc::Global;
 
-/// A disk over another one, below which some pages lie twice. It shows each pair as one page, that of its newest half that is whole, and
-/// the twins as zeros, which can't be written. A write to a pair goes to the half that isn't the newest of the durable image. So what a
-/// flush made durable is never written over, and of a write that a crash or damage spoils the older half is left.
+/// A disk over another one, below which some pages lie twice. It shows each pair as one page, that of its newest half
+/// that is whole, and the twins as zeros, which can't be written. A write to a pair goes to the half that isn't the
+/// newest of the durable image. So what a flush made durable is never written over, and of a write that a crash or
+/// damage spoils the older half is left.
 ///
-/// A write to a pair is refused 1 DeviceFault, and counted, where the bytes aren't whole or their version isn't greater than that of any
-/// half; so is one to a twin, and one to another page of bytes that the rules don't allow there. After a write to a pair that the disk below refused so, it isn't known which half is the newest: the pairs are then neither
-/// read nor written, and nothing is flushed, until the disk is opened anew.
+/// A write to a pair is refused 1 DeviceFault, and counted, if the bytes aren't whole, or if their version isn't
+/// greater than that of any half. So is a write to a twin, and one to another page of bytes that the rules don't
+/// allow there.
 ///
-/// It is honest where the disk below is. It keeps 50 bytes for each pair. The first read or write of a pair after the opening, and after a crash, reads all pairs.
+/// So is each write to a pair while a half of the pairs is neither whole nor a fence, as after a crash or damage.
+/// `fence` or `repair_all` fills it first, so that no write can complete what was torn there.
+///
+/// If the disk below refuses a write to a pair, it isn't known which half is the newest. Pairs are neither read nor
+/// written after that, and nothing is flushed, until the disk is opened anew.
+///
+/// It is honest where the disk below is. It keeps 50 bytes for each pair. The first read or write of a pair after the
+/// opening, and after a crash, reads all pairs.
 #[derive(Drop)]
 pub struct Paired<D: PageDisk, R: PageRules> {
     disk: D,
@@ -43,11 +51,13 @@ impl<D: PageDisk, R: PageRules> Paired<D, R> {
     ghost use Rattle.cs_disk.specs.Disk.{HasCause, LeavesOnly, MayLeave, Rises, StaysSound, flushed, page};
     ghost use Rattle.cs_disk.specs.Reads.{OnlyReads};
     ghost use Rattle.cs_twin.specs.declared.pairs.Pair.{Pair};
-    ghost use Rattle.cs_twin.specs.Findings.{finding_in, mended, passed_over};
+    ghost use Rattle.cs_twin.specs.Fences.{AreFenced, AreOverKnown, AreWhole, IsGuarded};
+    ghost use Rattle.cs_twin.specs.Findings.{finding_in, passed_over};
     ghost use Rattle.cs_twin.specs.Paired.{IsSound, disk_below, failures_of, left_as_shown, moment_of, pairs_of, refusals_of, rules_of, state_shown, versions_of};
-    ghost use Rattle.cs_twin.specs.Pairs.{AreNoOlder, half, is_turned};
+    ghost use Rattle.cs_twin.specs.Pairs.{AreNoOlder, fence, half, held_in, is_turned};
 
-    /// A disk in these pairs: it flushes the disk below, and has what the rules keep of it. What lies in the pairs is read later.
+    /// A disk in these pairs: it flushes the disk below, and has what the rules keep of it. What lies in the pairs is
+    /// read later.
     pub fn new(alloc: Global, disk: D, rules: R, pairs: Vec<Pair>) -> Result<Self, (DiskFault, D)>
     where
         R: Drop,
@@ -95,17 +105,24 @@ impl<D: PageDisk, R: PageRules> Paired<D, R> {
         read_findings(alloc, &mut self.disk, &self.rules, &self.pairs)
     }
 
-    /// Writes the half of the pair at this place anew that is damaged, where the other is whole, with what that one holds; flushes before that and after
-    /// it. Answers its page, and nothing where neither is damaged or neither is whole. What shows stays as it is, and a crash meanwhile leaves what one
-    /// before might have left.
+    /// Fills the half of each pair that is passed over with a fence, bytes of 255. No later write can complete what
+    /// was torn there. What shows stays as it is, and a crash meanwhile leaves what one before might have left.
     ///
-    /// Where the disk below refuses it with the page written and not flushed, the pairs are neither read nor written after that, and nothing is flushed, until
-    /// the disk is opened anew.
-    pub fn repair(&mut self, place: usize) -> Result<Option<u64>, DiskFault>
-        requires { place < length (pairs_of self.old) }
-        ensures damaged { D.honest (disk_below self.old) → (x : Pair) → slice_get (pairs_of self.old) place ≡ Some x → IfOk result (λ damaged. damaged ≡ passed_over (finding_in (versions_of self.old) (seen (D.state (disk_below self.old))) x)) }
-        ensures mended { D.honest (disk_below self.old) → (x : Pair) → slice_get (pairs_of self.old) place ≡ Some x → OnOk result (D.state (disk_below self.new) ≡ record { durable = mended (versions_of self.old) (seen (D.state (disk_below self.old))) x; volatile = [] }) }
-        ensures none_left { D.honest (disk_below self.old) → (x : Pair) → slice_get (pairs_of self.old) place ≡ Some x → OnOk result (passed_over (finding_in (versions_of self.old) (seen (D.state (disk_below self.new))) x) ≡ None) }
+    /// It flushes first, also if there is nothing to fill. Then it reads both halves of each pair. For each page that
+    /// is passed over it writes a fence and flushes.
+    ///
+    /// After an Err the first of them may be filled and the rest not, and it can be called again. But if a fence was
+    /// written and not flushed, pairs are neither read nor written, and nothing is flushed, until the disk is opened
+    /// anew.
+    pub fn fence(&mut self) -> Result<(), DiskFault>
+        // No page is passed over any more.
+        ensures fenced { D.honest (disk_below self.old) → OnOk result (AllByRecursion (λ x. passed_over (finding_in (versions_of self.old) (seen (D.state (disk_below self.new))) x) ≡ None) (pairs_of self.old)) }
+        // What was passed over is a fence, and no other page is written.
+        ensures filled { D.honest (disk_below self.old) → OnOk result (AllByRecursion (λ x. (number : ℕ) → passed_over (finding_in (versions_of self.old) (seen (D.state (disk_below self.old))) x) ≡ Some number → page (seen (D.state (disk_below self.new))) number ≡ fence) (pairs_of self.old)) }
+        ensures untouched { D.honest (disk_below self.old) → OnOk result ((number : ℕ) → AllByRecursion (λ x. passed_over (finding_in (versions_of self.old) (seen (D.state (disk_below self.old))) x) ≢ Some number) (pairs_of self.old) → page (seen (D.state (disk_below self.new))) number ≡ page (seen (D.state (disk_below self.old))) number) }
+        // If the newest half of each pair is whole, each half is whole or a fence now, and pairs are written again.
+        ensures known { D.honest (disk_below self.old) → OnOk result (AllByRecursion (λ x. 0 < (held_in (versions_of self.old) (seen (D.state (disk_below self.old))) x).version) (pairs_of self.old) → AreFenced (versions_of self.old) (pairs_of self.old) (D.state (disk_below self.new)).durable) }
+        ensures durable { D.honest (disk_below self.old) → OnOk result ((D.state (disk_below self.new)).volatile ≡ []) }
         ensures shown { D.honest (disk_below self.old) → seen (state_shown self.new) ≡ seen (state_shown self.old) }
         ensures crash { D.honest (disk_below self.old) → LeavesOnly moment_of left_as_shown self.old self.new (MayLeave (state_shown self.old)) }
         ensures honest { D.honest (disk_below self.old) ↔ D.honest (disk_below self.new) }
@@ -117,15 +134,19 @@ impl<D: PageDisk, R: PageRules> Paired<D, R> {
         ensures refusals { IsSound self.old → refusals_of self.new ≡ refusals_of self.old }
     {
         self.notes
-            .repair(&mut self.disk, &self.rules, &self.pairs, place)
+            .fill_all(&mut self.disk, &self.rules, &self.pairs, Filling::Fence)
     }
 
-    /// Writes the damaged half of each pair anew whose other half is whole, pair by pair, as `repair` does. What shows stays as it is, and a crash meanwhile
-    /// leaves what one before might have left.
+    /// Writes the damaged half of each pair anew whose other half is whole, pair by pair. It writes a fence first, so
+    /// that a torn copy can't complete what was lost, and then what the other half holds. What shows stays as it is,
+    /// and a crash meanwhile leaves what one before might have left.
     ///
-    /// It flushes first, reads both halves of each pair, and for each damaged one reads the other once more, writes a page, and flushes. After an Err the
-    /// first of the damaged halves may be written anew and the rest not, so it can be called again, but where the disk below refused it with a page written
-    /// and not flushed: the pairs are then neither read nor written, and nothing is flushed, until the disk is opened anew.
+    /// It flushes first, and reads both halves of each pair. For each damaged one it reads the other once more,
+    /// writes a fence, flushes, writes the copy, and flushes.
+    ///
+    /// After an Err the first of the damaged halves may be written anew and the rest not, and it can be called again.
+    /// But if a page was written and not flushed, pairs are neither read nor written, and nothing is flushed, until
+    /// the disk is opened anew.
     pub fn repair_all(&mut self) -> Result<(), DiskFault>
         // No page is passed over any more.
         ensures whole { D.honest (disk_below self.old) → OnOk result (AllByRecursion (λ x. passed_over (finding_in (versions_of self.old) (seen (D.state (disk_below self.new))) x) ≡ None) (pairs_of self.old)) }
@@ -144,11 +165,11 @@ impl<D: PageDisk, R: PageRules> Paired<D, R> {
         ensures refusals { IsSound self.old → refusals_of self.new ≡ refusals_of self.old }
     {
         self.notes
-            .repair_all(&mut self.disk, &self.rules, &self.pairs)
+            .fill_all(&mut self.disk, &self.rules, &self.pairs, Filling::Copy)
     }
 
-    /// A disk in these pairs, and what their halves hold: it flushes the disk below, and reads the pairs. A pair neither half of which is whole shows its twin.
-    /// The disk comes back where it is refused.
+    /// A disk in these pairs, and what their halves hold: it flushes the disk below, and reads the pairs. A pair
+    /// neither half of which is whole shows its twin. The disk comes back where it is refused.
     pub fn open(
         alloc: Global,
         disk: D,
@@ -186,8 +207,14 @@ impl<D: PageDisk, R: PageRules> Paired<D, R> {
     pub fn disk(&self) -> &D
         ensures disk { result.now ≡ disk_below self.now }
         ensures pairs { ArePairs (pairs_of self.now) (D.page_count (disk_below self.now)) }
-        // Its volatile writes to pairs go to the halves that aren't the newest of its durable image, and are newer, or the same.
+        // Its volatile writes to pairs go to the halves that aren't the newest of its durable image, and are newer,
+        // or the same, or fences.
         ensures no_older { D.honest (disk_below self.now) → AreNoOlder (R.version (rules_of self.now)) (pairs_of self.now) (D.state (disk_below self.now)) }
+        // If a whole page waits to be written to a pair, each half of it is whole or a fence.
+        ensures guarded { D.honest (disk_below self.now) → IsGuarded (versions_of self.now) (pairs_of self.now) (D.state (disk_below self.now)) }
+        // No fence waits but while a write is in doubt.
+        ensures no_fence { D.honest (disk_below self.now) → IsSound self.now → AreWhole (versions_of self.now) (pairs_of self.now) (D.state (disk_below self.now)) }
+        ensures over_known { D.honest (disk_below self.now) → IsSound self.now → AreOverKnown (versions_of self.now) (pairs_of self.now) (D.state (disk_below self.now)) }
     {
         &self.disk
     }
@@ -324,5 +351,5 @@ impl<D: CrashDisk, R: PageRules> CrashDisk for Paired<D, R> {
         }
     }
 
-    ghost counted = { λ p h can. D.counted p.disk h can ∙ sym (length-map (D.state p.disk).volatile (shown_write p.pairs.items)) };
+    ghost counted = { λ p h can. D.counted p.disk h can ∙ sym (length-map (D.state p.disk).volatile (shown_write (R.version p.rules) p.pairs.items)) };
 }

@@ -4,7 +4,7 @@ ghost use Rattle.cs_disk.specs.declared.fault.DiskFault.TheVariants.{OutOfMemory
 ghost use Rattle.cs_disk.specs.Disk.{Image, MayLeave, State};
 ghost use Rattle.cs_twin.specs.declared.pairs.Pair.{Pair};
 ghost use Rattle.cs_twin.specs.Kept.{AreAllowed};
-ghost use Rattle.cs_twin.specs.Pairs.{ArePairs, AreNoOlder, half};
+ghost use Rattle.cs_twin.specs.Pairs.{ArePairs, AreNoOlder, fence, half};
 
 use cs_disk::DiskFault;
 
@@ -33,18 +33,21 @@ pub struct Held {
     pub version: u64,
 }
 
-/// What tells of the pages that lie in pairs whether they are whole, and which versions they hold; and what may be written to the other pages.
+/// What tells of the pages that lie in pairs whether they are whole, and which versions they hold; and what may be
+/// written to the other pages.
 pub trait PageRules {
     /// The version that bytes spell as what a page holds, from 1 on; 0 where they spell none.
     ghost version: { Self → ℕ → List ℕ → ℕ };
 
-    /// What is kept of the durable image of a device of so many pages in these pairs, whatever is written by way of them.
+    /// What is kept of the durable image of a device of so many pages in these pairs, whatever is written by way of
+    /// them.
     ghost fits: { Self → List Pair → ℕ → Image → Type 0 };
 
     /// Which bytes may be written to a page of no pair.
     ghost allowed: { Self → ℕ → List ℕ → Bool };
 
-    /// The version that these bytes spell as what this page holds, from 1 on, and 0 where they spell none. Refused 9 OutOfMemory alone.
+    /// The version that these bytes spell as what this page holds, from 1 on, and 0 where they spell none. Refused 9
+    /// OutOfMemory alone.
     fn version_of(&self, number: u64, bytes: &[u8; 4096]) -> Result<u64, DiskFault>
         ensures version { IfOk result (λ found. found ≡ version self.now number bytes.now) }
         ensures memory { IfErr result (λ fault. fault ≡ OutOfMemory) };
@@ -53,11 +56,14 @@ pub trait PageRules {
     fn allows(&self, number: u64, bytes: &[u8; 4096]) -> bool
         ensures { result ≡ allowed self.now number bytes.now };
 
-    /// Does nothing. What a crash leaves fits where what was durable does, each write to a pair is of a half that isn't the newest and no older than that one, and each other
-    /// one is allowed.
+    /// Does nothing. If what was durable fits, what a crash leaves fits too. Each write to a pair goes to the half
+    /// that isn't the newest, and is no older than that one or a fence; each other one is allowed.
     fn keep(&self)
         ensures left { (pairs : List Pair) (pages : ℕ) (s : State) (c : Image) → ArePairs pairs pages → length s.durable ≡ pages → AreNoOlder (version self.now) pairs s
             → AreAllowed (allowed self.now) pairs s → fits self.now pairs pages s.durable → MayLeave s c → fits self.now pairs pages c };
+
+    /// A fence is whole as no page.
+    ghost fence_is_none: { (r : Self) (number : ℕ) → version r number fence ≡ 0 };
 }
 
 /// What a page number is among pairs.

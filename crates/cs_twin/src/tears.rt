@@ -1,18 +1,20 @@
 //! A disk in memory that tears pages, and what a crash leaves of pairs where it tears them.
-ghost use Rattle.std.specs.Prelude.{◌≡◌, IsOkUnless, OnOk, length, ℕ, List};
+ghost use Rattle.std.specs.Prelude.{◌≡◌, ◌⊎◌, ◌<◌, ℕ, Bool, IsOkUnless, List, OnOk, Some, length, slice_get};
 ghost use Rattle.cs_disk.specs.Memory.{memory_state};
-ghost use Rattle.cs_disk.specs.Disk.{seen, Image, MayLeave, State};
-ghost use Rattle.cs_twin.specs.Tears.{after_fate, left_by, spliced, IsTornBeside, MayTear};
-ghost use Rattle.cs_twin.specs.Pairs.{AreNoOlder, ArePairs, shown, shown_state};
+ghost use Rattle.cs_disk.specs.Disk.{Image, MayLeave, State, page, seen};
+ghost use Rattle.cs_twin.specs.Fences.{AreFenced, AreFences, AreOverKnown, AreWrittenOnce};
+ghost use Rattle.cs_twin.specs.Tears.{after_fate, after_sector, after_sectors, left_by, spliced, HasWaitingWrite, IsLeft, IsNotWhole, IsTornBeside, MayTear};
+ghost use Rattle.cs_twin.specs.Pairs.{AreNoOlder, ArePairs, fence, half, shown, shown_state};
 ghost use Rattle.cs_twin.specs.declared.pairs.Pair.{Pair};
 
 use cs_disk::{CrashDisk, DiskFault, MemoryDisk, PageDisk};
 use std::alloc::Global;
 
-/// A disk in memory whose crash can be made to tear pages that were being written, at any byte. It is for trying out what such crashes leave.
+/// A disk in memory whose crash can be made to tear pages that were being written, at any byte. It is for trying out
+/// what such crashes leave.
 ///
-/// What a `PageDisk` and a `CrashDisk` say holds of it: only `tear` leaves what they don't speak of. It keeps the volatile writes twice, 4,104 bytes
-/// each time.
+/// What a `PageDisk` and a `CrashDisk` say holds of it: only `tear` leaves what they don't speak of. It keeps the
+/// volatile writes twice, 4,104 bytes each time.
 #[derive(Drop)]
 pub struct TearDisk {
     alloc: Global,
@@ -25,7 +27,7 @@ impl TearDisk {
     ghost use Rattle.std.specs.Prelude.{[], ℕ, List, IfOk, IsOkUnless, length, replicate};
     ghost use Rattle.cs_twin.specs.declared.pairs.Pair.{Pair};
     ghost use Rattle.cs_twin.specs.TearDisks.{tear_state};
-    ghost use Rattle.cs_twin.specs.Tears.{MayTear, NoneLooksWhole, left_by};
+    ghost use Rattle.cs_twin.specs.Tears.{AreTold, MayTear, NoneLooksWhole, left_by};
 
     /// A disk of so many pages of zeros, all of them durable. Refused 9 OutOfMemory alone.
     pub fn new(alloc: Global, pages: u64) -> Result<Self, DiskFault>
@@ -41,12 +43,13 @@ impl TearDisk {
         })
     }
 
-    /// Crashes: of each of the volatile writes, oldest first, it is said what becomes of it, and what is left is durable. Refused 9 OutOfMemory alone.
+    /// Crashes: of each of the volatile writes, oldest first, it is said what becomes of it, and what is left is
+    /// durable. Refused 9 OutOfMemory alone.
     pub fn tear(self, fates: &[Fate]) -> Result<Self, DiskFault>
         requires { length fates.now ≡ length (tear_state self).volatile }
         ensures durable { IfOk result (λ d. (tear_state d).durable ≡ left_by (tear_state self).durable (tear_state self).volatile fates.now) }
         ensures volatile { IfOk result (λ d. (tear_state d).volatile ≡ []) }
-        ensures torn { (V : ℕ → List ℕ → ℕ) (pairs : List Pair) → IfOk result (λ d. NoneLooksWhole V pairs (tear_state self) fates.now (tear_state d).durable → MayTear V pairs (tear_state self) (tear_state d).durable) }
+        ensures torn { (V : ℕ → List ℕ → ℕ) (pairs : List Pair) → IfOk result (λ d. NoneLooksWhole V pairs (tear_state self) fates.now (tear_state d).durable → AreTold V pairs (tear_state self) (tear_state d).durable → MayTear V pairs (tear_state self) (tear_state d).durable) }
         ensures memory { IsOkUnless result DiskFault.OutOfMemory }
     {
         let TearDisk {
@@ -176,16 +179,51 @@ pub enum Fate {
     Lost,
     /// It is kept.
     Kept,
-    /// So many bytes of it are kept, from its front, and the page has after them what it had before.
-    Torn(usize),
+    /// The bytes from one place up to another are kept, the others aren't.
+    Torn { from: usize, to: usize },
+    /// Of each eighth of the page, 512 bytes, it is said what becomes of it.
+    Sectors([Sector; 8]),
 }
 
-/// Makes of a page what it has once so many bytes of a write to it are kept.
-fn splice(page: &mut [u8; 4096], bytes: &[u8; 4096], at: usize)
-    ensures { page.new ≡ spliced at bytes.now page.old }
+/// What a crash makes of a sector of a page that was being written.
+#[derive(Clone, Copy, Debug, PartialEq, Eq)]
+pub enum Sector {
+    /// It has what was there.
+    Old,
+    /// It has what was written.
+    New,
+    /// All its bytes are this one: neither what was there nor what was written.
+    Noise(u8),
+}
+
+/// Makes of a page what it has once the bytes of a write to it from one place up to another are kept.
+fn splice(page: &mut [u8; 4096], bytes: &[u8; 4096], from: usize, to: usize)
+    ensures { page.new ≡ spliced from to bytes.now page.old }
 {
-    let front = at.min(4096);
-    page[..front].copy_from_slice(&bytes[..front]);
+    let end = to.min(4096);
+    let start = from.min(end);
+    page[start..end].copy_from_slice(&bytes[start..end]);
+}
+
+/// Makes of a page what it has once this became of one of its sectors.
+fn lay_sector(page: &mut [u8; 4096], bytes: &[u8; 4096], number: usize, sector: Sector)
+    requires { number < 8 }
+    ensures { page.new ≡ after_sector number sector bytes.now page.old }
+{
+    match sector {
+        Sector::Old => {}
+        Sector::New => splice(page, bytes, 512 * number, 512 * number + 512),
+        Sector::Noise(byte) => splice(page, &[byte; 4096], 512 * number, 512 * number + 512),
+    }
+}
+
+/// Makes of a page what it has once this became of its sectors.
+fn lay_sectors(page: &mut [u8; 4096], bytes: &[u8; 4096], sectors: &[Sector; 8])
+    ensures { page.new ≡ after_sectors 0 sectors.now bytes.now page.old }
+{
+    for number in 0..8 {
+        lay_sector(page, bytes, number, sectors[number]);
+    }
 }
 
 /// Makes of a page of a disk what becomes of a write to it.
@@ -199,10 +237,16 @@ fn lay(disk: &mut MemoryDisk, write: &(u64, [u8; 4096]), fate: Fate) -> Result<(
     match fate {
         Fate::Lost => Ok(()),
         Fate::Kept => disk.write(write.0, &write.1),
-        Fate::Torn(at) => {
+        Fate::Torn { from, to } => {
             let mut page = [0; 4096];
             disk.read(write.0, &mut page)?;
-            splice(&mut page, &write.1, at);
+            splice(&mut page, &write.1, from, to);
+            disk.write(write.0, &page)
+        }
+        Fate::Sectors(sectors) => {
+            let mut page = [0; 4096];
+            disk.read(write.0, &mut page)?;
+            lay_sectors(&mut page, &write.1, &sectors);
             disk.write(write.0, &page)
         }
     }
@@ -224,9 +268,27 @@ pub fn lay_all(
     Ok(())
 }
 
-/// Where a crash tears the pages that were being written, and no torn half of a pair is whole, what is left shows as what a crash of the disk as it
-/// shows might leave, which tears nothing: but for pages of no pair that were being written.
+/// What a crash leaves that tears pages at any byte shows as what a crash that tears nothing may leave. Only pages of
+/// no pair that were being written may hold anything.
+///
+/// Each page waits over a half that is whole or a fence, as those of a sound `Paired` do. Each pair is written once
+/// between two flushes. So a torn half mixes two pages, each whole or a fence. It is assumed of digests that such a
+/// mixture is whole only as one of the two.
 pub fn torn_pages_show_a_crash()
-    ensures { (V : ℕ → List ℕ → ℕ) (pairs : List Pair) (s : State) (c : Image) → ArePairs pairs (length s.durable) → AreNoOlder V pairs s → MayTear V pairs s c
+    ensures { (V : ℕ → List ℕ → ℕ) (pairs : List Pair) (s : State) (c : Image) → ArePairs pairs (length s.durable) → AreNoOlder V pairs s
+        → AreOverKnown V pairs s → AreWrittenOnce pairs s → MayTear V pairs s c
         → (d : Image) × MayLeave (shown_state V pairs s) d × IsTornBeside pairs (shown_state V pairs s) d (shown V pairs c) }
+{}
+
+/// If each half of each pair is whole or a fence, so is what a crash leaves that tears nothing.
+pub fn fenced_halves_stay_known()
+    ensures { (V : ℕ → List ℕ → ℕ) (pairs : List Pair) (s : State) (c : Image) → AreNoOlder V pairs s → AreFenced V pairs s.durable → MayLeave s c → AreFenced V pairs c }
+{}
+
+/// If fences alone were being written to pairs, each pair shows after a crash what it showed. Each half holds what
+/// was there, or the fence; or it was being written, and isn't whole.
+pub fn a_torn_fence_shows_the_same()
+    ensures { (V : ℕ → List ℕ → ℕ) (pairs : List Pair) (s : State) (c : Image) → ArePairs pairs (length s.durable) → AreNoOlder V pairs s → ((page : ℕ) → V page fence ≡ 0) → AreFences pairs s
+        → length c ≡ length s.durable → ((k : ℕ) (x : Pair) (twin : Bool) → slice_get pairs k ≡ Some x → IsLeft s (half x twin) (page c (half x twin)) ⊎ (HasWaitingWrite s (half x twin) × IsNotWhole V pairs (half x twin) (page c (half x twin))))
+        → (k : ℕ) (x : Pair) → slice_get pairs k ≡ Some x → page (shown V pairs c) x.page ≡ page (shown V pairs s.durable) x.page }
 {}

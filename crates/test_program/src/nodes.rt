@@ -4,6 +4,7 @@ ghost use Rattle.std.specs.Prelude.{◌≡◌, []};
 
 mod acts;
 mod asks;
+mod calls;
 mod checkpoints;
 mod failures;
 mod gates;

@@ -3,6 +3,7 @@ mod cuts;
 mod damage;
 mod documents;
 mod failures;
+mod fences;
 mod files;
 mod histories;
 mod images;

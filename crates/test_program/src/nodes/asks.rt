@@ -1,5 +1,6 @@
 //! Polls from within a gate, while the lock is held.
-use super::acts::{Act, Hand, new_hand, plays, poll};
+use super::acts::{Act, Hand, new_hand, plays};
+use super::calls::poll;
 use super::histories::are_steps;
 use super::tasks::{Gave, Task, given};
 use super::{Store, Wanted, tries};

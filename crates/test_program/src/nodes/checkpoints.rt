@@ -1,5 +1,6 @@
 //! What a node does past the limit of its history, and what it forgets.
-use super::acts::{Act, Hand, bytes_of, get, id, is_content, keep_ack, put, settle, sync};
+use super::acts::{Act, Hand, sync};
+use super::calls::{bytes_of, get, id, is_content, keep_ack, put, settle};
 use cs_disk::PageDisk;
 use cs_node::*;
 use cs_refusal::Refusal;

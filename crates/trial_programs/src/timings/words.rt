@@ -12,6 +12,7 @@ pub enum Part {
     Node,
     Growths,
     Calls,
+    Tears,
 }
 
 /// What is done; each part knows some of these.
@@ -70,6 +71,7 @@ fn part_asked(rt: &(impl Env + AllocGlobal)) -> Result<Part, Fault> {
             "node" => Ok(Part::Node),
             "growths" => Ok(Part::Growths),
             "calls" => Ok(Part::Calls),
+            "tears" => Ok(Part::Tears),
             _ => Ok(Part::Graph),
         },
         None => Ok(Part::All),

@@ -1,6 +1,6 @@
 //! Calls of a store. Each function makes one, and prints what it answers.
 
-use crate::typed::answers::{print_absent, print_bytes, print_ids, print_refusal};
+use crate::answers::{print_absent, print_bytes, print_ids, print_refusal};
 use crate::typed::figures::{scrub, stats};
 use crate::typed::numbers::{extent, first, numbers, room};
 use cs_store::{PageDisk, Reclaimed, ShardId, Store};

@@ -1,6 +1,6 @@
 //! Figures and scrubs.
 
-use crate::typed::answers::print_refusal;
+use crate::answers::print_refusal;
 use cs_store::{
     Damage, ExtentUse, Locator, PageDisk, Refusal, RunUse, Scrubbed, ShardId, Store, StoreStats,
 };

@@ -1,8 +1,8 @@
 //! Lines of the input: a word, and up to four more. Identifiers are UUIDs, bytes are hex digits, a dash for none, and so are masks binary digits.
 
 use crate::typed::calls::Call;
+use crate::words::{bytes, id, number, place};
 use cs_store::ShardId;
-use hex::FromHexError;
 use std::alloc::{AllocError, Global};
 
 /// What a line asks for.
@@ -219,30 +219,6 @@ fn read_crash(alloc: Global, words: Words) -> Result<Option<Line>, AllocError> {
             fails,
         })),
         _ => Ok(None),
-    }
-}
-
-fn number(word: &str) -> Option<u64> {
-    word.parse::<u64>().ok()
-}
-
-fn place(word: &str) -> Option<usize> {
-    word.parse::<usize>().ok()
-}
-
-fn id(word: &str) -> Option<ShardId> {
-    ShardId::parse(word).ok()
-}
-
-/// The bytes that a word of hex digits stands for.
-fn bytes(alloc: Global, word: &str) -> Result<Option<Vec<u8>>, AllocError> {
-    if word == "-" {
-        return Ok(Some(Vec::new(alloc)));
-    }
-    match hex::decode(alloc, word) {
-        Ok(bytes) => Ok(Some(bytes)),
-        Err(FromHexError::OutOfMemory) => Err(AllocError),
-        Err(_) => Ok(None),
     }
 }
 

@@ -1,6 +1,6 @@
 //! What a store tells of itself without a look at its disk.
 
-use crate::typed::answers::print_absent;
+use crate::answers::print_absent;
 use cs_store::{ExtentLook, LiveChunk, PageDisk, Store};
 use std::io;
 

@@ -1,6 +1,6 @@
 //! The input, line by line.
 
-use crate::typed::answers::print_refusal;
+use crate::answers::print_refusal;
 use crate::typed::calls::{Call, make_call};
 use crate::typed::disks::{TrialDisk, image_after};
 use crate::typed::lines::{Between, Line, read_line};

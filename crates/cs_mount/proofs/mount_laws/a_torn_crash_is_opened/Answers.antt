@@ -14,4 +14,4 @@ returns g c = λ honest three image tear.
     let long = g.met.D.PageDisk.sized p.disk honest in
     let device = c.progress.ensures.core.device in
     torn_opened _ v c.progress.ensures.core honest (sized_shown (store_version p.rules.geometry) p.pairs.items s.durable ∙ long) three s image c.progress.ensures.whole.geometry p.rules.geometry p.pairs.items refl
-    (long ∙ device) (p.right honest).newer (subst (λ n. ∥ IsOfStore p.rules.geometry p.pairs.items n s.durable ∥₁) device (p.fit honest).durable) tear (c.progress.ensures.left honest)
+    (long ∙ device) (p.right honest).newer (p.right honest).guarded (subst (λ n. ∥ IsOfStore p.rules.geometry p.pairs.items n s.durable ∥₁) device (p.fit honest).durable) tear (c.progress.ensures.left honest)

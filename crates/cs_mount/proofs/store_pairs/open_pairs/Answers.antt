@@ -1,4 +1,4 @@
-use Rattle.std.proofs.Common.{◌≡◌, ◌∙◌, [], ap, length, subst, sym}
+use Rattle.std.proofs.Common.{◌≡◌, ◌∙◌, ◌⊎◌, ◌≤◌, ℕ, [], ap, length, subst, sym}
 use Rattle.cs_disk.specs.Disk.{Image, LeavesOnly, MayLeave, State, flushed, seen}
 use Rattle.cs_mount.specs.declared.store_pairs.StoreRules.{StoreRules}
 use Rattle.cs_mount.specs.OfStores.{IsOfStore}
@@ -74,4 +74,20 @@ returns-in-Ok-pairs-clause-left g c = λ h.
     shows_as_on pages (seen s) c.in-Ok.geometry items (MayLeave s) left (c.in-Ok.ensures.found h) c.in-Ok-pairs.ensures.pairs
     (left_behind (λ (r : StoreRules). store_version r.geometry) (rules_of opened.0) rules (pairs_of opened.0) items (D.left_since (disk_below opened.0) (D.moment disk)) (MayLeave s) left same_rules same_pairs
     (λ image past. leaves.each image past) is))
+    c.open.ensures.rules c.open.ensures.pairs (ok_of c.open.result _ _ (returns-in-Ok-pairs-clause-crash g c h))
+
+pub returns-in-Ok-pairs-clause-before : goal.returns-in-Ok-pairs-clause-before
+returns-in-Ok-pairs-clause-before g c = λ h.
+    let D = g.D.PageDisk in
+    let disk = c.args.disk in
+    let s = D.state disk in
+    let pages = D.page_count disk in
+    let rules : StoreRules = record { alloc = c.args.alloc; geometry = c.in-Ok.geometry } in
+    let items = c.in-Ok-pairs.pairs.items in
+    ok_three c.open.result (λ opened. rules_of opened.0 ≡ rules) (λ opened. pairs_of opened.0 ≡ items) (λ opened. LeavesOnly D.moment D.left_since disk (disk_below opened.0) (MayLeave s))
+    (λ opened. (t : ℕ) (left : Image) → t ≤ D.moment disk → left_as_shown opened.0 t left → ShowsOn pages (seen s) (λ image. D.left_since disk t image ⊎ MayLeave s image) left)
+    (λ opened same_rules same_pairs leaves. λ t left le is.
+    shows_as_on pages (seen s) c.in-Ok.geometry items (λ image. D.left_since disk t image ⊎ MayLeave s image) left (c.in-Ok.ensures.found h) c.in-Ok-pairs.ensures.pairs
+    (left_behind (λ (r : StoreRules). store_version r.geometry) (rules_of opened.0) rules (pairs_of opened.0) items (D.left_since (disk_below opened.0) t) (λ image. D.left_since disk t image ⊎ MayLeave s image) left same_rules same_pairs
+    (λ image past. leaves.before t image le past) is))
     c.open.ensures.rules c.open.ensures.pairs (ok_of c.open.result _ _ (returns-in-Ok-pairs-clause-crash g c h))

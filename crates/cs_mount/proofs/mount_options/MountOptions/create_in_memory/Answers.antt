@@ -3,6 +3,12 @@ use Rattle.cs_disk.specs.Memory.{memory_state}
 use Rattle.cs_mount.proofs.Blank.{blank_from, memory_alone}
 use Rattle.cs_mount.proofs.mount_options.MountOptions.create_in_memory.Goals as goal
 
+pub returns-in-Ok-create-clause-store : goal.returns-in-Ok-create-clause-store
+returns-in-Ok-create-clause-store c = c.in-Ok-create.ensures.store tt
+
+pub returns-in-Ok-create-clause-found : goal.returns-in-Ok-create-clause-found
+returns-in-Ok-create-clause-found c = c.in-Ok-create.ensures.found tt
+
 pub returns-in-Ok-create-clause-start : goal.returns-in-Ok-create-clause-start
 returns-in-Ok-create-clause-start c = c.in-Ok-create.ensures.start tt
 

@@ -1,4 +1,4 @@
-use Rattle.std.proofs.Common.{ap, inr, subst, sym, ⊎_elim, ◌∙◌, ◌≡◌, ◌⊎◌}
+use Rattle.std.proofs.Common.{ap, inr, le_trans, subst, sym, ⊎_elim, ◌∙◌, ◌≡◌, ◌⊎◌}
 use Rattle.cs_core.specs.cs_chunk.Reads.{IsNoAnswer}
 use Rattle.cs_reader.specs.Openings.{IsWhyNotOpened}
 use Rattle.cs_disk.specs.Disk.{Image, flushed, page, seen}
@@ -9,7 +9,7 @@ use Rattle.law_machine.specs.Recovery.{Recovers}
 use Rattle.cs_twin.specs.Paired.{left_as_shown, moment_of, state_shown}
 use Rattle.cs_mount.specs.Showing.{shown_on}
 use Rattle.cs_mount.specs.StorePairs.{dimensions_on, pairs_where, store_version}
-use Rattle.cs_mount.proofs.Mounting.{shows_later}
+use Rattle.cs_mount.proofs.Mounting.{shows_before, shows_later}
 use Rattle.cs_mount.proofs.Opened.{opened_by}
 use Rattle.cs_mount.proofs.mount_options.MountOptions.open.Goals as goal
 
@@ -61,3 +61,11 @@ returns-in-Err-open-clause-unwritten g c = λ h.
     let once = c.in-Ok.ensures.state h in
     subst (λ (below : _). (D.state below ≡ D.state disk) ⊎ (D.state below ≡ flushed (D.state disk))) (sym c.into_disk.ensures)
     (inr (⊎_elim (λ same. same ∙ once) (λ again. again ∙ ap flushed once) (c.in-Err-open.ensures.unwritten (c.in-Ok.ensures.honest.0 h))))
+
+pub returns-in-Ok-open-clause-before : goal.returns-in-Ok-open-clause-before
+returns-in-Ok-open-clause-before g c = λ h t left le past.
+    let D = g.D.PageDisk in
+    let disk = c.args.disk in
+    let found = dimensions_on (D.page_count disk) (seen (D.state disk)) in
+    shows_before moment_of left_as_shown (store_version found) (pairs_where found) (D.state disk) (D.left_since disk t) c.in-Ok.paired c.in-Ok-open.core.disk t (state_shown c.in-Ok.paired) left
+    (c.in-Ok.ensures.shown h) (le_trans le (c.in-Ok.ensures.crash h).later) (λ image was. c.in-Ok.ensures.before h t image le was) (c.in-Ok-open.ensures.crash (c.in-Ok.ensures.honest.0 h)) past

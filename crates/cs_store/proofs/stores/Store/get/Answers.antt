@@ -1,4 +1,4 @@
-use Rattle.std.proofs.Common.{◌≡◌, IfOk, IfSome, List, subst, sym, ℕ}
+use Rattle.std.proofs.Common.{◌≡◌, IfOk, IfSome, subst, sym}
 use Rattle.cs_disk.specs.Disk.{Rises}
 use Rattle.cs_extent.specs.State.{IsWhole}
 use Rattle.cs_index.specs.State.{id_number}

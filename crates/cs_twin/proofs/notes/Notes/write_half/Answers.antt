@@ -1,4 +1,4 @@
-use Rattle.std.proofs.Common.{refl}
+use Rattle.std.proofs.Common.{arith, refl}
 use Rattle.cs_twin.proofs.Right.{still_right}
 use Rattle.cs_twin.proofs.Writing.{doubted_at, went_to, written_at}
 use Rattle.cs_twin.proofs.notes.Notes.write_half.Goals as goal
@@ -15,8 +15,8 @@ returns-in-Ok-write-clause-right g c = λ h.
 
 pub returns-in-Err-DeviceFault-clause-fault : goal.returns-in-Err-DeviceFault-clause-fault
 returns-in-Err-DeviceFault-clause-fault g c = λ h x at.
-    went_to (g.R.PageRules.version c.args.rules.now) c.args.pairs.now c.args.self.now (g.D.PageDisk.state c.args.disk.now) _ c.args.k c.half_of.result c.args.bytes.now (record { page = 0; twin = 0 }) c.index-2.result.now
-    (c.requires.right h) c.requires.read c.index-2.ensures c.half_of.ensures (c.write.ensures.fault h) x at
+    went_to (g.R.PageRules.version c.args.rules.now) c.args.pairs.now c.args.self.now (g.D.PageDisk.state c.args.disk.now) _ c.args.k c.half_of.result c.in-Ok.version c.index.result.now.version c.args.bytes.now (record { page = 0; twin = 0 }) c.index-2.result.now
+    (c.requires.right h) c.requires.read c.index-2.ensures (omega (arith, c.if-version-index.false)) c.in-Ok.ensures.version c.half_of.ensures (c.write.ensures.fault h) x at
 
 pub returns-in-Err-DeviceFault-clause-right : goal.returns-in-Err-DeviceFault-clause-right
 returns-in-Err-DeviceFault-clause-right g c = λ h.

@@ -2,7 +2,9 @@ use Rattle.std.proofs.Common.{List, refl, OnOk, subst, sym}
 use Rattle.cs_disk.specs.Disk.{LeavesOnly, MayLeave, seen}
 use Rattle.cs_twin.specs.declared.pairs.Pair.{Pair}
 use Rattle.cs_twin.specs.Noted.{AreNotes, AreRight}
-use Rattle.cs_twin.specs.Findings.{AreMended}
+use Rattle.cs_twin.specs.declared.findings.Filling.TheVariants.{Copy}
+use Rattle.cs_twin.specs.Fillings.{filling_of}
+use Rattle.cs_twin.specs.Findings.{AreLaidOver}
 use Rattle.cs_twin.specs.Pairs.{ArePairs, shown, shown_state}
 use Rattle.cs_twin.proofs.Fits.{fit_call}
 use Rattle.cs_twin.proofs.Mending.{leaves_as_shown}
@@ -13,18 +15,18 @@ use Rattle.cs_twin.proofs.paired.Paired.repair_all.Goals as goal
 pub invariant_of-self : goal.invariant_of-self
 invariant_of-self g c =
     let V = g.R.PageRules.version c.args.self.now.rules in
-    let disk = c.repair_all.new.disk in
+    let disk = c.fill_all.new.disk in
     let pairs = c.args.self.now.pairs.items in
-    let apart = subst (λ n. ArePairs pairs n) (sym c.repair_all.ensures.pages) c.args.self.now.apart in
-    let right = λ (h : g.D.PageDisk.honest disk). subst (λ (ps : List Pair). AreRight V ps c.repair_all.new.self (g.D.PageDisk.state disk)) c.deref.ensures.value (c.repair_all.ensures.right h) in
+    let apart = subst (λ n. ArePairs pairs n) (sym c.fill_all.ensures.pages) c.args.self.now.apart in
+    let right = λ (h : g.D.PageDisk.honest disk). subst (λ (ps : List Pair). AreRight V ps c.fill_all.new.self (g.D.PageDisk.state disk)) c.deref.ensures.value (c.fill_all.ensures.right h) in
     record {
       apart = apart;
-      noted = subst (λ (ps : List Pair). AreNotes ps c.repair_all.new.self) c.deref.ensures.value c.repair_all.ensures.notes;
+      noted = subst (λ (ps : List Pair). AreNotes ps c.fill_all.new.self) c.deref.ensures.value c.fill_all.ensures.notes;
       right = right;
       fit = λ h.
-          let old = c.repair_all.ensures.honest.1 h in
+          let old = c.fill_all.ensures.honest.1 h in
           let count = g.D.PageDisk.page_count c.args.self.now.disk in
-          fit_call g.R.PageRules c.args.self.now.rules pairs count _ count (g.D.PageDisk.page_count disk) (g.D.PageDisk.state c.args.self.now.disk) (g.D.PageDisk.state disk) c.deref.ensures.value refl c.repair_all.ensures.pages (c.repair_all.ensures.fit old) (c.args.self.now.fit old);
+          fit_call g.R.PageRules c.args.self.now.rules pairs count _ count (g.D.PageDisk.page_count disk) (g.D.PageDisk.state c.args.self.now.disk) (g.D.PageDisk.state disk) c.deref.ensures.value refl c.fill_all.ensures.pages (c.fill_all.ensures.fit old) (c.args.self.now.fit old);
       shows = λ h. shows_here V pairs _ _ apart (g.met.D.PageDisk.sized disk h) (right h).newer;
       whole = λ h. whole_here V pairs _ _ apart (g.met.D.PageDisk.sized disk h) (right h).newer (g.met.D.PageDisk.whole disk h);
     }
@@ -35,8 +37,8 @@ returns-clause-untouched g c = λ h.
     let self = c.args.self.now in
     let V = g.R.PageRules.version self.rules in
     let before = seen (D.state self.disk) in
-    let now = seen (D.state c.repair_all.new.disk) in
-    untouched_of c.repair_all.result V self.pairs.items before now (subst (λ (ps : List Pair). OnOk c.repair_all.result (AreMended V ps before now)) c.deref.ensures.value (c.repair_all.ensures.mended h))
+    let now = seen (D.state c.fill_all.new.disk) in
+    untouched_of c.fill_all.result V (filling_of V Copy) self.pairs.items before now (subst (λ (ps : List Pair). OnOk c.fill_all.result (AreLaidOver V (filling_of V Copy) ps before now)) c.deref.ensures.value (c.fill_all.ensures.laid h))
 
 pub returns-clause-crash : goal.returns-clause-crash
 returns-clause-crash g c = λ h.
@@ -45,6 +47,6 @@ returns-clause-crash g c = λ h.
     let V = g.R.PageRules.version self.rules in
     let pairs = self.pairs.items in
     let s = D.state self.disk in
-    let only = subst (λ (ps : List Pair). LeavesOnly D.moment D.left_since self.disk c.repair_all.new.disk (λ left. MayLeave (shown_state V ps s) (shown V ps left))) c.deref.ensures.value (c.repair_all.ensures.crash h) in
-    let shows = leaves_as_shown D V pairs self.disk c.repair_all.new.disk (MayLeave (shown_state V pairs s)) only in
+    let only = subst (λ (ps : List Pair). LeavesOnly D.moment D.left_since self.disk c.fill_all.new.disk (λ left. MayLeave (shown_state V ps s) (shown V ps left))) c.deref.ensures.value (c.fill_all.ensures.crash h) in
+    let shows = leaves_as_shown D V pairs self.disk c.fill_all.new.disk (MayLeave (shown_state V pairs s)) only in
     record { later = shows.later; each = shows.each; before = shows.before }

@@ -1,7 +1,9 @@
-use Rattle.std.proofs.Common.{◌∙◌, List, ap, slice_get, subst, sym}
+use Rattle.std.proofs.Common.{◌∙◌, ◌<◌, List, ap, slice_get, subst, sym}
 use Rattle.std.proofs.lemmas.Option.{slice_get_within}
 use Rattle.cs_twin.specs.declared.pairs.Pair.{Pair}
 use Rattle.cs_twin.specs.declared.pairs.Place.TheVariants.{OfPair, Own}
+use Rattle.cs_disk.specs.Disk.{seen}
+use Rattle.cs_twin.specs.Fences.{AreFenced}
 use Rattle.cs_twin.specs.Fitting.{IsFit}
 use Rattle.cs_twin.specs.Noted.{AreNotes, AreRight, IsPlace}
 use Rattle.cs_twin.specs.Pairs.{ArePairs}
@@ -137,13 +139,14 @@ pub returns-then-allows-clause-others : goal.returns-then-allows-clause-others
 returns-then-allows-clause-others g c = λ h.
     let self = c.args.self.now in
     let own = subst (λ (ps : List Pair). IsPlace ps c.args.number Own) c.deref.ensures.value c.in-Own.ensures in
-    others_own (g.R.PageRules.version self.rules) (g.R.PageRules.allowed self.rules) self.pairs.items c.write.result (g.D.PageDisk.state self.disk) (g.D.PageDisk.state c.write.new.self) c.args.number c.args.bytes.now own (c.write.ensures.ok h)
+    others_own (g.R.PageRules.version self.rules) (g.R.PageRules.allowed self.rules) self.pairs.items c.write.result (g.D.PageDisk.state self.disk) (g.D.PageDisk.state c.write.new.self) c.args.number c.args.bytes.now (subst (λ n. c.args.number < n) (sym (g.met.D.PageDisk.sized self.disk h)) c.requires) own (c.write.ensures.ok h)
 
 pub returns-in-OfPair-clause-taken : goal.returns-in-OfPair-clause-taken
 returns-in-OfPair-clause-taken g c = λ h sound takes.
     let at = subst (λ (ps : List Pair). IsPlace ps c.args.number (OfPair c.in-OfPair.k)) c.deref.ensures.value c.in-OfPair.ensures in
     let there = ap (λ (ps : List Pair). slice_get ps c.in-OfPair.k) c.deref-in-OfPair.ensures.value ∙ at.1 in
-    c.write_newer.ensures.taken h sound at.0 there (takes.newer c.in-OfPair.k at.0 at.1 at.2)
+    c.write_newer.ensures.taken h sound
+    (subst (λ (ps : List Pair). AreFenced (g.R.PageRules.version c.args.self.now.rules) ps (seen (g.D.PageDisk.state c.args.self.now.disk))) (sym c.deref-in-OfPair.ensures.value) (takes.fenced c.in-OfPair.k at.0 at.1 at.2)) at.0 there (takes.newer c.in-OfPair.k at.0 at.1 at.2)
 
 pub returns-in-OfPair-clause-others : goal.returns-in-OfPair-clause-others
 returns-in-OfPair-clause-others g c = λ h.
@@ -151,4 +154,4 @@ returns-in-OfPair-clause-others g c = λ h.
     let at = subst (λ (ps : List Pair). IsPlace ps c.args.number (OfPair c.in-OfPair.k)) c.deref.ensures.value c.in-OfPair.ensures in
     let there = ap (λ (ps : List Pair). slice_get ps c.in-OfPair.k) c.deref-in-OfPair.ensures.value ∙ at.1 in
     others_pair (g.R.PageRules.version self.rules) (g.R.PageRules.allowed self.rules) self.pairs.items c.write_newer.result (g.D.PageDisk.page_count self.disk) (g.D.PageDisk.state self.disk) (g.D.PageDisk.state c.write_newer.new.disk)
-    c.args.number c.in-OfPair.k at.0 c.args.bytes.now self.apart at.1 at.2 (c.write_newer.ensures.below_ok h at.0 there)
+    c.args.number c.in-OfPair.k at.0 c.args.bytes.now self.apart (g.met.D.PageDisk.sized self.disk h) at.1 at.2 (c.write_newer.ensures.whole at.0 there) (c.write_newer.ensures.below_ok h at.0 there)

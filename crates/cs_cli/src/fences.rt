@@ -1,0 +1,107 @@
+//! Stores over files that are opened to be written. What the opening passed over is kept beside the store, and fenced.
+
+use crate::files::{OverFile, Place, Written, disk_to_write};
+use crate::kept_pages::keep_pages;
+use crate::openings::{Opened, Shown, Unopened, open_core, open_typed};
+use crate::warnings::warn_of;
+use cs_mount::the_core::Core;
+use cs_mount::{Finding, Mounted, fence};
+use cs_refusal::Refusal;
+use cs_tools::store::Store;
+use cs_tools::{Outcome, Style};
+use std::fs::File;
+use std::rt::Files;
+use std::time::Clock;
+
+/// Opens the store in a file to write it, and warns of its damaged pages. If it has some they are fenced first: each is
+/// kept beside the store, and filled with bytes of 255. So what was lost there can't be completed by a later write.
+pub fn open_core_to_write<R: AllocGlobal + Clock + Files<File = File> + Eprint>(
+    rt: &R,
+    place: Place,
+    style: Style,
+) -> Result<Core<Mounted<Written>>, Unopened> {
+    let opened = open_core::<Mounted<Written>, R>(rt, disk_to_write(rt, place))?;
+    let (commands, _) = opened.store.opened();
+    warn_of(rt, &opened, commands, style);
+    if !are_passed_over(&opened.findings) {
+        return Ok(opened.store);
+    }
+    let Opened {
+        store,
+        findings,
+        ..
+    } = opened;
+    let disk = store.into_disk().into_below();
+    let disk = fenced(rt, place.path, disk, &findings, style)?;
+    unless_refused(rt, Mounted::<Written>::open_core(rt.alloc(), disk))
+}
+
+/// Opens the store in a file to write it as a typed store, as `open_core_to_write`.
+pub fn open_typed_to_write<R: AllocGlobal + Clock + Files<File = File> + Eprint>(
+    rt: &R,
+    place: Place,
+    style: Style,
+) -> Result<Store<Mounted<Written>>, Unopened> {
+    let opened = open_typed::<Mounted<Written>, R>(rt, disk_to_write(rt, place))?;
+    let (commands, _) = opened.store.found();
+    warn_of(rt, &opened, commands, style);
+    if !are_passed_over(&opened.findings) {
+        return Ok(opened.store);
+    }
+    let Opened {
+        store,
+        findings,
+        ..
+    } = opened;
+    let disk = store.close().into_below();
+    let disk = fenced(rt, place.path, disk, &findings, style)?;
+    unless_refused(rt, Mounted::<Written>::open_typed(rt.alloc(), disk))
+}
+
+/// Whether a page was passed over.
+fn are_passed_over(findings: &[Finding]) -> bool {
+    findings.iter().any(|finding| finding.passed_over().is_some())
+}
+
+/// The store that was opened, without what was found; or why it wasn't opened.
+fn unless_refused<S: Drop, R: AllocGlobal>(
+    rt: &R,
+    opened: Result<(S, Vec<Finding>), (Refusal, Written)>,
+) -> Result<S, Unopened> {
+    match opened {
+        Ok((store, _)) => Ok(store),
+        Err((refusal, mut disk)) => Err(Unopened::of_disk(rt.alloc(), refusal, &mut disk)),
+    }
+}
+
+/// The store on a disk, after each of its damaged pages was kept beside it. If one can't be kept it isn't opened.
+pub fn open_kept<R: AllocGlobal + Files<File = File> + Eprint>(
+    rt: &R,
+    path: &str,
+    mut disk: Written,
+    findings: &[Finding],
+    style: Style,
+) -> Result<Core<Mounted<Written>>, Unopened> {
+    if !keep_pages(rt, path, &mut disk, findings, style) {
+        return Err(Unopened::of_outcome(rt.alloc(), Outcome::MayBeLost, disk.fault()));
+    }
+    unless_refused(rt, Mounted::<Written>::open_core(rt.alloc(), disk))
+}
+
+/// The disk of a store, after each of its damaged pages was kept beside it and filled.
+fn fenced<R: AllocGlobal + Files<File = File> + Eprint>(
+    rt: &R,
+    path: &str,
+    disk: Written,
+    findings: &[Finding],
+    style: Style,
+) -> Result<Written, Unopened> {
+    let core = open_kept(rt, path, disk, findings, style)?;
+    match fence(core) {
+        Ok(disk) => Ok(disk.into_below()),
+        Err((refusal, disk)) => {
+            let mut disk = disk.into_below();
+            Err(Unopened::of_disk(rt.alloc(), refusal, &mut disk))
+        }
+    }
+}

@@ -1,0 +1,242 @@
+-- Stores whose opening passed pages over, before these are fenced and after it.
+use Rattle.std.proofs.Common.{◌≡◌, ◌≢◌, ◌⊎◌, inl, inr, ◌∙◌, ◌+◌, ◌-◌, ◌<◌, ◌≤◌, ◌||◌, ◌∷◌, [], ℕ, suc, Bool, true, false, not, true≢false, List, Option, Some, None, if◌then◌else◌, length, map, nat_le, ap, arith, eq-eqb, refl, subst, sym}
+use denote.Struct.Props.{props}
+use Rattle.std.proofs.Math.Logic.{∥∥₁_elim, ∥∥₁_map}
+use Rattle.std.proofs.lemmas.Bool.{or_parts}
+use Rattle.std.proofs.lemmas.Bool.Decides.{nat_tests}
+use Rattle.std.specs.List.{AllByRecursion, list_any, range_with_len}
+use Rattle.cs_disk.proofs.Crashes.{MayLeave-settled, seen_MayLeave}
+use Rattle.cs_disk.proofs.Images.{length-applied}
+use Rattle.cs_disk.specs.Disk.{Image, LeavesOnly, MayLeave, State, applied, flushed, page, seen}
+use Rattle.cs_frame.specs.declared.faults.FormatFault.{FormatFault}
+use Rattle.cs_frame.specs.FirstFormat.{page_zero_fault}
+use Rattle.cs_frame.specs.Geometries.{Dimensions}
+use Rattle.cs_mount.proofs.Keeping.{kept_of_store}
+use Rattle.cs_mount.proofs.Telling.{found_third, last_found, says_version, version_says, zero_says}
+use Rattle.cs_mount.proofs.Twins.{total_pages}
+use Rattle.cs_mount.specs.OfStores.{IsOfStore, is_allowed}
+use Rattle.cs_mount.specs.Showing.{findings_on, shown_on}
+use Rattle.cs_mount.specs.StorePairs.{dimensions_on, first_says, pages_of, pairs_where, section_version, store_pair, store_pairs, store_version}
+use Rattle.cs_twin.proofs.Leaving.{are_on, seen_shown}
+use Rattle.cs_twin.proofs.Roles.{if_other}
+use Rattle.cs_twin.proofs.Shown.{page-shown}
+use Rattle.cs_twin.specs.declared.findings.Finding.{Finding}
+use Rattle.cs_twin.specs.declared.pairs.Pair.{Pair}
+use Rattle.cs_twin.specs.Findings.{finding_in, held_of, is_halved, passed_over}
+use Rattle.cs_twin.specs.Kept.{AreAllowed}
+use Rattle.cs_twin.specs.Pairs.{AreNoOlder, ArePairs, Versions, blank, half, is_turned, shown, shown_page, shown_state}
+use Rattle.cs_store.specs.Opening.{NoneIsPassedOver}
+
+-- ---- findings that name no page
+
+none_named : (it : Finding) → is_halved it ≡ false → passed_over it ≡ None
+none_named it unnamed = ap (λ (b : Bool). if b then Some (half it.pair (not (held_of it).turned)) else None) unnamed
+
+pub none_passed : (findings : List Finding) → list_any is_halved findings ≡ false → NoneIsPassedOver findings
+none_passed [] unnamed = tt
+none_passed (it ∷ findings) unnamed =
+    let parts = or_parts (is_halved it) (list_any is_halved findings) unnamed in
+    (none_named it parts.0, none_passed findings parts.1)
+
+-- and one that does
+one_named : (it : Finding) → passed_over it ≡ None → is_halved it ≡ true → ⊥
+one_named it none named = by_name (sym (ap (λ (b : Bool). if b then Some (half it.pair (not (held_of it).turned)) else None) named) ∙ none)
+  where
+    by_name : Some (half it.pair (not (held_of it).turned)) ≡ None → ⊥
+    by_name same = cc
+
+pub some_passed : (findings : List Finding) → NoneIsPassedOver findings → list_any is_halved findings ≡ true → ⊥
+some_passed [] none named = true≢false (sym named)
+some_passed (it ∷ findings) none named = by_test (is_halved it) refl (some_passed findings none.1) named
+  where
+    by_test : (b : Bool) → is_halved it ≡ b → (list_any is_halved findings ≡ true → ⊥) → (b || list_any is_halved findings) ≡ true → ⊥
+    by_test true test others named = one_named it none.0 test
+    by_test false test others named = others named
+
+-- what is so of each pair of a list is so of its finding
+named_each : (V : Versions) (image : Image) (pairs : List Pair) → AllByRecursion (λ x. passed_over (finding_in V image x) ≡ None) pairs → NoneIsPassedOver (map (finding_in V image) pairs)
+named_each V image [] all = tt
+named_each V image (x ∷ pairs) all = (all.0, named_each V image pairs all.1)
+
+-- ---- where a store is found its first section shows
+
+module _ (n : ℕ) (image : Image) (d : Dimensions) (found : dimensions_on n image ≡ Some d) where
+  abbrev V : Versions
+  V = store_version (Some d)
+
+  abbrev x : Pair
+  x = store_pair d 0
+
+  three : d.format ≡ 3
+  three = (found_third n image d found).0
+
+  sized : pages_of d ≡ n
+  sized = (found_third n image d found).1
+
+  many : 2 ≤ pages_of d
+  many = let total = total_pages d three in omega (arith, total)
+
+  -- one of its two pages is whole
+  one_whole : (0 < section_version d 0 (page image 0)) ⊎ (0 < section_version d 0 (page image (pages_of d - 1)))
+  one_whole = by_fault (page_zero_fault (page image 0)) refl
+    where
+      by_fault : (o : Option FormatFault) → page_zero_fault (page image 0) ≡ o → (0 < section_version d 0 (page image 0)) ⊎ (0 < section_version d 0 (page image (pages_of d - 1)))
+      by_fault None whole = inl (says_version d n (page image 0) three (zero_says n image d whole found))
+      by_fault (Some fault) damaged =
+          inr (subst (λ k. 0 < section_version d 0 (page image (k - 1))) (sym sized) (says_version d n (page image (n - 1)) three (sym (last_found n image fault damaged) ∙ found)))
+
+  -- so the newest is
+  newest_whole : 0 < section_version d 0 (page image (half x (is_turned V image x)))
+  newest_whole = by_turned (is_turned V image x) refl one_whole
+    where
+      by_turned : (t : Bool) → nat_le (section_version d 0 (page image 0)) (section_version d 0 (page image (pages_of d - 1))) ≡ t
+          → (0 < section_version d 0 (page image 0)) ⊎ (0 < section_version d 0 (page image (pages_of d - 1))) → 0 < section_version d 0 (page image (half x t))
+      by_turned true test (inl own) = grind (arith, nat_tests)
+      by_turned true test (inr twin) = twin
+      by_turned false test (inl own) = own
+      by_turned false test (inr twin) = grind (arith, nat_tests)
+
+  shows_newest : shown_page V (store_pairs d) image 0 ≡ page image (half x (is_turned V image x))
+  shows_newest =
+      ap (λ (b : Bool). shown_page V (if b then map (store_pair d) (range_with_len 0 (1 + d.sections)) else []) image 0) (eq-eqb d.format 3 three) ∙ listed d.sections
+    where
+      listed : (k : ℕ) → shown_page V (map (store_pair d) (range_with_len 0 (1 + k))) image 0 ≡ page image (half x (is_turned V image x))
+      listed k =
+          let is : 1 + k ≡ suc k = omega arith in
+          ap (λ i. shown_page V (map (store_pair d) (range_with_len 0 i)) image 0) is
+          ∙ if_other (pages_of d - 1) 0 blank (page image (half x (is_turned V image x))) (λ zero. omega (arith, many, zero))
+
+  first_shows : length image ≡ n → first_says n (page (shown_on n image) 0) ≡ Some d
+  first_shows long =
+      let shows : page (shown_on n image) 0 ≡ page image (half x (is_turned V image x)) =
+      ap (λ (o : Option Dimensions). page (shown (store_version o) (pairs_where o) image) 0) found
+      ∙ page-shown V (store_pairs d) image 0 (omega (arith, long, many, sized)) ∙ shows_newest in
+      let whole : 0 < section_version d 0 (page (shown_on n image) 0) = subst (λ (bytes : List ℕ). 0 < section_version d 0 bytes) (sym shows) newest_whole in
+      subst (λ k. first_says k (page (shown_on n image) 0) ≡ Some d) sized (version_says d (page (shown_on n image) 0) three whole)
+
+-- ---- so a disk in pairs that shows it is in the pairs of that store
+
+pub record LiesIn (n : ℕ) (d : Dimensions) (store : Option Dimensions) (pairs : List Pair) (below : Image) : Type 0 where
+  pub its : store ≡ Some d
+  pub are : pairs ≡ store_pairs d
+  pub found : dimensions_on n below ≡ Some d
+
+lies_in : (n : ℕ) (image : Image) (d : Dimensions) (store : Option Dimensions) (pairs : List Pair) (below : Image) → length image ≡ n → dimensions_on n image ≡ Some d → ∥ IsOfStore store pairs n below ∥₁
+    → shown (store_version store) pairs below ≡ shown_on n image → LiesIn n d store pairs below
+lies_in n image d store pairs below long found fits shows =
+    let says : first_says n (page (shown (store_version store) pairs below) 0) ≡ Some d = ap (λ (z : Image). first_says n (page z 0)) shows ∙ first_shows n image d found long in
+    let is_its : IsProp (store ≡ Some d) = hlevel props in
+    let are_its : IsProp (pairs ≡ pairs_where store) = hlevel props in
+    let is_found : IsProp (dimensions_on n below ≡ Some d) = hlevel props in
+    let its : store ≡ Some d = ∥∥₁_elim fits is_its (λ of. (of.found d says).0) in
+    record {
+      its = its;
+      are = ∥∥₁_elim fits are_its (λ of. of.its) ∙ ap pairs_where its;
+      found = ∥∥₁_elim fits is_found (λ of. (of.found d says).1);
+    }
+
+-- ---- what an opening finds after a fence
+
+none_from : {A B : Type 0} (f : A → B) (xs : List A) → map f xs ≡ [] → xs ≡ []
+none_from f [] none = refl
+none_from f (x ∷ xs) none = cc
+
+-- a disk in pairs shows this, and no write of it waits
+abbrev pub IsSettled : Option Dimensions → List Pair → State → Image → Type 0
+IsSettled store pairs s image = shown_state (store_version store) pairs s ≡ record { durable = image; volatile = [] }
+
+seen_settled : (s : State) → s.volatile ≡ [] → seen s ≡ s.durable
+seen_settled s none = ap (applied s.durable) none
+
+settled_seen : (store : Option Dimensions) (pairs : List Pair) (s : State) (image : Image) → IsSettled store pairs s image → seen s ≡ s.durable
+settled_seen store pairs s image shows = seen_settled s (none_from _ s.volatile (ap (λ (z : State). z.volatile) shows))
+
+whole_on : (n : ℕ) (d : Dimensions) (image : Image) → dimensions_on n image ≡ Some d → AllByRecursion (λ x. passed_over (finding_in (store_version (Some d)) image x) ≡ None) (store_pairs d)
+    → NoneIsPassedOver (findings_on n image)
+whole_on n d image found all =
+    subst (λ (o : Option Dimensions). NoneIsPassedOver (map (finding_in (store_version o) image) (pairs_where o))) (sym found) (named_each (store_version (Some d)) image (store_pairs d) all)
+
+module _ (n : ℕ) (s : State) (long : length s.durable ≡ n) where
+  pub long_seen : length (seen s) ≡ n
+  long_seen = length-applied s.durable s.volatile ∙ long
+
+  pub none_halved : (findings : List Finding) → findings ≡ findings_on n (seen s) → list_any is_halved findings ≡ true → dimensions_on n (seen s) ≡ None → ⊥
+  none_halved findings found named is =
+      let none : findings ≡ [] = found ∙ ap (λ (o : Option Dimensions). map (finding_in (store_version o) (seen s)) (pairs_where o)) is in
+      some_passed [] tt (subst (λ (l : List Finding). list_any is_halved l ≡ true) none named)
+
+  -- where nothing was passed over nothing is written
+  pub guarded_still : (findings : List Finding) (now : State) → findings ≡ findings_on n (seen s) → list_any is_halved findings ≡ false → now ≡ flushed s → NoneIsPassedOver (findings_on n (seen now))
+  guarded_still findings now found unnamed same =
+      let none : NoneIsPassedOver (findings_on n (seen s)) = subst NoneIsPassedOver found (none_passed findings unnamed) in
+      subst (λ (z : State). NoneIsPassedOver (findings_on n (seen z))) (sym same) none
+
+  -- and else it was of a store whose pairs are fenced
+  pub guarded_again : (findings : List Finding) → findings ≡ findings_on n (seen s) → list_any is_halved findings ≡ true
+      → (m : ℕ) (g : Option Dimensions) (ps : List Pair) (b : State) → m ≡ n → ∥ IsOfStore g ps m b.durable ∥₁ → IsSettled g ps b (shown_on n (seen s))
+      → (k : ℕ) (h : Option Dimensions) (qs : List Pair) (c : State) → k ≡ n → ∥ IsOfStore h qs k c.durable ∥₁ → IsSettled h qs c (shown_on n (seen s))
+      → AllByRecursion (λ x. passed_over (finding_in (store_version g) (seen c) x) ≡ None) ps → NoneIsPassedOver (findings_on n (seen c))
+  guarded_again findings found named m g ps b same fits shows k h qs c same_now fits_now shows_now fenced = by_found (dimensions_on n (seen s)) refl
+    where
+      by_found : (o : Option Dimensions) → dimensions_on n (seen s) ≡ o → NoneIsPassedOver (findings_on n (seen c))
+      by_found None is = absurd (none_halved findings found named is)
+      by_found (Some d) is =
+          let before = lies_in n (seen s) d g ps b.durable long_seen is (subst (λ i. ∥ IsOfStore g ps i b.durable ∥₁) same fits) (ap (λ (z : State). z.durable) shows) in
+          let now = lies_in n (seen s) d h qs c.durable long_seen is (subst (λ i. ∥ IsOfStore h qs i c.durable ∥₁) same_now fits_now) (ap (λ (z : State). z.durable) shows_now) in
+          let on : dimensions_on n (seen c) ≡ Some d = ap (dimensions_on n) (settled_seen h qs c (shown_on n (seen s)) shows_now) ∙ now.found in
+          let all : AllByRecursion (λ x. passed_over (finding_in (store_version (Some d)) (seen c) x) ≡ None) (store_pairs d) =
+          subst (λ (l : List Pair). AllByRecursion (λ x. passed_over (finding_in (store_version (Some d)) (seen c) x) ≡ None) l) before.are
+          (subst (λ (o : Option Dimensions). AllByRecursion (λ x. passed_over (finding_in (store_version o) (seen c) x) ≡ None) ps) before.its fenced) in
+          whole_on n d (seen c) on all
+
+  -- findings that name a page aren't those of a disk of which none is passed over
+  pub not_passed : {T : Type 0} (findings : List Finding) → findings ≡ findings_on n (seen s) → list_any is_halved findings ≡ true → NoneIsPassedOver (findings_on n (seen s)) → T
+  not_passed findings found named none = absurd (some_passed findings (subst NoneIsPassedOver (sym found) none) named)
+
+-- ---- where a fence is refused, what is left shows as before
+
+pub kept_still : (n : ℕ) (image : Image) → length image ≡ n → dimensions_on n image ≢ None
+    → (m : ℕ) (g : Option Dimensions) (pairs : List Pair) (s : State) → m ≡ n → ArePairs pairs m → length s.durable ≡ m → AreNoOlder (store_version g) pairs s → AreAllowed is_allowed pairs s
+    → ∥ IsOfStore g pairs m s.durable ∥₁ → seen (shown_state (store_version g) pairs s) ≡ shown_on n image → shown_on n (seen s) ≡ shown_on n image
+kept_still n image long some m g pairs s same are size newer allowed fits shows = by_found (dimensions_on n image) refl
+  where
+    now : shown (store_version g) pairs (seen s) ≡ shown_on n image
+    now = sym (seen_shown (store_version g) pairs s (are_on pairs m s.durable are size) newer) ∙ shows
+
+    left : ∥ IsOfStore g pairs n (seen s) ∥₁
+    left = subst (λ k. ∥ IsOfStore g pairs k (seen s) ∥₁) same (∥∥₁_map fits (λ durable. kept_of_store g pairs m s (seen s) are size newer allowed durable (seen_MayLeave s)))
+
+    by_found : (o : Option Dimensions) → dimensions_on n image ≡ o → shown_on n (seen s) ≡ shown_on n image
+    by_found None is = absurd (some is)
+    by_found (Some d) is =
+        let lies = lies_in n image d g pairs (seen s) long is left now in
+        ap (λ (o : Option Dimensions). shown (store_version o) (pairs_where o) (seen s)) lies.found
+        ∙ sym (ap (λ (o : Option Dimensions). shown (store_version o) pairs (seen s)) lies.its ∙ ap (λ (l : List Pair). shown (store_version (Some d)) l (seen s)) lies.are)
+        ∙ now
+
+-- ---- two runs of calls, one after the other
+
+pub leaves_then : {D : Type 0} (moment : D → ℕ) (left_since : D → ℕ → Image → Type 0) (old mid new : D) (P Q : Image → Type 0) → ((c : Image) → Q c → P c) → LeavesOnly moment left_since old mid P
+    → LeavesOnly moment left_since mid new Q → LeavesOnly moment left_since old new P
+leaves_then {D} moment left_since old mid new P Q more first next = record {
+  later = omega (arith, first.later, next.later);
+  each = λ c left. by_two c (next.before (moment old) c first.later left);
+  before = λ t c le left. by_three t c le (next.before t c (omega (arith, le, first.later)) left);
+}
+  where
+    by_two : (c : Image) → left_since mid (moment old) c ⊎ Q c → P c
+    by_two c (inl was) = first.each c was
+    by_two c (inr now) = more c now
+
+    by_three : (t : ℕ) (c : Image) → t ≤ moment old → left_since mid t c ⊎ Q c → left_since old t c ⊎ P c
+    by_three t c le (inl was) = first.before t c le was
+    by_three t c le (inr now) = inr (more c now)
+
+pub none_mapped : {A B : Type 0} (f : A → B) (xs : List A) → xs ≡ [] → map f xs ≡ []
+none_mapped f xs none = ap (map f) none
+
+-- what a crash leaves of a disk that is settled and shows the same it might have left before
+pub same_left : (s now : State) (c : Image) → now.volatile ≡ [] → seen now ≡ seen s → MayLeave now c → MayLeave s c
+same_left s now c settled same left =
+    let is : c ≡ seen s = MayLeave-settled now c settled left ∙ sym (seen_settled now settled) ∙ same in
+    subst (MayLeave s) (sym is) (seen_MayLeave s)

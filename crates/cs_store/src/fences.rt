@@ -1,0 +1,139 @@
+//! How a store is opened to be written: what its opening passed over is fenced first.
+ghost use Rattle.std.specs.Prelude.{◌↔◌, ◌<◌, ◌≡◌, ◌≢◌, ◌⊎◌, Err, IfErr, IfOk, MatchResult, None, [], length};
+ghost use Rattle.std.specs.List.{AllByRecursion, list_any};
+ghost use Rattle.cs_chunk.specs.Reads.{IsNoAnswer};
+ghost use Rattle.cs_core.specs.Openings.{IfStoreOn, IsOpened, IsOpenedAs};
+ghost use Rattle.cs_disk.specs.Disk.{Image, LeavesOnly, MayLeave, Rises, flushed, page, seen};
+ghost use Rattle.cs_extent.specs.State.{shape};
+ghost use Rattle.cs_mount.specs.Showing.{ShowsOn, findings_on, shown_on};
+ghost use Rattle.cs_mount.specs.StorePairs.{dimensions_on};
+ghost use Rattle.cs_reader.specs.Counts.{HasCount};
+ghost use Rattle.cs_reader.specs.Openings.{IsOpeningRefusal, IsWhyNotOpened};
+ghost use Rattle.cs_store.specs.Maps.{HasMap};
+ghost use Rattle.cs_store.specs.Opening.{NoneIsPassedOver};
+ghost use Rattle.cs_twin.specs.Findings.{finding_in, is_halved, passed_over};
+ghost use Rattle.cs_twin.specs.Paired.{disk_below, left_as_shown, moment_of, pairs_of, state_shown, versions_of};
+
+use crate::options::OpenOptions;
+use crate::stores::Store;
+use cs_core::{Core, Limits};
+use cs_disk::PageDisk;
+use cs_mount::{Finding, MountOptions, Mounted, fence};
+use cs_refusal::Refusal;
+use std::alloc::Global;
+
+/// Whether a page of this pair was passed over.
+fn is_passed_over(finding: Finding) -> bool
+    ensures { result ≡ is_halved finding }
+{
+    finding.passed_over().is_some()
+}
+
+/// Whether a page of one of these pairs was passed over.
+fn are_passed_over(findings: &[Finding]) -> bool
+    ensures { result ≡ list_any is_halved findings.now }
+{
+    findings.iter().any(|finding| is_passed_over(*finding))
+}
+
+/// Closes a store, fences each page that its opening passed over, and opens it again. If the call is refused, it
+/// returns the disk.
+fn open_fenced<D: PageDisk + Drop>(
+    alloc: Global,
+    core: Core<Mounted<D>>,
+    limits: Limits,
+) -> Result<Core<Mounted<D>>, (Refusal, D)>
+    ensures new { IfOk result (λ again. (again.history ≡ []) × (again.base ≡ 0) × (again.limit ≡ limits.history)) }
+    // What shows is the same, and it is what was opened.
+    ensures image { D.honest (disk_below core.disk) → IfOk result (λ again. (again.opened ≡ seen (state_shown core.disk)) × (state_shown again.disk ≡ flushed (state_shown core.disk))) }
+    ensures store { IfOk result (λ again. IsOpened (D.honest (disk_below core.disk)) again.opened again.found again.store) }
+    ensures recovers { D.honest (disk_below core.disk) → IfStoreOn (D.page_count (disk_below core.disk)) (page (seen (state_shown core.disk)))
+        (λ S n m. MatchResult result (λ again. IsOpenedAs S n m again.store again.found) (λ refused. IsNoAnswer refused.0)) }
+    // No page is passed over any more.
+    ensures fenced { D.honest (disk_below core.disk) → IfOk result (λ again. AllByRecursion (λ x. passed_over (finding_in (versions_of core.disk) (seen (D.state (disk_below again.disk))) x) ≡ None) (pairs_of core.disk)) }
+    // If it is refused, and a store of format 3 shows, the disk shows the same.
+    ensures kept { D.honest (disk_below core.disk) → IfErr result (λ refused. (image : Image) → length image ≡ D.page_count (disk_below core.disk) → dimensions_on (D.page_count (disk_below core.disk)) image ≢ None
+        → state_shown core.disk ≡ record { durable = shown_on (D.page_count (disk_below core.disk)) image; volatile = [] } → shown_on (D.page_count (disk_below core.disk)) (seen (D.state refused.1)) ≡ shown_on (D.page_count (disk_below core.disk)) image) }
+    ensures refusals { D.honest (disk_below core.disk) → IfErr result (λ refused. IsNoAnswer refused.0 ⊎ IsWhyNotOpened (D.page_count (disk_below core.disk)) (page (seen (state_shown core.disk))) refused.0) }
+    ensures number { IfErr result (λ refused. IsOpeningRefusal refused.0) }
+    ensures crash { D.honest (disk_below core.disk) → IfOk result (λ again. LeavesOnly moment_of left_as_shown core.disk again.disk (MayLeave (state_shown core.disk))) }
+    ensures honest { MatchResult result (λ again. D.honest (disk_below core.disk) ↔ D.honest (disk_below again.disk)) (λ refused. D.honest (disk_below core.disk) ↔ D.honest refused.1) }
+    ensures pages { MatchResult result (λ again. D.page_count (disk_below again.disk) ≡ D.page_count (disk_below core.disk)) (λ refused. D.page_count refused.1 ≡ D.page_count (disk_below core.disk)) }
+{
+    match fence(core) {
+        Ok(disk) => match Core::open(alloc, disk, limits) {
+            Ok(again) => Ok(again),
+            Err((refusal, disk)) => Err((refusal, disk.into_disk())),
+        },
+        Err((refusal, disk)) => Err((refusal, disk.into_disk())),
+    }
+}
+
+impl OpenOptions {
+    /// Opens the store on a disk as `open` does, and readies it to be written. Each page that the opening passed over
+    /// is filled with bytes of 255, a fence, and flushed. So what a crash tore off there can't be completed by a later
+    /// write that another crash tears. The store is closed for that, and opened again. What shows stays as it is.
+    ///
+    /// It returns what the pages held before: `Finding::passed_over` names a page that is a fence now. If it names none
+    /// nothing is written.
+    ///
+    /// If the call is refused, it returns the disk. The refusals are those of `open`. After 1 DeviceFault or 9
+    /// OutOfMemory some of the pages may be fences and the rest not; what shows is the same, so this can be done again.
+    pub fn open_to_write<D: PageDisk + Drop>(
+        self,
+        disk: D,
+    ) -> Result<(Store<Mounted<D>>, Vec<Finding>), (Refusal, D)>
+        ensures new { IfOk result (λ opened. (opened.0.history ≡ []) × (opened.0.base ≡ 0) × (opened.0.limit ≡ self.limits.history)) }
+        // What was opened is what the disk showed before.
+        ensures image { D.honest disk → IfOk result (λ opened. (opened.0.opened ≡ shown_on (D.page_count disk) (seen (D.state disk))) × (state_shown opened.0.disk ≡ record { durable = shown_on (D.page_count disk) (seen (D.state disk)); volatile = [] })) }
+        ensures store { IfOk result (λ opened. IsOpened (D.honest disk) opened.0.opened opened.0.found opened.0.store) }
+        // Where the disk shows a store of some geometry with this map, that store is opened and has this map.
+        ensures recovers { D.honest disk → IfStoreOn (D.page_count disk) (page (shown_on (D.page_count disk) (seen (D.state disk))))
+            (λ S n m. MatchResult result (λ opened. (shape opened.0.store.extents ≡ S) × (opened.0.found.0 ≡ n) × HasCount (λ id. m id ≢ None) opened.0.found.1 × HasMap opened.0 m) (λ refused. IsNoAnswer refused.0)) }
+        // They are what the disk held before.
+        ensures findings { D.honest disk → IfOk result (λ opened. opened.1.items ≡ findings_on (D.page_count disk) (seen (D.state disk))) }
+        // No page is passed over any more.
+        ensures guarded { D.honest disk → IfOk result (λ opened. NoneIsPassedOver (findings_on (D.page_count disk) (seen (D.state (disk_below opened.0.disk))))) }
+        // If it is refused, the disk shows the same.
+        ensures shown { D.honest disk → IfErr result (λ refused. shown_on (D.page_count disk) (seen (D.state refused.1)) ≡ shown_on (D.page_count disk) (seen (D.state disk))) }
+        ensures refusals { D.honest disk → IfErr result (λ refused. IsNoAnswer refused.0 ⊎ IsWhyNotOpened (D.page_count disk) (page (shown_on (D.page_count disk) (seen (D.state disk)))) refused.0) }
+        // Whatever the disk answers.
+        ensures number { IfErr result (λ refused. IsOpeningRefusal refused.0) }
+        ensures small { D.page_count disk < 10 → result ≡ Err (Refusal.NotAStore, disk) }
+        // If no page was passed over, 1 is an answer of the device.
+        ensures cause { D.honest disk → NoneIsPassedOver (findings_on (D.page_count disk) (seen (D.state disk))) → IfErr result (λ refused. refused.0 ≡ Refusal.DeviceFault → Rises (D.failure_count disk) (D.failure_count refused.1)) }
+        // Nothing is written then: the device holds what it held, or that made durable.
+        ensures unwritten { D.honest disk → NoneIsPassedOver (findings_on (D.page_count disk) (seen (D.state disk))) → MatchResult result (λ opened. D.state (disk_below opened.0.disk) ≡ flushed (D.state disk)) (λ refused. (D.state refused.1 ≡ D.state disk) ⊎ (D.state refused.1 ≡ flushed (D.state disk))) }
+        // A crash meanwhile leaves what shows as what one before it might have left.
+        ensures crash { D.honest disk → IfOk result (λ opened. (left : Image) → left_as_shown opened.0.disk (D.moment disk) left → ShowsOn (D.page_count disk) (seen (D.state disk)) (MayLeave (D.state disk)) left) }
+        ensures honest { MatchResult result (λ opened. D.honest disk ↔ D.honest (disk_below opened.0.disk)) (λ refused. D.honest disk ↔ D.honest refused.1) }
+        ensures pages { MatchResult result (λ opened. D.page_count (disk_below opened.0.disk) ≡ D.page_count disk) (λ refused. D.page_count refused.1 ≡ D.page_count disk) }
+    {
+        let OpenOptions { alloc, limits, .. } = self;
+        let options = MountOptions::new(alloc).limits(limits);
+        match options.open(disk) {
+            Ok((core, findings)) => {
+                if !are_passed_over(&findings) {
+                    let store = Store {
+                        alloc,
+                        core,
+                        findings: Vec::new(alloc),
+                    };
+                    return Ok((store, findings));
+                }
+                match open_fenced(alloc, core, limits) {
+                    Ok(core) => {
+                        let store = Store {
+                            alloc,
+                            core,
+                            findings: Vec::new(alloc),
+                        };
+                        Ok((store, findings))
+                    }
+                    Err(refused) => Err(refused),
+                }
+            }
+            Err(refused) => Err(refused),
+        }
+    }
+}
