@@ -137,6 +137,9 @@ class Store:
             elif self.may_be_none:
                 # What is lost of a making leaves zeros, which are neither whole nor a fence.
                 self.suspects.add(page)
+        if self.may_be_none:
+            # So does what the making hadn't written yet, of the two halves of section 0.
+            self.suspects.update((0, max(self.half_of)))
 
     def open(self, calls=None):
         """Opens the store for writing, and looks at what it holds. It gives the pages that were passed over; None where the power failed, or there is no store."""

@@ -60,7 +60,9 @@ pub fn open_typed_to_write<R: AllocGlobal + Clock + Files<File = File> + Eprint>
 
 /// Whether a page was passed over.
 fn are_passed_over(findings: &[Finding]) -> bool {
-    findings.iter().any(|finding| finding.passed_over().is_some())
+    findings
+        .iter()
+        .any(|finding| finding.passed_over().is_some())
 }
 
 /// The store that was opened, without what was found; or why it wasn't opened.

@@ -78,12 +78,7 @@ fn is_kept<D: PageDisk, R: AllocGlobal + Files<File = File> + Eprint>(
 }
 
 /// The name of a file with bytes that a page of a store had: the first such file, the second, and so on.
-fn name_of<R: AllocGlobal>(
-    rt: &R,
-    path: &str,
-    page: u64,
-    copy: u8,
-) -> Result<String, AllocError> {
+fn name_of<R: AllocGlobal>(rt: &R, path: &str, page: u64, copy: u8) -> Result<String, AllocError> {
     if copy == 1 {
         format!(in rt.alloc(); "{path}.page-{page}")
     } else {

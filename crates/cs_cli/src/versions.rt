@@ -4,4 +4,4 @@
 pub const VERSION: &str = "0.62.0";
 
 /// The sum of the sources that it is made of, in hex; zeros where none was written here.
-pub const SOURCES: &str = "3d4f1c52c0de5bdd818e95e1a36d7c6fbe244c81244e475a7ec2d24d7d8a8993";
+pub const SOURCES: &str = "26603399dd5d56c22b550070d3d7c62c0e091f2f60738bb0ef1d8e52a1ad9c76";
