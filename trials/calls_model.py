@@ -58,10 +58,11 @@ class Calls(Store):
         return self.content_of(self.page_of(locator))[1]
 
     def open(self):
-        """Opens what is on the disk: looks at page 0, flushes, and in format 3 reads both pages of each pair, at first for the findings and then for the newest; flushes
-        again, and reads the superblock, the root and the runs."""
+        """Opens what is on the disk: looks whether it is of two stores, by page 0 and, if that is of format 4, by the last page. It looks
+        at page 0 for the geometry and flushes. In format 4 it reads both pages of each pair, for the findings and then for the newest. It
+        flushes again, and reads the superblock, the root and the runs."""
         heads = self.sections + 1
-        for _ in range(3 + (5 if self.rules.apart else 1) * heads):
+        for _ in range(5 + 5 * heads if self.rules.apart else 4 + heads):
             self.device_call()
         self.disk.flush()
         self.newest, self.halted, self.events = {}, False, 0

@@ -1,4 +1,4 @@
-"""Which of two pages counts in a store of format 3, by the second reader, written from docs/FORMATS.md alone."""
+"""Which of two pages counts in a store, by the second reader, written from docs/FORMATS.md alone."""
 from typing import NamedTuple
 
 import reader
@@ -21,45 +21,53 @@ def page_of(image, number):
     return bytes(image[number * PAGE:(number + 1) * PAGE])
 
 
-def pairs_by(extents, pages, sections):
-    """The pages of each pair of a store of format 3: those of section 0, of the root, and of the other sections."""
-    count = 2 + extents * pages + 2 * sections
+def pairs_by(extents, pages, sections, device=None):
+    """The pages of each pair of a store: those of section 0, of the root, and of the other sections. The device has as many pages
+    as the store needs if nothing else is said."""
+    count = reader.device_pages(4, extents, pages, sections) if device is None else device
     return [(k if k < 2 else extents * pages + k, count - 1 - k) for k in range(sections + 1)]
 
 
+def section_on(page, form):
+    """The section that a page spells, None if it spells none."""
+    try:
+        return reader.section(page, form)
+    except reader.Unread:
+        return None
+
+
 class Pairs:
-    """The pages that a device of so many pages has twice, where a store of format 3 is on it; `page` gives the bytes of one."""
+    """The pages that a device of so many pages has twice, if a store of format 4 is on it; `page` gives the bytes of one."""
 
     def __init__(self, count, page):
         self.count, self.page = count, page
-        self.named = self.named_by()
-        self.pairs = [] if self.named is None else pairs_by(*self.named)
+        first, last = section_on(page(0), None), section_on(page(count - 1), 4)
+        # The identities of page 0 and of the last page, if they are of two stores.
+        self.two = None
+        if first and last and first.form == 4 and first.store != last.store:
+            self.two = first.store, last.store
+        self.named = self.named_by(first, last)
+        self.pairs = [] if self.named is None else pairs_by(*self.named[1:5])
 
-    def named_by(self):
-        """The extents, their pages and the sections of the store: page 0 says them, where it is whole in whatever format, else the last page."""
-        for number, form in ((0, None), (self.count - 1, 3)):
-            try:
-                form, extents, pages, sections, section = reader.section(self.page(number), form)[:5]
-            except reader.Unread:
-                continue
-            fits = form == 3 and section == 0 and self.count == 2 + extents * pages + 2 * sections
-            return (extents, pages, sections) if fits else None
-        return None
+    def named_by(self, first, last):
+        """What the sections of the store say: page 0 says it if it is whole in whatever format, else the last page."""
+        if first is not None:
+            fits = first.form == 4 and first.number == 0 and first.device <= self.count
+            return first.of_store() if fits and self.two is None else None
+        return last.of_store() if last is not None and last.number == 0 and last.device == self.count else None
 
     def version(self, own, number):
-        """The version of what a half holds of the pair that shows as its own page, 0 where it isn't whole."""
-        page = self.page(number)
+        """The version of what a half holds of the pair that shows as its own page, 0 if it isn't whole."""
+        page, (_, extents, pages, _, _, store) = self.page(number), self.named
         try:
             if own == ROOT:
-                reader.root(page, 3)
-            else:
-                extents, pages, sections = self.named
-                which = 0 if own == 0 else own - 1 - extents * pages
-                if tuple(reader.section(page, 3)[1:5]) != (extents, pages, sections, which):
-                    return 0
+                found = reader.root(page, 4)
+                return found.version if found.store == store else 0
+            found = reader.section(page, 4)
         except reader.Unread:
             return 0
-        return int.from_bytes(page[4:12], "big")
+        which = 0 if own == 0 else own - 1 - extents * pages
+        return int.from_bytes(page[4:12], "big") if found.of_store() == self.named and found.number == which else 0
 
     def newest(self):
         """Of each pair its own page, the half that counts, and the other one."""
@@ -96,10 +104,21 @@ def shown(image):
     return shows
 
 
+def chosen(image, store):
+    """A device's bytes with zeros on page 0 or on the last page, the first that is of another store than this one."""
+    for number in (0, len(image) // PAGE - 1):
+        found = section_on(page_of(image, number), 4)
+        if found is not None and found.store != store:
+            return image[:number * PAGE] + bytes(PAGE) + image[(number + 1) * PAGE:]
+    return image
+
+
 class Opened(reader.Store):
-    """The store that these bytes are, by the half of each pair that counts. Raises `reader.Unread` where it can't be opened."""
+    """The store that these bytes are, by the half of each pair that counts. Raises `reader.Unread` if it can't be opened."""
 
     def __init__(self, image):
+        reader.must(len(image) % PAGE == 0, 6)
+        reader.must(len(image) < 10 * PAGE or pairs_of(image).two is None, 43)
         super().__init__(shown(image))
 
 
@@ -109,23 +128,25 @@ def page_lines(image):
 
 
 def greatest_command(image):
-    """The greatest number of a command that the head of a whole chunk in the extents has, wherever it lies, 0 where there is none."""
-    extents, pages, _ = pairs_of(image).named
+    """The greatest number of a command that the head of a whole chunk of the store has, wherever it lies in the extents, 0 if there
+    is none."""
+    _, extents, pages, _, _, store = pairs_of(image).named
     greatest = 0
     for extent in range(extents):
         for page in range(pages):
             first, end = 2 + extent * pages + page, 2 + (extent + 1) * pages
             try:
-                payload = reader.frame(image[first * PAGE:end * PAGE], 0, None)
+                found = reader.head(reader.frame(image[first * PAGE:end * PAGE], 0, None))
             except reader.Unread:
                 continue
-            greatest = max(greatest, reader.head(payload).command)
+            if found.front == store[:reader.FRONTS[4]]:
+                greatest = max(greatest, found.command)
     return greatest
 
 
 def root_warnings(image, page, newest):
     """What is told where a page of the root isn't whole and the store is opened as of the other one: as of which, and which commands may be lost."""
-    version, commands, _ = reader.root(page_of(image, newest), 3)
+    version, commands = reader.root(page_of(image, newest), 4)[:2]
     greatest = greatest_command(image)
     if greatest == commands + 1:
         lost = f"command {greatest} may be lost, or was never acknowledged (found)"

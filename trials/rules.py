@@ -4,6 +4,8 @@ from typing import NamedTuple
 PAGE = 4096
 HEADER = 41
 MOST_CHUNKS = 8
+# How many bytes of the store's identity stand at the front of a run and at the end of a head.
+FRONT = 8
 # The families by number: section 0 of the superblock, the root, and the sections behind the first one.
 LETTERS = "srabcdefghijklmn"
 
@@ -27,7 +29,8 @@ class Rules(NamedTuple):
     fills: bool
     # A run's entry takes its identifier, its count and its places, each with the mark of its frame; else all have the same size.
     marks: bool
-    # A chunk begins with its head: whose it is, its number, of how many, and the number of the command that put it.
+    # A chunk ends with its head: whose it is, its number, of how many, the number of the command that put it, and the front of
+    # the store's identity. A run begins with that front.
     heads: bool
     # A section of the superblock records the version of the root that was persistent as it was staged.
     records: bool
@@ -38,7 +41,7 @@ class Rules(NamedTuple):
 RULES = {
     2: Rules(extents=range(4, 2049), pages=range(2, 257), sections=range(1, 9), most_runs=4,
              pages_first=True, by_size=False, apart=False, fills=False, marks=False, heads=False, records=False, twice=False),
-    3: Rules(extents=range(5, 7681), pages=range(2, 65536), sections=range(1, 16), most_runs=24,
+    4: Rules(extents=range(5, 7681), pages=range(2, 65536), sections=range(1, 16), most_runs=24,
              pages_first=False, by_size=True, apart=True, fills=True, marks=True, heads=True, records=True, twice=True),
 }
 
@@ -61,20 +64,20 @@ HISTORY_FULL = (41, "HistoryFull")
 
 
 def frame_pages(payload):
-    """How many pages a frame has whose payload has so many bytes: a header stands ahead of it."""
+    """How many pages a frame has whose payload has so many bytes: a header stands before it."""
     return -(-(HEADER + payload) // PAGE)
 
 
 def head_of(rules, name, number, count, command):
-    """What a chunk begins with."""
+    """What a chunk ends with, in a store whose identity is zeros."""
     if not rules.heads:
         return b""
-    return bytes.fromhex(name.replace("-", "")) + bytes([number, count]) + command.to_bytes(8, "big")
+    return bytes.fromhex(name.replace("-", "")) + bytes([number, count]) + command.to_bytes(8, "big") + bytes(FRONT)
 
 
 def head_bytes(rules):
     """How many bytes a chunk's head takes."""
-    return 16 + 1 + 1 + 8 if rules.heads else 0
+    return 16 + 1 + 1 + 8 + FRONT if rules.heads else 0
 
 
 def chunk_bytes(rules, pages):
@@ -87,9 +90,14 @@ def entry_bytes(rules, chunks):
     return 17 + 16 * chunks if rules.marks else 17 + 8 * MOST_CHUNKS
 
 
+def run_head(rules):
+    """How many bytes of a run stand before its entries: their count, and the front of the identity."""
+    return 4 + (FRONT if rules.heads else 0)
+
+
 def run_bytes(rules, entries):
     """How many bytes the payload of the run has whose entries these are, of each identifier its places."""
-    return 4 + sum(entry_bytes(rules, len(places)) for places in entries.values())
+    return run_head(rules) + sum(entry_bytes(rules, len(places)) for places in entries.values())
 
 
 def run_pages(rules, entries):
@@ -104,5 +112,5 @@ def weigh(rules, chunks):
 
 def most_weight(rules, pages):
     """What all entries may count together, each identifier's newest: so that one run of them fits in one extent."""
-    room = PAGE * pages - HEADER - 4
+    room = PAGE * pages - HEADER - run_head(rules)
     return room if rules.marks else room // entry_bytes(rules, 0)

@@ -261,7 +261,7 @@ class Store(Places):
         if self.is_heavy(name, len(pieces)):
             raise Refused(*INDEX_FULL)
         command = self.base + self.accepted + 1
-        chunks = [head_of(self.rules, name, number, len(pieces), command) + piece for number, piece in enumerate(pieces)]
+        chunks = [piece + head_of(self.rules, name, number, len(pieces), command) for number, piece in enumerate(pieces)]
         if self.room(PUT, [frame_pages(len(chunk)) for chunk in chunks]) is None:
             raise Refused(*FULL)
         self.table[name] = [self.append(len(chunk), ("chunk", chunk), PUT) for chunk in chunks]
@@ -270,7 +270,11 @@ class Store(Places):
 
     def get(self, name):
         found = self.lookup(name)
-        return None if not found else b"".join(self.read_chunk(locator)[head_bytes(self.rules):] for locator in found)
+        return None if not found else b"".join(self.piece_of(self.read_chunk(locator)) for locator in found)
+
+    def piece_of(self, chunk):
+        """A chunk without its head."""
+        return chunk[:len(chunk) - head_bytes(self.rules)]
 
     def read_chunk(self, locator):
         """A chunk with its head."""

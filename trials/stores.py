@@ -12,7 +12,7 @@ from files import identifier
 TOP = pathlib.Path(__file__).resolve().parent.parent
 PAGE = 4096
 NOBODY = 65534
-FORMATS = (2, 3)
+FORMATS = (2, 4)
 # The statuses of all commands but run, race, check.
 DONE, REFUSED, COMMAND_LINE, NO_STORE, STREAM, DAMAGED, IN_USE, NOT_THERE = range(8)
 # Each extents of so many pages.
@@ -79,7 +79,7 @@ class Trial:
     def make(self, path, form, puts=(), extents=EXTENTS, pages=PAGES, sections=1, syncs=3):
         """Makes a store with these shards, (number, bytes), with a sync after every so many and at the end."""
         geometry = ["--extents", extents, "--pages", pages, "--sections", sections]
-        if form == 3:
+        if form == 4:
             made = self.run("create", path, *geometry)
         else:
             made = self.run("run", "--file", path, "--new", "--format", form, *geometry)

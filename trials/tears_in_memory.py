@@ -1,6 +1,6 @@
 """Chains of torn crashes of a store in memory, by `trial_programs tears`, which says in its head what its lines are. `trials/tears --memory` runs them.
 
-A chain makes a store of format 3, puts, deletes and sweeps, and writes back until the power fails: between any two writes, also of the making and of an opening.
+A chain makes a store, puts, deletes and sweeps, and writes back until the power fails: between any two writes, also of the making and of an opening.
 Each page that was being written is lost, kept or torn: from one byte up to another, or by sectors, each of them old, new or noise. Where a page is written that an earlier
 crash of the chain tore it is mostly torn again, at times by what the earlier crash lost of it. Then the store is opened for writing, which fences what it passes over."""
 import os
@@ -61,7 +61,7 @@ class Store:
 
     def make(self, calls=None):
         """Makes the store; with `calls` the power may fail meanwhile."""
-        answer = self.program.say("new 3 %d %d %d" % self.shape + ("" if calls is None else f" {calls}"))
+        answer = self.program.say("new 4 %d %d %d" % self.shape + ("" if calls is None else f" {calls}"))
         self.is_dark = self.may_be_none = answer == "refused 1 DeviceFault" and calls is not None
         if answer != "made" and not self.is_dark:
             raise Wrong(f"no store is made: {answer}")

@@ -6,19 +6,23 @@ use Rattle.std.proofs.lemmas.Grind.{div_ceil_times}
 use Rattle.std.proofs.lemmas.List.{take-append-drop, length-take, length-take-le, length-drop, take_all, nil_from_length}
 use Rattle.cs_chunk.specs.declared.cuts.Cut.{Cut}
 use Rattle.cs_chunk.specs.Cuts.{IsCut, pages_of, pieces}
+use Rattle.cs_frame.specs.declared.formats.FormatNumber.{FormatNumber}
+use Rattle.cs_frame.specs.FormatNumbers.{number_in}
 use Rattle.cs_frame.specs.Formats.{formats_of}
 use Rattle.cs_frame.specs.Frames.{frame_bytes, page_count, spelled_frame}
-use Rattle.cs_frame.proofs.HeadLaws.{length-head}
+use Rattle.cs_frame.specs.Geometries.{FitsFormat}
+use Rattle.cs_frame.proofs.HeadLaws.{length-chunk}
 use Rattle.cs_frame.proofs.Pieces.{length-first_chunks}
 use Rattle.law_machine.specs.Append.{chunk_frames, page_counts}
 use Rattle.law_machine.specs.Device.{Shape}
-use Rattle.law_machine.specs.Events.{AllFullButLast, ArePayloads, Chunked, with_heads}
+use Rattle.law_machine.specs.Events.{AllFullButLast, ArePayloads, Chunked, headed}
+use Rattle.law_machine.specs.Format.{Format, Four, Two}
 use Rattle.law_machine.specs.Geometry.{chunk_bytes_in, head_bytes_in}
 use Rattle.law_machine.specs.Index.{joined}
 use Rattle.law_machine.proofs.Payloads.{payloads_one}
 
-pub length-spelled : (kind : ℕ) (payload : List ℕ) → length (spelled_frame kind payload) ≡ page_count (length payload)
-length-spelled kind payload = length-first_chunks 4096 (page_count (length payload)) (frame_bytes kind payload)
+pub length-spelled : (number : FormatNumber) (kind : ℕ) (payload : List ℕ) → length (spelled_frame number kind payload) ≡ page_count (length payload)
+length-spelled number kind payload = length-first_chunks 4096 (page_count (length payload)) (frame_bytes number kind payload)
 
 joined_pieces : (size count : ℕ) (bytes : List ℕ) → length bytes ≤ count * size → joined (pieces size count bytes) ≡ bytes
 joined_pieces size zero bytes enough = let none : length bytes ≡ 0 = omega arith in sym (nil_from_length bytes none)
@@ -56,39 +60,39 @@ full_pieces size (suc (suc count)) bytes some enough few =
         inr (inl (subst (λ n. n * size < length (drop size bytes)) same left))
 
 -- the frames of chunks
-pub frames_are : (S : Shape) (cs : List (List ℕ)) → chunk_frames S (formats_of S) cs ≡ map (spelled_frame 0) cs
+pub frames_are : (S : Shape) (cs : List (List ℕ)) → chunk_frames S (formats_of S) cs ≡ map (spelled_frame (number_in S.format) 0) cs
 frames_are S [] = refl
-frames_are S (c ∷ cs) = ap (λ fs. spelled_frame 0 c ∷ fs) (frames_are S cs)
+frames_are S (c ∷ cs) = ap (λ fs. spelled_frame (number_in S.format) 0 c ∷ fs) (frames_are S cs)
 
 pub length-pieces : (size count : ℕ) (bytes : List ℕ) → length (pieces size count bytes) ≡ count
 length-pieces size zero bytes = refl
 length-pieces size (suc count) bytes = ap suc (length-pieces size count (drop size bytes))
 
--- the pages of the frame of a piece behind its head
-pub pages_of_piece : (S : Shape) (id number total command : ℕ) (piece : List ℕ)
-    → length (spelled_frame 0 ((formats_of S).head id number total command ++ piece)) ≡ page_count (head_bytes_in S.format + length piece)
-pages_of_piece S id number total command piece =
-    length-spelled 0 ((formats_of S).head id number total command ++ piece)
-    ∙ ap page_count (length-append ((formats_of S).head id number total command) piece
-    ∙ ap (λ n. n + length piece) (length-head S.format id number total command))
+-- the pages of the frame of a piece and its head
+pub pages_of_piece : (S : Shape) → FitsFormat S.format → (id number total command : ℕ) (piece : List ℕ)
+    → length (spelled_frame (number_in S.format) 0 ((formats_of S).chunk id number total command piece)) ≡ page_count (head_bytes_in S.format + length piece)
+pages_of_piece S fits id number total command piece =
+    let size : length ((formats_of S).chunk id number total command piece) ≡ head_bytes_in S.format + length piece =
+    omega (arith, length-chunk S.format id number total command piece fits) in
+    length-spelled (number_in S.format) 0 ((formats_of S).chunk id number total command piece) ∙ ap page_count size
 
-counts_are : (S : Shape) (id total command size pages : ℕ) → page_count (head_bytes_in S.format + size) ≡ pages → (count number : ℕ) (bytes : List ℕ) → length bytes ≤ suc count * size → count * size ≤ length bytes
-    → page_counts (map (spelled_frame 0) (with_heads (formats_of S) id number total command (pieces size (suc count) bytes)))
+counts_are : (S : Shape) → FitsFormat S.format → (id total command size pages : ℕ) → page_count (head_bytes_in S.format + size) ≡ pages → (count number : ℕ) (bytes : List ℕ) → length bytes ≤ suc count * size → count * size ≤ length bytes
+    → page_counts (map (spelled_frame (number_in S.format) 0) (headed (formats_of S) id number total command (pieces size (suc count) bytes)))
     ≡ replicate count pages ++ page_count (head_bytes_in S.format + (length bytes - count * size)) ∷ []
-counts_are S id total command size pages full zero number bytes enough least =
+counts_are S fits id total command size pages full zero number bytes enough least =
     let small : length bytes ≤ size = omega arith in
     let same : length bytes ≡ length bytes - 0 * size = omega arith in
-    ap (λ n. n ∷ []) (pages_of_piece S id number total command (take size bytes)
+    ap (λ n. n ∷ []) (pages_of_piece S fits id number total command (take size bytes)
     ∙ ap (λ (xs : List ℕ). page_count (head_bytes_in S.format + length xs)) (take_all size bytes small)
     ∙ ap (λ n. page_count (head_bytes_in S.format + n)) same)
-counts_are S id total command size pages full (suc count) number bytes enough least =
+counts_are S fits id total command size pages full (suc count) number bytes enough least =
     let more : suc (suc count) * size ≡ size + suc count * size = omega arith in
     let next : suc count * size ≡ size + count * size = omega arith in
     let front : length (take size bytes) ≡ size = length-take-le size bytes (omega (arith, next, least)) in
-    let rest = counts_are S id total command size pages full count (suc number) (drop size bytes) (omega (arith, length-drop size bytes, more, enough)) (omega (arith, length-drop size bytes, next, least)) in
+    let rest = counts_are S fits id total command size pages full count (suc number) (drop size bytes) (omega (arith, length-drop size bytes, more, enough)) (omega (arith, length-drop size bytes, next, least)) in
     let left : length (drop size bytes) - count * size ≡ length bytes - suc count * size = omega (arith, length-drop size bytes, next) in
-    ap (λ n. n ∷ page_counts (map (spelled_frame 0) (with_heads (formats_of S) id (suc number) total command (pieces size (suc count) (drop size bytes)))))
-    (pages_of_piece S id number total command (take size bytes) ∙ ap (λ n. page_count (head_bytes_in S.format + n)) front ∙ full)
+    ap (λ n. n ∷ page_counts (map (spelled_frame (number_in S.format) 0) (headed (formats_of S) id (suc number) total command (pieces size (suc count) (drop size bytes)))))
+    (pages_of_piece S fits id number total command (take size bytes) ∙ ap (λ n. page_count (head_bytes_in S.format + n)) front ∙ full)
     ∙ ap (λ ns. pages ∷ ns) rest ∙ ap (λ n. pages ∷ (replicate count pages ++ page_count (head_bytes_in S.format + n) ∷ [])) left
 
 -- a full piece and its head take an extent
@@ -107,19 +111,20 @@ left_over length size count rounded some is most =
     omega (arith, whole, times, parts, next)
 
 -- so its frame fits on an extent, with its head
-fits_by : (b : Bool) (left size pages : ℕ) → 2 ≤ pages → size ≡ 4096 * pages - (41 + (if b then 26 else 0)) → left ≤ size → page_count ((if b then 26 else 0) + left) ≤ pages
-fits_by true left size pages some is low = omega (arith, some, is, low)
-fits_by false left size pages some is low = omega (arith, some, is, low)
+fits_by : (format : Format) (left size pages : ℕ) → 2 ≤ pages → size ≡ chunk_bytes_in format pages → left ≤ size → page_count (head_bytes_in format + left) ≤ pages
+fits_by Two left size pages some is low = omega (arith, some, is, low)
+fits_by (Four store device) left size pages some is low = omega (arith, some, is, low)
 
-size_some : (b : Bool) (size pages : ℕ) → 2 ≤ pages → size ≡ 4096 * pages - (41 + (if b then 26 else 0)) → 0 < size
-size_some true size pages some is = omega (arith, some, is)
-size_some false size pages some is = omega (arith, some, is)
+-- a piece has a byte at least
+pub size_some : (format : Format) (size pages : ℕ) → 2 ≤ pages → size ≡ chunk_bytes_in format pages → 0 < size
+size_some Two size pages some is = omega (arith, some, is)
+size_some (Four store device) size pages some is = omega (arith, some, is)
 
-pub last_fits : (b : Bool) (length size count rounded pages head last : ℕ) → 2 ≤ pages → size ≡ 4096 * pages - (41 + (if b then 26 else 0)) → head ≡ (if b then 26 else 0)
+pub last_fits : (format : Format) (length size count rounded pages head last : ℕ) → 2 ≤ pages → size ≡ chunk_bytes_in format pages → head ≡ head_bytes_in format
     → rounded ≡ div_ceil length size → count ≡ max rounded 1 → last ≡ page_count (head + (length - (count - 1) * size)) → last ≤ pages
-last_fits b length size count rounded pages head last some is of rounds most pages_are =
+last_fits format length size count rounded pages head last some is of rounds most pages_are =
     le_trans (le_of_eq (pages_are ∙ ap (λ n. page_count (n + (length - (count - 1) * size))) of))
-    (fits_by b (length - (count - 1) * size) size pages some is (left_over length size count rounded (size_some b size pages some is) rounds most))
+    (fits_by format (length - (count - 1) * size) size pages some is (left_over length size count rounded (size_some format size pages some is) rounds most))
 
 module _ (S : Shape) (bytes : List ℕ) (cut : Cut) (is : IsCut S (length bytes) cut) (some_byte : 0 < cut.size) (size_is : S.chunk_bytes ≡ chunk_bytes_in S.format S.pages) where
   cut_chunked : Chunked S.chunk_bytes bytes (pieces cut.size cut.count bytes)
@@ -136,26 +141,26 @@ module _ (S : Shape) (bytes : List ℕ) (cut : Cut) (is : IsCut S (length bytes)
       turned : (cut.count ≡ 1) ⊎ ((cut.count - 1) * cut.size < length bytes) → (cut.count ≡ 0) ⊎ ((cut.count - 1) * cut.size < length bytes) ⊎ (cut.count ≡ 1)
       turned h = ⊎_elim (λ (o : cut.count ≡ 1). inr (inr o)) (λ (l : (cut.count - 1) * cut.size < length bytes). inr (inl l)) h
 
-  -- the pieces behind their heads are the payloads of a put, and there are no others
-  pub cut_payloads : (id command : ℕ) → ArePayloads S (formats_of S) id command bytes (with_heads (formats_of S) id 0 cut.count command (pieces cut.size cut.count bytes))
+  -- the pieces with their heads are the payloads of a put, and there are no others
+  pub cut_payloads : (id command : ℕ) → ArePayloads S (formats_of S) id command bytes (headed (formats_of S) id 0 cut.count command (pieces cut.size cut.count bytes))
   cut_payloads id command = (
     pieces cut.size cut.count bytes,
     cut_chunked,
-    ap (λ n. with_heads (formats_of S) id 0 n command (pieces cut.size cut.count bytes)) (sym (length-pieces cut.size cut.count bytes)),
+    ap (λ n. headed (formats_of S) id 0 n command (pieces cut.size cut.count bytes)) (sym (length-pieces cut.size cut.count bytes)),
   )
 
-  pub cut_only : (id command : ℕ) (cs : List (List ℕ)) → ArePayloads S (formats_of S) id command bytes cs → cs ≡ with_heads (formats_of S) id 0 cut.count command (pieces cut.size cut.count bytes)
+  pub cut_only : (id command : ℕ) (cs : List (List ℕ)) → ArePayloads S (formats_of S) id command bytes cs → cs ≡ headed (formats_of S) id 0 cut.count command (pieces cut.size cut.count bytes)
   cut_only id command cs are =
-      payloads_one S (formats_of S) id command bytes cs (with_heads (formats_of S) id 0 cut.count command (pieces cut.size cut.count bytes)) are (cut_payloads id command)
+      payloads_one S (formats_of S) id command bytes cs (headed (formats_of S) id 0 cut.count command (pieces cut.size cut.count bytes)) are (cut_payloads id command)
 
-  pub cut_pages : (id command : ℕ) → page_counts (chunk_frames S (formats_of S) (with_heads (formats_of S) id 0 cut.count command (pieces cut.size cut.count bytes))) ≡ pages_of cut
-  cut_pages id command =
+  pub cut_pages : FitsFormat S.format → (id command : ℕ) → page_counts (chunk_frames S (formats_of S) (headed (formats_of S) id 0 cut.count command (pieces cut.size cut.count bytes))) ≡ pages_of cut
+  cut_pages fits id command =
       let same : cut.count ≡ suc (cut.count - 1) = omega (arith, is.some) in
       let full : page_count (head_bytes_in S.format + cut.size) ≡ S.pages = full_pages (head_bytes_in S.format) cut.size S.pages (is.size ∙ size_is) some_byte in
       let enough : length bytes ≤ suc (cut.count - 1) * cut.size = subst (λ k. length bytes ≤ k * cut.size) same is.enough in
-      ap page_counts (frames_are S (with_heads (formats_of S) id 0 cut.count command (pieces cut.size cut.count bytes)))
-      ∙ ap (λ k. page_counts (map (spelled_frame 0) (with_heads (formats_of S) id 0 cut.count command (pieces cut.size k bytes)))) same
-      ∙ counts_are S id cut.count command cut.size cut.pages (full ∙ sym is.pages) (cut.count - 1) 0 bytes enough (least_of is.few)
+      ap page_counts (frames_are S (headed (formats_of S) id 0 cut.count command (pieces cut.size cut.count bytes)))
+      ∙ ap (λ k. page_counts (map (spelled_frame (number_in S.format) 0) (headed (formats_of S) id 0 cut.count command (pieces cut.size k bytes)))) same
+      ∙ counts_are S fits id cut.count command cut.size cut.pages (full ∙ sym is.pages) (cut.count - 1) 0 bytes enough (least_of is.few)
       ∙ ap (λ k. replicate (cut.count - 1) cut.pages ++ k ∷ []) (sym is.last)
     where
       least_of : (cut.count ≡ 1) ⊎ ((cut.count - 1) * cut.size < length bytes) → (cut.count - 1) * cut.size ≤ length bytes

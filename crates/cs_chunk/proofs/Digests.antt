@@ -3,6 +3,7 @@ use Rattle.std.proofs.Common.{◌≡◌, ◌≢◌, ◌∙◌, ◌⊎◌, ℕ, B
 use Rattle.std.proofs.lemmas.Slice.Eq.{bytes_eq-Decides}
 use Rattle.cs_chunk.specs.Chunks.{AgreeInDigests, AreMeant, IsMeant, TwoAgree}
 use Rattle.cs_extent.specs.State.{State, shape}
+use Rattle.cs_frame.specs.FormatNumbers.{number_in}
 use Rattle.cs_frame.specs.Frames.{payload_mark, spelled_frame}
 use Rattle.cs_frame.specs.declared.locators.Locator.{Locator}
 use Rattle.cs_frame.proofs.MarkLaws.{mark_of_frame, mark_of_pages, one_front}
@@ -13,9 +14,9 @@ use Rattle.law_machine.specs.Geometry.{marks_in}
 -- a place whose frame has this payload has its mark
 mark_is : (x : State) (l : Locator) (c : List ℕ) → marks_in x.format ≡ true → IsMeant (shape x) ChunkFrame l c → payload_mark c ≡ l.mark
 mark_is x l c on meant =
-    sym (mark_of_frame x.format 0 c on)
-    ∙ sym (mark_of_pages (shape x) x.format refl (spelled_frame 0 c))
-    ∙ eqb-true (mark_of (shape x) (spelled_frame 0 c)) l.mark meant
+    sym (mark_of_frame x.format (number_in x.format) 0 c on)
+    ∙ sym (mark_of_pages (shape x) x.format refl (spelled_frame (number_in x.format) 0 c))
+    ∙ eqb-true (mark_of (shape x) (spelled_frame (number_in x.format) 0 c)) l.mark meant
 
 pub agree : (x : State) (ls : List Locator) (cs ds : List (List ℕ)) → marks_in x.format ≡ true → AreMeant (shape x) ls cs → AreMeant (shape x) ls ds → AgreeInDigests cs ds
 agree x [] [] [] on a b = tt

@@ -1,7 +1,7 @@
 -- What first pages of frames tell.
 use Rattle.std.proofs.Common.{◌≡◌, ◌∙◌, ℕ, zero, suc, ◌+◌, ◌-◌, ◌^◌, ◌<◌, ◌≤◌, ◌⊎◌, Bool, true, false, List, [], ◌∷◌, ◌++◌, codes, length, length-append, take, drop, get_or, slice_get, slice_index, Option, Some, None, Result, Ok, Err, MatchResult, IfOk, refl, sym, ap, ap₂, subst, inl, inr, ⊎_elim, arith, bytes_eq, nat_le, ◌==◌, take_all}
 use Rattle.std.specs.Simd.{first_chunks}
-use Rattle.std.proofs.lemmas.List.{length-drop, take_more}
+use Rattle.std.proofs.lemmas.List.{length-take-le, take_more}
 use Rattle.std.proofs.lemmas.List.Sums.{sum_by-append, sum_by-cons}
 use Rattle.std.proofs.lemmas.Option.{same_Some}
 use Rattle.cs_chunk.specs.Chunks.{AreChunksIn, IsFrameIn, end_in, kind_of}
@@ -27,11 +27,16 @@ use Rattle.cs_frame.specs.declared.locators.Locator.{Locator}
 use Rattle.cs_frame.specs.Bytes.{field}
 use Rattle.cs_frame.specs.Faults.{first_fault, unless}
 use Rattle.cs_frame.specs.Formats.{formats_of, kind_number}
-use Rattle.cs_frame.specs.Frames.{first_page, frame_bytes, frame_fault, header_fault, kind_byte, kind_test, meant_header_fault, page_count, payload_length, room_test, spelled_frame}
-use Rattle.cs_frame.specs.Pages.{version_test}
+use Rattle.cs_frame.specs.declared.formats.FormatNumber.{FormatNumber}
+use Rattle.cs_frame.specs.FormatNumbers.{number_in, page_digit}
+use Rattle.cs_frame.specs.Frames.{first_page, frame_bytes, frame_fault, header_fault, kind_byte, kind_test, page_count, payload_length, room_test, spelled_frame}
+use Rattle.cs_frame.specs.Heads.{body_in, is_long_in}
+use Rattle.cs_frame.specs.MeantFrames.{meant_header_fault}
+use Rattle.cs_frame.specs.Pages.{digit_test}
 use Rattle.cs_frame.proofs.Fields.{number_at}
-use Rattle.cs_frame.proofs.MarkLaws.{meant_finds, meant_passes, passes_meant}
+use Rattle.cs_frame.proofs.MarkLaws.{header_finds, meant_passes, passes_header}
 use Rattle.cs_frame.proofs.GeometryLaws.{bounds}
+use Rattle.law_machine.specs.Format.{Format, Four, Two}
 use Rattle.law_machine.specs.Formats.{Formats}
 use Rattle.law_machine.specs.Geometry.{head_bytes_in, mark_in}
 use Rattle.law_machine.specs.Index.{joined_bodies}
@@ -46,19 +51,19 @@ more P false g tests here rest f h = subst P (same_Some g f h) here
 abbrev Refuses : FormatFault → Type 0
 Refuses f = IsHeaderRefusal (refusal_for f)
 
-header_refuses : (kind : ℕ) (first : List ℕ) (there : ℕ) (f : FormatFault) → header_fault kind first there ≡ Some f → Refuses f
-header_refuses kind first there =
-    more Refuses (bytes_eq (field 0 3 first) (codes "CSF")) BadMagic (version_test first ∷ kind_test kind first ∷ room_test first there ∷ []) (inr (inl refl))
-    (more Refuses (slice_index first 3 == 49) BadVersion (kind_test kind first ∷ room_test first there ∷ []) (inr (inr (inl refl)))
+header_refuses : (number : FormatNumber) (kind : ℕ) (first : List ℕ) (there : ℕ) (f : FormatFault) → header_fault number kind first there ≡ Some f → Refuses f
+header_refuses number kind first there =
+    more Refuses (bytes_eq (field 0 3 first) (codes "CSF")) BadMagic (digit_test (page_digit number) first ∷ kind_test kind first ∷ room_test first there ∷ []) (inr (inl refl))
+    (more Refuses (slice_index first 3 == page_digit number) BadVersion (kind_test kind first ∷ room_test first there ∷ []) (inr (inr (inl refl)))
     (more Refuses (slice_index first 4 == kind) BadVersion (room_test first there ∷ []) (inr (inr (inl refl)))
     (more Refuses (nat_le (page_count (payload_length first)) there) BadLength [] (inr (inr (inr (inl refl))))
     (λ f h. absurd (cc h)))))
 
-pub header_is_refused : (format kind mark : ℕ) (first : List ℕ) (there : ℕ) (f : FormatFault) (r : Refusal) → r ≡ refusal_for f → Some f ≡ meant_header_fault format kind mark first there → IsHeaderRefusal r
+pub header_is_refused : (format : Format) (kind mark : ℕ) (first : List ℕ) (there : ℕ) (f : FormatFault) (r : Refusal) → r ≡ refusal_for f → Some f ≡ meant_header_fault format kind mark first there → IsHeaderRefusal r
 header_is_refused format kind mark first there f r is found = subst IsHeaderRefusal (sym is) (⊎_elim
-    (λ (own : header_fault kind first there ≡ Some f). header_refuses kind first there f own)
-    (λ (other : (header_fault kind first there ≡ None) × (f ≡ fault.Misplaced)). subst Refuses (sym other.1) (inr (inr (inr (inr refl)))))
-    (meant_finds (header_fault kind first there) (mark_in format first == mark) f (sym found)))
+    (λ (own : header_fault (number_in format) kind first there ≡ Some f). header_refuses (number_in format) kind first there f own)
+    (λ (other : (header_fault (number_in format) kind first there ≡ None) × (f ≡ fault.Misplaced)). subst Refuses (sym other.1) (inr (inr (inr (inr refl)))))
+    (header_finds (header_fault (number_in format) kind first there) (mark_in format first == mark) f (sym found)))
 
 -- none of them is the device's
 not_device : (f : FormatFault) → refusal_for f ≡ DeviceFault → ⊥
@@ -82,11 +87,16 @@ front_of_chunks zero bytes some = absurd (omega (arith, some))
 front_of_chunks (suc n) bytes some = refl
 
 -- it tells the payload's length
-length_spelled : (kind : ℕ) (payload : List ℕ) → length payload < 2 ^ 32 → payload_length (first_page (spelled_frame kind payload)) ≡ length payload
-length_spelled kind payload small =
-    let front : List ℕ = take 4096 (frame_bytes kind payload) in
-    ap payload_length (front_of_chunks (page_count (length payload)) (frame_bytes kind payload) (omega arith))
+length_spelled : (number : FormatNumber) (kind : ℕ) (payload : List ℕ) → length payload < 2 ^ 32 → payload_length (first_page (spelled_frame number kind payload)) ≡ length payload
+length_spelled number kind payload small =
+    let front : List ℕ = take 4096 (frame_bytes number kind payload) in
+    ap payload_length (front_of_chunks (page_count (length payload)) (frame_bytes number kind payload) (omega arith))
     ∙ number_at front (drop 9 front) 5 9 4 (length payload) refl refl refl small
+
+-- all of a payload but its head
+length-body : (format : Format) (payload : List ℕ) → length (body_in format payload) ≡ length payload - head_bytes_in format
+length-body Two payload = omega arith
+length-body (Four store device) payload = length-take-le (length payload - 34) payload (omega arith)
 
 add_zero : (a : ℕ) → a + 0 ≡ a
 add_zero a = omega arith
@@ -101,15 +111,15 @@ AreTold x view ls k total = AreHeadersIn x view (take k ls) × (total ≡ length
 -- where a frame has no fault its header has none
 none_of_header : (x : State) → IsWhole x → (view : ℕ → List ℕ) (kind : FrameKind) (l : Locator) → l.page < x.pages → fault_in x view kind l ≡ None → header_fault_in x view kind l ≡ None
 none_of_header x whole view kind l inside none =
-    let passes = meant_passes (frame_fault (kind_byte kind) (pages_in x view l)) (mark_in (shape x).format (first_page (pages_in x view l))) l.mark none in
-    passes_meant (header_fault (kind_byte kind) first (end_in x l - l.page)) (mark_in (shape x).format first) l.mark
-    (go (header_fault (kind_byte kind) first (end_in x l - l.page)) refl)
+    let passes = meant_passes (frame_fault (number_in (shape x).format) (kind_byte kind) (pages_in x view l)) (mark_in (shape x).format (first_page (pages_in x view l))) l.mark (is_long_in (shape x).format (first_page (pages_in x view l))) none in
+    passes_header (header_fault (number_in (shape x).format) (kind_byte kind) first (end_in x l - l.page)) (mark_in (shape x).format first) l.mark
+    (go (header_fault (number_in (shape x).format) (kind_byte kind) first (end_in x l - l.page)) refl)
     (ap (mark_in (shape x).format) (sym (first_is x whole view kind l inside)) ∙ passes.1)
   where
     first : List ℕ
     first = view ((shape x).address l.extent l.page)
 
-    go : (found : Option FormatFault) → header_fault (kind_byte kind) first (end_in x l - l.page) ≡ found → found ≡ None
+    go : (found : Option FormatFault) → header_fault (number_in (shape x).format) (kind_byte kind) first (end_in x l - l.page) ≡ found → found ≡ None
     go None is = refl
     go (Some f) is = let some = header_at x whole view kind l inside f is in absurd (cc (none, some))
 
@@ -119,18 +129,18 @@ pub mark_or_fault : (x : State) → IsWhole x → (view : ℕ → List ℕ) (kin
 mark_or_fault x whole view kind l inside f r found is =
     let first : List ℕ = view ((shape x).address l.extent l.page) in
     ⊎_elim
-    (λ (own : header_fault (kind_byte kind) first (end_in x l - l.page) ≡ Some f). inl (f, header_at x whole view kind l inside f own, is))
-    (λ (other : (header_fault (kind_byte kind) first (end_in x l - l.page) ≡ None) × (f ≡ fault.Misplaced)). inr (is ∙ ap refusal_for other.1, λ none. let no = none_of_header x whole view kind l inside none in cc (no, found)))
-    (meant_finds (header_fault (kind_byte kind) first (end_in x l - l.page)) (mark_in (shape x).format first == l.mark) f found)
+    (λ (own : header_fault (number_in (shape x).format) (kind_byte kind) first (end_in x l - l.page) ≡ Some f). inl (f, header_at x whole view kind l inside f own, is))
+    (λ (other : (header_fault (number_in (shape x).format) (kind_byte kind) first (end_in x l - l.page) ≡ None) × (f ≡ fault.Misplaced)). inr (is ∙ ap refusal_for other.1, λ none. let no = none_of_header x whole view kind l inside none in cc (no, found)))
+    (header_finds (header_fault (number_in (shape x).format) (kind_byte kind) first (end_in x l - l.page)) (mark_in (shape x).format first == l.mark) f found)
 
 module _ (x : State) (whole : IsWhole x) (view : ℕ → List ℕ) where
   module _ (kind : FrameKind) (l : Locator) where
     module _ (payload : List ℕ) (at : IsFrameIn x view (kind_of kind) l payload) where
       abbrev pages : List (List ℕ)
-      pages = spelled_frame (kind_number (kind_of kind)) payload
+      pages = spelled_frame (number_in (shape x).format) (kind_number (kind_of kind)) payload
 
       size : length pages ≡ page_count (length payload)
-      size = length-spelled (kind_number (kind_of kind)) payload
+      size = length-spelled (number_in (shape x).format) (kind_number (kind_of kind)) payload
 
       low : end_in x l ≤ x.pages
       low = end_low x whole l
@@ -142,7 +152,7 @@ module _ (x : State) (whole : IsWhole x) (view : ℕ → List ℕ) where
           let small : length payload < 2 ^ 32 = omega (arith, at.0, low, size, (bounds _ _ _ _ whole.geometry).most_pages) in
           ap (λ q. payload_length (view ((shape x).address l.extent q))) first
           ∙ ap payload_length (of_stand (shape x) (formats_of (shape x)) view l.extent l.page pages at.1 0 (omega (arith, size)))
-          ∙ length_spelled (kind_number (kind_of kind)) payload small
+          ∙ length_spelled (number_in (shape x).format) (kind_number (kind_of kind)) payload small
 
       -- and has no fault
       pub header_there : header_fault_in x view kind l ≡ None
@@ -165,11 +175,11 @@ module _ (x : State) (whole : IsWhole x) (view : ℕ → List ℕ) where
       pub told_there : (n : ℕ) → n ≡ payload_length first → n ≡ length_at (shape x) view l
       told_there n told = told ∙ ap payload_length first_there
 
-      pub fault_there : (format there : ℕ) → format ≡ (shape x).format → there ≡ end_in x l - l.page → header_fault_in x view kind l ≡ meant_header_fault format (kind_byte kind) l.mark first there
+      pub fault_there : (format : Format) (there : ℕ) → format ≡ (shape x).format → there ≡ end_in x l - l.page → header_fault_in x view kind l ≡ meant_header_fault format (kind_byte kind) l.mark first there
       fault_there format there is same =
           ap (λ b. meant_header_fault (shape x).format (kind_byte kind) l.mark b (end_in x l - l.page)) (sym first_there)
           ∙ ap (λ n. meant_header_fault (shape x).format (kind_byte kind) l.mark first n) (sym same)
-          ∙ ap (λ n. meant_header_fault n (kind_byte kind) l.mark first there) (sym is)
+          ∙ ap (λ (f : Format). meant_header_fault f (kind_byte kind) l.mark first there) (sym is)
 
   -- ---- of a shard
 
@@ -206,7 +216,7 @@ module _ (x : State) (whole : IsWhole x) (view : ℕ → List ℕ) where
   lengths_joined (l ∷ ls) (c ∷ cs) are =
       let F : Formats = formats_of (shape x) in
       let here : body_length_at (shape x) view l ≡ length (F.body c) =
-      ap (λ n. n - head_bytes_in (shape x).format) (length_there Chunk l c are.0) ∙ sym (length-drop (head_bytes_in (shape x).format) c) in
+      ap (λ n. n - head_bytes_in (shape x).format) (length_there Chunk l c are.0) ∙ sym (length-body (shape x).format c) in
       let rest : lengths_at (shape x) view ls ≡ length (joined_bodies F cs) = lengths_joined ls cs are.1 in
       sum_by-cons (body_length_at (shape x) view) l ls ∙ both _ _ _ _ here rest ∙ sym (length-append (F.body c) (joined_bodies F cs))
   lengths_joined [] (c ∷ cs) are = absurd are

@@ -8,6 +8,7 @@ use Rattle.cs_deps.specs.declared.elements.Element.TheVariants.{Plain}
 use Rattle.cs_deps.specs.State.{IsNewestOn, NoneOn, State, Write, write_of}
 use Rattle.cs_disk.specs.Disk.{Image, page}
 use Rattle.law_machine.specs.Device.{Shape}
+use Rattle.law_machine.specs.Format.{Two}
 use Rattle.law_machine.specs.Formats.{Formats, Stand}
 use Rattle.law_machine.specs.Geometry.{shape_of}
 
@@ -61,7 +62,7 @@ of_stand S F view e p (b ∷ bs) stand zero lt = let first : p + 0 ≡ p = omega
 of_stand S F view e p (b ∷ bs) stand (suc i) lt = let next : p + suc i ≡ suc p + i = omega arith in ap (λ q. view (S.address e q)) next ∙ of_stand S F view e (suc p) bs stand.1 i (omega (arith, lt))
 
 -- pages of two places are two pages
-pub one_place : (E P d i e j : ℕ) → i < P → j < P → (shape_of E P 1 E 1).address d i ≡ (shape_of E P 1 E 1).address e j → (d ≡ e) × (i ≡ j)
+pub one_place : (E P d i e j : ℕ) → i < P → j < P → (shape_of E P 1 E Two).address d i ≡ (shape_of E P 1 E Two).address e j → (d ≡ e) × (i ≡ j)
 one_place E P d i e j li lj same =
     let is : d * P + i ≡ e * P + j = omega (arith, same) in
     (sym (div-mul-add d P i li) ∙ ap (λ n. n / P) is ∙ div-mul-add e P j lj, sym (mod-mul-add d P i li) ∙ ap (λ n. n % P) is ∙ mod-mul-add e P j lj)

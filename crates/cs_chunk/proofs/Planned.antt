@@ -4,7 +4,7 @@ use Rattle.std.specs.Prelude.{◌↔◌, Result, Err}
 use Rattle.cs_chunk.specs.declared.cuts.Cut.{Cut}
 use Rattle.cs_chunk.specs.Cuts.{IsCut, pages_of, pieces}
 use Rattle.cs_chunk.specs.Puts.{ArePayloadsIn, IsPutFull, IsPutWorn, PutFits, frames_in}
-use Rattle.cs_chunk.proofs.Chunkings.{cut_only, cut_pages, cut_payloads}
+use Rattle.cs_chunk.proofs.Chunkings.{cut_only, cut_pages, cut_payloads, size_some}
 use Rattle.cs_refusal.specs.declared.refusals.Refusal.{Refusal}
 use Rattle.cs_deps.specs.Staging.{Staging}
 use Rattle.cs_extent.specs.Places.{FitIn}
@@ -12,14 +12,8 @@ use Rattle.cs_extent.specs.State.{IsWhole, State, shape}
 use Rattle.cs_extent.specs.Worn.{AreWorn}
 use Rattle.cs_frame.specs.Formats.{formats_of}
 use Rattle.law_machine.specs.Append.{page_counts}
-use Rattle.law_machine.specs.Events.{with_heads}
+use Rattle.law_machine.specs.Events.{headed}
 use Rattle.law_machine.specs.Extents.{ForPut}
-use Rattle.law_machine.specs.Geometry.{heads_in}
-
--- a piece has a byte at least
-pub some_of : (b : Bool) (size pages : ℕ) → 2 ≤ pages → size ≡ 4096 * pages - (41 + (if b then 26 else 0)) → 0 < size
-some_of true size pages some is = omega (arith, some, is)
-some_of false size pages some is = omega (arith, some, is)
 
 -- a refusal that is passed on is so where it was before
 pub passed_on : {T U : Type 0} {P : Type 0} (tested : Result T Refusal) (r q : Refusal) → tested ≡ Err r → (tested ≡ Err q) ↔ P → (◌≡◌ {A = Result U Refusal} (Err r) (Err q)) ↔ P
@@ -31,16 +25,16 @@ passed_on tested r q is h = (
 module _ (x : State) (id command : ℕ) (bytes : List ℕ) (whole : IsWhole x) (cut : Cut) (is : IsCut (shape x) (length bytes) cut) where
   -- the payloads that the cut makes
   abbrev pub payloads : List (List ℕ)
-  payloads = with_heads (formats_of (shape x)) id 0 cut.count command (pieces cut.size cut.count bytes)
+  payloads = headed (formats_of (shape x)) id 0 cut.count command (pieces cut.size cut.count bytes)
 
   some_byte : 0 < cut.size
-  some_byte = some_of (heads_in x.format) cut.size x.pages whole.geometry.fewest_pages is.size
+  some_byte = size_some x.format cut.size x.pages whole.geometry.fewest_pages is.size
 
   pub chunked : ArePayloadsIn x id command bytes payloads
   chunked = cut_payloads (shape x) bytes cut is some_byte refl id command
 
   pub pages : page_counts (frames_in x payloads) ≡ pages_of cut
-  pages = cut_pages (shape x) bytes cut is some_byte refl id command
+  pages = cut_pages (shape x) bytes cut is some_byte refl whole.geometry.fits_format id command
 
   pub one_cut : (cs : List (List ℕ)) → ArePayloadsIn x id command bytes cs → cs ≡ payloads
   one_cut = cut_only (shape x) bytes cut is some_byte refl id command

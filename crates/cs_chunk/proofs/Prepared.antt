@@ -16,14 +16,17 @@ use Rattle.cs_extent.specs.State.{IsWhole, State, extents_of, shape}
 use Rattle.cs_extent.specs.Worn.{AreWorn}
 use Rattle.cs_extent.proofs.Sections.{section_there}
 use Rattle.cs_frame.specs.declared.locators.Locator.{Locator}
+use Rattle.cs_frame.specs.FormatNumbers.{number_in}
 use Rattle.cs_frame.specs.Formats.{formats_of}
 use Rattle.cs_frame.specs.Frames.{spelled_frame}
+use Rattle.cs_frame.proofs.FormatLaws.{is_format}
 use Rattle.law_machine.specs.Append.{chunk_frames, page_counts}
 use Rattle.law_machine.specs.Device.{Shape}
-use Rattle.law_machine.specs.Events.{with_heads}
+use Rattle.law_machine.specs.Events.{headed}
 use Rattle.law_machine.specs.Extents.{ForPut, Purpose as Reason}
 use Rattle.law_machine.specs.Formats.{Formats}
-use Rattle.law_machine.proofs.Payloads.{length_heads}
+use Rattle.law_machine.specs.Frames.{AreLong}
+use Rattle.law_machine.proofs.Payloads.{length_heads, payloads_long}
 
 length-frames : (S : Shape) (cs : List (List ℕ)) → length (chunk_frames S (formats_of S) cs) ≡ length cs
 length-frames S [] = refl
@@ -41,17 +44,17 @@ each_page zero p last most some le same = ((some, omega (arith, le, same)), tt)
 each_page (suc m) p last most some le same = ((omega (arith, some, le), omega (arith, same)), each_page m p last most some le same)
 
 -- as many frames are made as there are pieces
-length-payloads : (F : Formats) (id total command size count : ℕ) (bytes : List ℕ) → length (with_heads F id 0 total command (pieces size count bytes)) ≡ count
+length-payloads : (F : Formats) (id total command size count : ℕ) (bytes : List ℕ) → length (headed F id 0 total command (pieces size count bytes)) ≡ count
 length-payloads F id total command size count bytes = length_heads F id 0 total command (pieces size count bytes) ∙ length-pieces size count bytes
 
 pub frames_made : {V X : Type 0} (items : V → X) (f : List ℕ → X) (vs : List V) (F : Formats) (id total command size count : ℕ) (bytes : List ℕ)
-    → map items vs ≡ map f (with_heads F id 0 total command (pieces size count bytes)) → length vs ≡ count
+    → map items vs ≡ map f (headed F id 0 total command (pieces size count bytes)) → length vs ≡ count
 frames_made items f vs F id total command size count bytes same =
-    sym (length-map vs items) ∙ ap length same ∙ length-map (with_heads F id 0 total command (pieces size count bytes)) f ∙ length-payloads F id total command size count bytes
+    sym (length-map vs items) ∙ ap length same ∙ length-map (headed F id 0 total command (pieces size count bytes)) f ∙ length-payloads F id total command size count bytes
 
-module _ (x : State) (g k : Graph) (id command : ℕ) (bytes : List ℕ) (whole : IsWhole x) (cut : Cut) (is : IsCut (shape x) (length bytes) cut) (same : k ≡ record g { room = k.room }) (fs : List (List (List ℕ))) (made : fs ≡ map (spelled_frame 0) (with_heads (formats_of (shape x)) id 0 cut.count command (pieces cut.size cut.count bytes))) where
+module _ (x : State) (g k : Graph) (id command : ℕ) (bytes : List ℕ) (whole : IsWhole x) (cut : Cut) (is : IsCut (shape x) (length bytes) cut) (same : k ≡ record g { room = k.room }) (fs : List (List (List ℕ))) (made : fs ≡ map (spelled_frame (number_in x.format) 0) (headed (formats_of (shape x)) id 0 cut.count command (pieces cut.size cut.count bytes))) where
   abbrev cs : List (List ℕ)
-  cs = with_heads (formats_of (shape x)) id 0 cut.count command (pieces cut.size cut.count bytes)
+  cs = headed (formats_of (shape x)) id 0 cut.count command (pieces cut.size cut.count bytes)
 
   count_is : length cs ≡ cut.count
   count_is = length-payloads (formats_of (shape x)) id cut.count command cut.size cut.count bytes
@@ -75,13 +78,18 @@ module _ (x : State) (g k : Graph) (id command : ℕ) (bytes : List ℕ) (whole 
   })
 
   module _ (ls : List Locator) (y : State) (h : Graph) (done : IsPutSoFar x k fs [] ls y h) where
+    -- each chunk is long enough for its head
+    are_long : AreLong (shape y) (formats_of (shape y)) cs
+    are_long = subst (λ (S : Shape). AreLong S (formats_of S) cs) (sym done.same_shape)
+        (payloads_long (shape x) (formats_of (shape x)) (is_format x.format (length x.written) x.pages x.sections whole.geometry) id command bytes cs (chunked x id command bytes whole cut is))
+
     pub put_chunked : (ds : List (List ℕ)) × ArePayloadsIn x id command bytes ds × ArePutIn x g ds ls y h
     put_chunked = (
       cs,
       chunked x id command bytes whole cut is,
       (
         appended_whatever (shape x).apart x g k ForPut _ ls y h same (subst (λ us. AreAppended x k ForPut us ls y h) frames done.appended),
-        λ image view are. put_reads y h image view ls cs done.may.pointers are
+        λ image view are. put_reads y h image view ls cs done.may.pointers are are_long
             (subst (λ (S : Shape). AreNewestFrames S (extents_of y) h ls (chunk_frames S (formats_of S) cs)) (sym done.same_shape)
             (subst (λ us. AreNewestFrames (shape x) (extents_of y) h ls us) frames done.newest)),
       ),

@@ -23,6 +23,7 @@ use Rattle.law_machine.specs.Append.{chunk_frames, page_counts}
 use Rattle.law_machine.specs.Device.{Shape}
 use Rattle.law_machine.specs.Extents.{Extents, FitsBy, ForPut, Goes, Purpose as Reason, reach, taken_by}
 use Rattle.law_machine.specs.Formats.{ChunkFrame}
+use Rattle.law_machine.specs.Frames.{AreLong}
 use Rattle.law_machine.proofs.Filled.{reach_end, reach_off}
 use Rattle.law_machine.proofs.Places.{goes_inside, goes_one}
 
@@ -159,20 +160,21 @@ end_behind S found page behind = go S.fills refl
 
 -- what was put reads back
 pub put_reads : (x : State) (g : Graph) (image : Image) (view : ℕ → List ℕ) (ls : List Locator) (cs : List (List ℕ)) → ((e : ℕ) → (extents_of x).pointer e ≤ x.pages) → AreNewest g image view
-    → AreNewestFrames (shape x) (extents_of x) g ls (chunk_frames (shape x) (formats_of (shape x)) cs) → AreChunksIn x view ls cs
-put_reads x g image view [] [] within are newest = tt
-put_reads x g image view (l ∷ ls) (c ∷ cs) within are newest =
+    → AreLong (shape x) (formats_of (shape x)) cs → AreNewestFrames (shape x) (extents_of x) g ls (chunk_frames (shape x) (formats_of (shape x)) cs) → AreChunksIn x view ls cs
+put_reads x g image view [] [] within are long newest = tt
+put_reads x g image view (l ∷ ls) (c ∷ cs) within are long newest =
     let S : Shape = shape x in
     let frame : List (List ℕ) = (formats_of (shape x)).frame ChunkFrame c in (
       (
         omega (arith, newest.0.given, within l.extent, end_behind (shape x) ((extents_of x).found l.extent) l.page newest.0.behind),
         stand_of S (formats_of S) view l.extent l.page frame (λ i lt. reads_newest g image view (S.address l.extent (l.page + i)) (get_or frame i []) are (newest.0.newest i lt)),
         newest.0.meant,
+        long c (inl refl) (omega (arith, newest.0.given, within l.extent)),
       ),
-      put_reads x g image view ls cs within are newest.1,
+      put_reads x g image view ls cs within are (λ d there. long d (inr there)) newest.1,
     )
-put_reads x g image view [] (c ∷ cs) within are newest = newest
-put_reads x g image view (l ∷ ls) [] within are newest = newest
+put_reads x g image view [] (c ∷ cs) within are long newest = newest
+put_reads x g image view (l ∷ ls) [] within are long newest = newest
 
 pub so_far_at : (x : State) (g : Graph) (done fs : List (List (List ℕ))) (f : List (List ℕ)) (left : List (List (List ℕ))) (ls : List Locator) (y : State) (h : Graph) → fs ≡ f ∷ left → IsPutSoFar x g done fs ls y h → IsPutSoFar x g done (f ∷ left) ls y h
 so_far_at x g done fs f left ls y h is was = subst (λ us. IsPutSoFar x g done us ls y h) is was

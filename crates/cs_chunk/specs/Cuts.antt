@@ -1,10 +1,11 @@
 -- How the bytes of a put are cut.
 use Rattle.std.specs.Prelude.{◌≡◌, ◌⊎◌, ◌+◌, ◌-◌, ◌*◌, ◌<◌, ◌≤◌, ◌++◌, ℕ, zero, suc, List, [], ◌∷◌, drop, map, replicate, take}
 use Rattle.cs_chunk.specs.declared.cuts.Cut.{Cut}
+use Rattle.cs_frame.specs.FormatNumbers.{number_in}
 use Rattle.cs_frame.specs.Formats.{formats_of}
 use Rattle.cs_frame.specs.Frames.{page_count, spelled_frame}
 use Rattle.law_machine.specs.Device.{Shape}
-use Rattle.law_machine.specs.Events.{with_heads}
+use Rattle.law_machine.specs.Events.{headed}
 use Rattle.law_machine.specs.Geometry.{head_bytes_in}
 
 -- so many pieces of this size, in order, of which the last may be shorter
@@ -19,7 +20,7 @@ pages_of cut = replicate (cut.count - 1) cut.pages ++ cut.last ∷ []
 -- the frames of the chunks of bytes that are cut so, which a command puts under an identifier
 abbrev pub frames_cut : Shape → Cut → (id command : ℕ) → (bytes : List ℕ) → List (List (List ℕ))
 frames_cut S cut id command bytes =
-    map (spelled_frame 0) (with_heads (formats_of S) id 0 cut.count command (pieces cut.size cut.count bytes))
+    map (spelled_frame (number_in S.format) 0) (headed (formats_of S) id 0 cut.count command (pieces cut.size cut.count bytes))
 
 -- so many bytes are more than a shard may have
 abbrev pub IsOversized : Shape → (length : ℕ) → Type 0

@@ -10,11 +10,13 @@ use Rattle.cs_frame.specs.declared.faults.FormatFault.{FormatFault}
 use Rattle.cs_frame.specs.declared.frames.FrameKind.{FrameKind}
 use Rattle.cs_frame.specs.declared.frames.FrameKind.TheVariants.{Chunk}
 use Rattle.cs_frame.specs.declared.locators.Locator.{Locator}
-use Rattle.cs_frame.specs.Frames.{kind_byte, meant_header_fault, payload_length}
+use Rattle.cs_frame.specs.Frames.{kind_byte, payload_length}
+use Rattle.cs_frame.specs.MeantFrames.{meant_header_fault}
 use Rattle.law_machine.specs.Device.{Shape}
 use Rattle.law_machine.specs.Geometry.{head_bytes_in}
 
--- the first test that fails of the header at a place in these extents, the last of which is that its frame is the one that l means
+-- the first test that fails of the header at a place in these extents, the last of which is that its frame is the one
+-- that l means
 abbrev pub header_fault_in : State → (view : ℕ → List ℕ) → FrameKind → Locator → Option FormatFault
 header_fault_in x view kind l = meant_header_fault (shape x).format (kind_byte kind) l.mark (view ((shape x).address l.extent l.page)) (end_in x l - l.page)
 
@@ -26,8 +28,8 @@ length_at S view l = payload_length (view (S.address l.extent l.page))
 abbrev pub IsHeaderRefusal : Refusal → Type 0
 IsHeaderRefusal r = IsNoAnswer r ⊎ (r ≡ BadMagic) ⊎ (r ≡ BadVersion) ⊎ (r ≡ BadLength) ⊎ (r ≡ Misplaced)
 
--- The refusal is that of a frame's fault; or it is 26, and the frame has a fault: its header has another mark, and whether the frame is
--- damaged or another one shows behind the header.
+-- The refusal is that of a frame's fault; or it is 26, and the frame has a fault: its header has another mark, and
+-- whether the frame is damaged or another one shows behind the header.
 abbrev pub IsOfFaultOrMark : Option FormatFault → Refusal → Type 0
 IsOfFaultOrMark found r = IsOfFault found r ⊎ ((r ≡ Misplaced) × (found ≢ None))
 
@@ -35,7 +37,7 @@ IsOfFaultOrMark found r = IsOfFault found r ⊎ ((r ≡ Misplaced) × (found ≢
 abbrev pub AreHeadersIn : State → (view : ℕ → List ℕ) → List Locator → Type 0
 AreHeadersIn x view ls = AllByRecursion (λ l. header_fault_in x view Chunk l ≡ None) ls
 
--- how many bytes of a shard the chunk at a place has by what its header says: those behind its head
+-- how many bytes of a shard the chunk at a place has by what its header says: all but its head
 abbrev pub body_length_at : Shape → (view : ℕ → List ℕ) → Locator → ℕ
 body_length_at S view l = length_at S view l - head_bytes_in S.format
 

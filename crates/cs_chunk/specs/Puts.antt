@@ -61,8 +61,8 @@ pub record MayPut (x : State) (g : Graph) (frames : List (List (List ℕ))) : Ty
   pub numbers : ¬ AreWorn x g.staging ForPut (page_counts frames)
   pub room : length frames + sum (page_counts frames) ≤ g.room
 
--- the frame at l lies below the pointer of its extent, where extents are filled up behind what counts as found there, it is the one that
--- l means, and the newest waiting writes are its pages
+-- the frame at l lies below the pointer of its extent, where extents are filled up behind what counts as found there,
+-- it is the one that l means, and the newest waiting writes are its pages
 pub record IsNewestFrame (S : Shape) (x : Extents) (g : Graph) (l : Locator) (frame : List (List ℕ)) : Type 0 where
   pub extent : l.extent < S.extents
   pub given : l.page + length frame ≤ x.pointer l.extent

@@ -13,7 +13,8 @@ use Rattle.cs_frame.specs.declared.frames.FrameKind.{FrameKind}
 use Rattle.cs_frame.specs.declared.frames.FrameKind.TheVariants.{Chunk}
 use Rattle.cs_frame.specs.declared.locators.Locator.{Locator}
 use Rattle.cs_frame.specs.Formats.{formats_of}
-use Rattle.cs_frame.specs.Frames.{frame_count, kind_byte, meant_fault}
+use Rattle.cs_frame.specs.Frames.{frame_count, kind_byte}
+use Rattle.cs_frame.specs.MeantFrames.{meant_fault}
 use Rattle.cs_frame.specs.Refusals.{refusal_for}
 use Rattle.law_machine.specs.Formats.{pages_from}
 
@@ -41,7 +42,8 @@ AnswersFault found result = MatchResult result (λ _. found ≡ None) (λ r. IsN
 abbrev pub pages_in : State → (view : ℕ → List ℕ) → Locator → List (List ℕ)
 pages_in x view l = pages_from (shape x) (formats_of (shape x)) view l.extent l.page (end_in x l - l.page)
 
--- the first test that fails of the frame there, the last of which is that it is the one that l means
+-- the first test that fails of the frame there. The last two are that it is the one that l means, and that it is long
+-- enough for what it holds
 abbrev pub fault_in : State → (view : ℕ → List ℕ) → FrameKind → Locator → Option FormatFault
 fault_in x view kind l = meant_fault (shape x).format (kind_byte kind) l.mark (pages_in x view l)
 

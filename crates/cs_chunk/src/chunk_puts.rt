@@ -44,8 +44,8 @@ pub fn shard_bytes(extents: &Extents) -> usize
 impl Cut {
     /// How so many bytes are cut: in one piece at least, all but the last as long as may be. None if they are too many.
     ///
-    /// A chunk has 4,096 bytes for each page of an extent, less 41 and less 26 for its head, and there are at most
-    /// eight.
+    /// A chunk has 4,096 bytes for each page of an extent, less 41 and less 34 for its head, and there are at most
+    /// eight. Format 2 has no heads.
     pub fn of(extents: &Extents, bytes: usize) -> Option<Cut>
         ensures cut { MatchOption result (IsOversized (shape extents.now) bytes) (IsCut (shape extents.now) bytes) }
         ensures small { IfSome result (λ _. ¬ IsOversized (shape extents.now) bytes) }
@@ -115,8 +115,9 @@ impl Cut {
         extents.fits(&self.frames()[..self.count], Purpose::Put)
     }
 
-    /// Appends a chunk's frame of each piece of the bytes. If the format has heads, each head says the identifier, the
-    /// chunk's number, how many there are, and the number of the command. Returns where the frames begin, in order.
+    /// Appends a chunk's frame of each piece of the bytes. The head after a piece says the identifier, the chunk's
+    /// number, how many there are, the number of the command, and the store. Format 2 has no heads. Returns where the
+    /// frames begin, in order.
     ///
     /// 30 `Full` if the frames find no places, 35 `WornOut` if a number would pass 2^63 - 1. Memory is asked for last,
     /// for the pages of all frames: 9 `OutOfMemory`. After a refusal nothing is staged.
@@ -168,7 +169,7 @@ impl Cut {
 }
 
 /// The frames of the chunks of a put that is this command: the pieces are cut off the bytes one after another, and each
-/// goes after its head, if the format has heads.
+/// goes before its head, if the format has heads.
 fn encode_chunks(
     alloc: Global,
     extents: &Extents,

@@ -9,8 +9,10 @@ ghost use Rattle.cs_deps.specs.State.{NoneOn};
 ghost use Rattle.cs_disk.specs.Disk.{seen};
 ghost use Rattle.cs_disk.specs.Reads.{OnlyReads};
 ghost use Rattle.cs_extent.specs.State.{IsWhole, shape};
+ghost use Rattle.cs_frame.specs.FormatNumbers.{number_in};
 ghost use Rattle.cs_frame.specs.Formats.{formats_of};
-ghost use Rattle.cs_frame.specs.Frames.{SpellsFrame, kind_byte, meant_fault, page_count};
+ghost use Rattle.cs_frame.specs.Frames.{SpellsFrame, kind_byte, page_count};
+ghost use Rattle.cs_frame.specs.MeantFrames.{meant_fault};
 ghost use Rattle.law_machine.specs.Index.{joined_bodies};
 
 use cs_deps::Graph;
@@ -110,7 +112,7 @@ fn end_of(extents: &Extents, locator: Locator) -> usize
     extents.end_of(usize::from(locator.extent), usize::from(locator.page))
 }
 
-/// The frame of a mark in these pages.
+/// The frame of a mark in these pages, which is long enough for what it holds.
 fn framed(
     format: Format,
     kind: FrameKind,
@@ -118,7 +120,7 @@ fn framed(
     pages: Vec<[u8; 4096]>,
 ) -> Result<ReadFrame, Refusal>
     requires { 0 < length pages.items }
-    ensures spelled { IfOk result (λ payload. SpellsFrame (kind_byte kind) pages.items payload) }
+    ensures spelled { IfOk result (λ payload. SpellsFrame (number_in format) (kind_byte kind) pages.items payload) }
     ensures fault { AnswersFault (meant_fault format (kind_byte kind) mark pages.items) result }
     ensures refusals { IfErr result IsFrameRefusal }
 {
@@ -170,7 +172,7 @@ fn read_frame_pages<D: PageDisk>(
         Ok(()) => {}
         Err(refusal) => return Err(refusal),
     }
-    match decode_frame_header(kind, &first, there) {
+    match decode_frame_header(format_of(extents).number(), kind, &first, there) {
         Ok(header) => read_pages(alloc, graph, disk, number, &first, header.pages()),
         Err(fault) => Err(refusal_of_fault(fault)),
     }
@@ -181,8 +183,9 @@ fn read_frame_pages<D: PageDisk>(
 /// read.
 ///
 /// 20 `BadMagic`, 21 `BadDigest`, 22 `BadLength`, 23 `BadPadding` or 24 `BadVersion`, the first test that fails, if no
-/// frame of this kind begins there. 26 `Misplaced` if one does and it isn't the one that the place means. 1
-/// `DeviceFault` if a read failed. 9 `OutOfMemory`. The disk holds what it held.
+/// frame of this kind begins there. 26 `Misplaced` if one does and it isn't the one that the place means. Then 22 if it
+/// is a chunk's and its payload is shorter than a head. 1 `DeviceFault` if a read failed. 9 `OutOfMemory`. The disk
+/// holds what it held.
 pub fn frame_at<D: PageDisk>(
     alloc: Global,
     extents: &Extents,
@@ -304,8 +307,8 @@ pub fn read_length<D: PageDisk>(
     }
 }
 
-/// The bytes of a shard whose chunks have their frames at these places: what comes after the heads of their payloads,
-/// one after another. A payload that is shorter than a head, which no put makes, has none.
+/// The bytes of a shard whose chunks have their frames at these places: their payloads without the heads, one after
+/// another.
 ///
 /// The first refusal is returned: 20 to 24 and 26 as `read_frame` does, 1 `DeviceFault`, 9 `OutOfMemory`. No frame
 /// after it is read.
@@ -352,7 +355,8 @@ pub fn read_chunks<D: PageDisk>(
 /// How many bytes a shard has whose chunks have their frames at these places, by the first page of each frame alone.
 ///
 /// The first refusal is returned: 20, 22, 24 and 26 as `read_length` does, 1 `DeviceFault`, 9 `OutOfMemory`. No page
-/// after it is read. If digest or padding of a chunk are damaged, there is a length.
+/// after it is read. If digest or padding of a chunk are damaged, there is a length. A chunk that is shorter than a
+/// head, which no put makes, counts as none.
 pub fn read_lengths<D: PageDisk>(
     extents: &Extents,
     graph: &Graph,

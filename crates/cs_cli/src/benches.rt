@@ -1,6 +1,7 @@
 //! The command `bench`: over a file that it makes and removes.
 ghost use Rattle.std.specs.Prelude.{◌≤◌};
 
+use crate::creates::identity_made;
 use crate::files::{OverFile, new_disk};
 use crate::manners::Manner;
 use crate::openings::Shown;
@@ -12,12 +13,13 @@ use cs_mount::MountOptions;
 use cs_options::{Measure, geometry_of, measure_of};
 use cs_tools::{Known, Load, Outcome, bench, explain};
 use std::fs::File;
+use std::random::RandomSource;
 use std::rt::Files;
 use std::time::Clock;
 use std::{fs, io};
 
 /// Measures over a new file, removes it, and gives the exit status.
-pub fn bench_in_file<R: AllocGlobal + Clock + Files<File = File> + Print + Eprint>(
+pub fn bench_in_file<R: AllocGlobal + Clock + Files<File = File> + RandomSource + Print + Eprint>(
     rt: &R,
     path: &str,
     options: &ArgMatches,
@@ -31,9 +33,13 @@ pub fn bench_in_file<R: AllocGlobal + Clock + Files<File = File> + Print + Eprin
         );
         return cs_words::COMMAND_LINE;
     };
-    let Ok(geometry) = geometry_of(options) else {
+    let id = match identity_made(rt, manner) {
+        Ok(id) => id,
+        Err(status) => return status,
+    };
+    let Ok(geometry) = geometry_of(options, id) else {
         let _ = eprintln!(rt;
-            "error: a store has 4 to 2,048 extents of 2 to 256 pages, or in format 3 5 to 7,680 of 2 to 65,535"
+            "error: a store has 5 to 7,680 extents of 2 to 65,535 pages, or in format 2 4 to 2,048 of 2 to 256"
         );
         return cs_words::COMMAND_LINE;
     };

@@ -11,6 +11,7 @@ use cs_options::{command, race_of};
 use cs_race::{new_core as new_race_core, run_race};
 use std::fs::File;
 use std::io;
+use std::random::RandomSource;
 use std::rt::{Env, Files};
 use std::sync::Wait;
 use std::thread::Threads;
@@ -22,6 +23,7 @@ pub fn run<
         + AllocGlobal
         + Clock
         + Files<File = File>
+        + RandomSource
         + Input
         + Print
         + Eprint
@@ -46,14 +48,23 @@ where
 
 /// Does what these words ask for, and gives the exit status. The environment may name a file.
 fn run_words<
-    R: AllocGlobal + Clock + Files<File = File> + Input + Print + Eprint + Threads + Wait + Sync,
+    R: AllocGlobal
+        + Clock
+        + Files<File = File>
+        + RandomSource
+        + Input
+        + Print
+        + Eprint
+        + Threads
+        + Wait
+        + Sync,
 >(rt: &R, words: &[String], environment: Option<&str>, terminal: bool) -> u8
 where
     R::Reader: Drop,
     ensures { result ≤ 7 }
 {
     let version = format!(in rt.alloc();
-        "{VERSION} (reads formats 1, 2 and 3; writes format 2 by run, 3 by create; sources {SOURCES})"
+        "{VERSION} (reads formats 1, 2 and 4; writes format 2 by run, 4 by create; sources {SOURCES})"
     );
     let (Ok(command), Ok(version)) = (command(rt.alloc()), version) else {
         let _ = eprintln!(rt; "out of memory");
@@ -80,7 +91,16 @@ fn print_error<R: Print + Eprint>(rt: &R, error: &clap::Error) -> u8
 /// Does what the words were found to ask for, and gives the exit status. A subcommand is required.
 fn run_matches<
     'a,
-    R: AllocGlobal + Clock + Files<File = File> + Input + Print + Eprint + Threads + Wait + Sync,
+    R: AllocGlobal
+        + Clock
+        + Files<File = File>
+        + RandomSource
+        + Input
+        + Print
+        + Eprint
+        + Threads
+        + Wait
+        + Sync,
 >(rt: &R, matches: &ArgMatches<'a>, environment: Option<&'a str>, terminal: bool) -> u8
 where
     R::Reader: Drop,

@@ -1,7 +1,7 @@
 //! The command `copy`.
-ghost use Rattle.std.specs.Prelude.{◌≤◌};
+ghost use Rattle.std.specs.Prelude.{◌≤◌, IfErr};
 
-use crate::creates::{geometry_said, mode_given, plural_of, warn_of_format};
+use crate::creates::{FILE, geometry_asked, hex_of, identity_made, mode_given, plural_of};
 use crate::files::{OverFile, Place, Read, Written, disk_to_read, new_disk, sync_folder};
 use crate::manners::Manner;
 use crate::openings::{Shown, Unopened, open_typed};
@@ -9,14 +9,16 @@ use crate::progress::Told;
 use crate::warnings::{explain_unopened, warn_of, warn_text};
 use clap::ArgMatches;
 use cs_disk::{FileFault, SystemFault};
-use cs_frame::{Format, Geometry};
+use cs_frame::{Geometry, StoreId};
 use cs_mount::Mounted;
+use cs_options::{Sizing, sizing_of};
 use cs_refusal::Refusal;
 use cs_tools::store::{OpenOptions, Store};
 use cs_tools::{Known, Outcome, Style, copy, explain};
 use std::fs::File;
 use std::io::Write;
 use std::os::unix::fs::MetadataExt;
+use std::random::RandomSource;
 use std::rt::Files;
 use std::time::Clock;
 use std::{fs, io};
@@ -31,7 +33,7 @@ type Target = Store<Mounted<Written>>;
 const LARGER: u32 = 24;
 
 /// Copies the store in a file into a new one, and gives the exit status.
-pub fn copy_file<R: AllocGlobal + Clock + Files<File = File> + Print + Eprint>(
+pub fn copy_file<R: AllocGlobal + Clock + Files<File = File> + RandomSource + Print + Eprint>(
     rt: &R,
     place: Place,
     target: &str,
@@ -40,7 +42,11 @@ pub fn copy_file<R: AllocGlobal + Clock + Files<File = File> + Print + Eprint>(
 ) -> u8
     ensures { result ≤ 7 }
 {
-    let asked = match geometry_said(rt, options, manner) {
+    let id = match identity_made(rt, manner) {
+        Ok(id) => id,
+        Err(status) => return status,
+    };
+    let asked = match geometry_said(rt, options, id, manner) {
         Ok(asked) => asked,
         Err(status) => return status,
     };
@@ -55,7 +61,7 @@ pub fn copy_file<R: AllocGlobal + Clock + Files<File = File> + Print + Eprint>(
         let refused = Outcome::Refused(Refusal::NotEmpty);
         return explain(rt, refused, &Known::nothing(), manner.style);
     }
-    let opened = match open_typed::<Mounted<Read>, R>(rt, disk_to_read(rt, place)) {
+    let opened = match open_typed::<Mounted<Read>, R>(rt, disk_to_read(rt, place, manner.style)) {
         Ok(opened) => opened,
         Err(unopened) => return explain_unopened(rt, &unopened, manner.style),
     };
@@ -65,16 +71,37 @@ pub fn copy_file<R: AllocGlobal + Clock + Files<File = File> + Print + Eprint>(
         source: opened.store,
         target,
         mode,
+        id,
     };
     copy_opened(rt, job, asked, manner)
 }
 
-/// What is copied, into which file, with which permissions.
+/// The geometry that the options ask for, none if they ask for nothing; or the exit status if they ask for one that
+/// there isn't.
+fn geometry_said<R: Eprint>(
+    rt: &R,
+    options: &ArgMatches,
+    id: StoreId,
+    manner: Manner,
+) -> Result<Option<Geometry>, u8>
+    ensures { IfErr result (λ status. status ≤ 7) }
+{
+    if sizing_of(options) == Sizing::Unsaid {
+        return Ok(None);
+    }
+    match geometry_asked(rt, options, id, FILE, manner) {
+        Ok(geometry) => Ok(Some(geometry)),
+        Err(status) => Err(status),
+    }
+}
+
+/// What is copied, into which file, with which permissions, and the identity of the new store.
 #[derive(Drop)]
 struct Job<'a> {
     source: Source,
     target: &'a str,
     mode: u32,
+    id: StoreId,
 }
 
 /// Whether two paths are one, or lead to one file.
@@ -128,7 +155,7 @@ fn copy_into_enough<R: AllocGlobal + Clock + Files<File = File> + Eprint>(
     let mut extents = u64::from(old.extents()).max(5);
     let mut pages = u64::from(old.pages());
     for _ in 0..LARGER {
-        let Ok(geometry) = Geometry::of_format(Format::three(), extents, pages, None) else {
+        let Ok(geometry) = Geometry::for_file(job.id, extents, pages, None) else {
             break;
         };
         match copy_into(rt, job, geometry, manner) {
@@ -158,7 +185,8 @@ fn asks_for_more(outcome: Outcome) -> bool {
     }
 }
 
-/// Copies into a new store of this geometry, which is made under another name and given its own when all of it is there. If it fails no file is left.
+/// Copies into a new store of this geometry, which is made under another name and given its own when all of it is
+/// there. If it fails no file is left.
 fn copy_into<R: AllocGlobal + Clock + Files<File = File> + Eprint>(
     rt: &R,
     job: &mut Job,
@@ -246,7 +274,6 @@ fn tell_copied<R: Print + Eprint>(rt: &R, job: &Job, geometry: Geometry, manner:
 {
     let (_, shards) = job.source.found();
     let printed = print_copied(shards, geometry, manner.style, &mut io::writer(rt));
-    warn_of_format(rt, manner.style);
     let outcome = match printed {
         Ok(()) => Outcome::Done,
         Err(_) => Outcome::Failed,
@@ -266,14 +293,15 @@ fn print_copied<W: Write>(
     let sections = geometry.sections();
     let bytes = geometry.device_pages().saturating_mul(4096);
     let plural = plural_of(sections);
+    let id = hex_of(geometry);
     match style {
         Style::Text => writeln!(
             writer,
-            "copied {shards} shards: format 3, {extents} extents of {pages} pages, {sections} section{plural}: {bytes} bytes"
+            "copied {shards} shards: format 4, id {id}, {extents} extents of {pages} pages, {sections} section{plural}: {bytes} bytes"
         )?,
         Style::Json => writeln!(
             writer,
-            "{{\"copied\":{shards},\"format\":3,\"extents\":{extents},\"pages\":{pages},\"sections\":{sections},\"bytes\":{bytes}}}"
+            "{{\"copied\":{shards},\"format\":4,\"id\":\"{id}\",\"extents\":{extents},\"pages\":{pages},\"sections\":{sections},\"bytes\":{bytes}}}"
         )?,
     }
     writer.flush()

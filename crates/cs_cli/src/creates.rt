@@ -1,24 +1,31 @@
 //! The command `create`, and how it and `copy` choose a geometry.
 ghost use Rattle.std.specs.Prelude.{◌≤◌, IfErr};
 
-use crate::files::new_disk;
+use crate::files::{is_block_device, new_disk};
 use crate::manners::Manner;
 use crate::openings::Unopened;
 use crate::progress::{tell_ended, tell_making};
 use crate::warnings::explain_unopened;
 use clap::ArgMatches;
-use cs_frame::Geometry;
+use cs_disk::SystemFault;
+use cs_frame::{Geometry, StoreId};
 use cs_mount::MountOptions;
-use cs_options::{Sizing, TooSmall, Wish, exact_of, geometry_for, mode_of, sizing_of, wish_of};
+use cs_options::{
+    Sizing, TooSmall, USUAL_SIZE, Wish, exact_of, geometry_for, mode_of, sizing_of, wish_of,
+};
 use cs_refusal::Refusal;
+use cs_tools::store::{NO_IDENTITY, new_identity};
 use cs_tools::{Known, Outcome, Style, explain, warn};
 use std::fs::File;
 use std::io::Write;
+use std::random::RandomSource;
 use std::rt::Files;
 use std::{fs, io};
+use uuid::Uuid;
+use uuid::fmt::Simple;
 
 /// Makes a new store in a file, and gives the exit status.
-pub fn create_in_file<R: AllocGlobal + Files<File = File> + Print + Eprint>(
+pub fn create_in_file<R: AllocGlobal + Files<File = File> + RandomSource + Print + Eprint>(
     rt: &R,
     path: &str,
     options: &ArgMatches,
@@ -26,19 +33,70 @@ pub fn create_in_file<R: AllocGlobal + Files<File = File> + Print + Eprint>(
 ) -> u8
     ensures { result ≤ 7 }
 {
-    let geometry = match geometry_asked(rt, options, manner) {
-        Ok(Some(geometry)) => geometry,
-        Ok(None) => return cs_words::COMMAND_LINE,
+    if is_block_device(rt, path) {
+        let _ = eprintln!(rt;
+            "error: {path} is a block device: `create --device` makes a store on it"
+        );
+        return cs_words::COMMAND_LINE;
+    }
+    let geometry = match geometry_in_file(rt, options, manner) {
+        Ok(geometry) => geometry,
         Err(status) => return status,
     };
     let Some(mode) = mode_given(rt, options) else {
         return cs_words::COMMAND_LINE;
     };
-    match make(rt, path, geometry, mode, manner) {
-        Ok(()) => tell_created(rt, path, geometry, manner),
-        Err(unopened) => explain_unopened(rt, &unopened, manner.style),
+    tell_made(
+        rt,
+        path,
+        geometry,
+        make(rt, path, geometry, mode, manner),
+        manner,
+    )
+}
+
+/// The geometry that the options ask for, of a store with a new identity in a file as large as it needs; or the exit
+/// status if there is none.
+pub fn geometry_in_file<R: RandomSource + Eprint>(
+    rt: &R,
+    options: &ArgMatches,
+    manner: Manner,
+) -> Result<Geometry, u8>
+    ensures { IfErr result (λ status. status ≤ 7) }
+{
+    let id = identity_made(rt, manner)?;
+    geometry_asked(rt, options, id, FILE, manner)
+}
+
+/// A new identity from the system, or the exit status if it gives none.
+pub fn identity_made<R: RandomSource + Eprint>(rt: &R, manner: Manner) -> Result<StoreId, u8>
+    ensures { IfErr result (λ status. status ≤ 7) }
+{
+    match new_identity(rt) {
+        Ok(id) => Ok(id),
+        Err(error) => {
+            warn(rt, NO_RANDOM, manner.style);
+            let outcome = Outcome::Unopened(SystemFault::of(&error));
+            Err(explain(rt, outcome, &Known::nothing(), manner.style))
+        }
     }
 }
+
+/// What is printed if there is no new identity.
+pub const NO_RANDOM: &str = "the system gives no random bytes for the identity of a new store";
+
+/// How many bytes a new store's device has by default, and at most.
+#[derive(Clone, Copy)]
+pub struct Room {
+    pub usual: u64,
+    pub most: u64,
+}
+
+/// That of a file.
+pub const FILE: Room = Room {
+    usual: USUAL_SIZE,
+    most: u64::MAX,
+};
 
 /// The permissions that are asked for; if there are none, that is reported.
 pub fn mode_given<R: Eprint>(rt: &R, options: &ArgMatches) -> Option<u32> {
@@ -49,33 +107,21 @@ pub fn mode_given<R: Eprint>(rt: &R, options: &ArgMatches) -> Option<u32> {
     mode
 }
 
-/// The geometry that the options ask for, 64 MiB for shards of 1 MiB if they ask for nothing; or the exit status if there is none.
-fn geometry_asked<R: Eprint>(
+/// The geometry of a store with this identity that the options ask for, for shards of 1 MiB if they ask for nothing; or
+/// the exit status if there is none.
+pub fn geometry_asked<R: Eprint>(
     rt: &R,
     options: &ArgMatches,
+    id: StoreId,
+    room: Room,
     manner: Manner,
-) -> Result<Option<Geometry>, u8>
+) -> Result<Geometry, u8>
     ensures { IfErr result (λ status. status ≤ 7) }
 {
     match sizing_of(options) {
-        Sizing::Unsaid => fitting(rt, options, manner),
-        _ => geometry_said(rt, options, manner),
-    }
-}
-
-/// The geometry that the options ask for, none if they ask for nothing; or the exit status if they ask for one that there isn't.
-pub fn geometry_said<R: Eprint>(
-    rt: &R,
-    options: &ArgMatches,
-    manner: Manner,
-) -> Result<Option<Geometry>, u8>
-    ensures { IfErr result (λ status. status ≤ 7) }
-{
-    match sizing_of(options) {
-        Sizing::Unsaid => Ok(None),
-        Sizing::Sizes => fitting(rt, options, manner),
-        Sizing::Numbers => match exact_of(options) {
-            Ok(geometry) => Ok(Some(geometry)),
+        Sizing::Unsaid | Sizing::Sizes => fitting(rt, options, id, room, manner),
+        Sizing::Numbers => match exact_of(options, id) {
+            Ok(geometry) => Ok(geometry),
             Err(refusal) => Err(explain(
                 rt,
                 Outcome::Refused(refusal),
@@ -93,17 +139,30 @@ pub fn geometry_said<R: Eprint>(
 }
 
 /// The geometry that suits the sizes that the options give, or the exit status if none does.
-fn fitting<R: Eprint>(rt: &R, options: &ArgMatches, manner: Manner) -> Result<Option<Geometry>, u8>
+fn fitting<R: Eprint>(
+    rt: &R,
+    options: &ArgMatches,
+    id: StoreId,
+    room: Room,
+    manner: Manner,
+) -> Result<Geometry, u8>
     ensures { IfErr result (λ status. status ≤ 7) }
 {
-    let Some(wish) = wish_of(options) else {
+    let Some(wish) = wish_of(options, room.usual) else {
         let _ = eprintln!(rt;
             "error: a size is a number of bytes, or of K, M, G or T, each 1,024 of the one before: 64M"
         );
         return Err(cs_words::COMMAND_LINE);
     };
-    match geometry_for(wish) {
-        Ok(geometry) => Ok(Some(geometry)),
+    if wish.size > room.most {
+        let _ = eprintln!(rt;
+            "error: --size is {} bytes, and the device has {}",
+            wish.size, room.most
+        );
+        return Err(cs_words::COMMAND_LINE);
+    }
+    match geometry_for(wish, id) {
+        Ok(geometry) => Ok(geometry),
         Err(small) => Err(tell_too_small(rt, wish, small, manner)),
     }
 }
@@ -172,32 +231,24 @@ fn make_quietly<R: AllocGlobal + Files<File = File>>(
     }
 }
 
-/// Prints what was made, and that its format isn't the last one, and gives the exit status.
-fn tell_created<R: Print + Eprint>(rt: &R, path: &str, geometry: Geometry, manner: Manner) -> u8
+/// Prints what was made, or why it wasn't, and gives the exit status.
+pub fn tell_made<R: AllocGlobal + Print + Eprint>(
+    rt: &R,
+    path: &str,
+    geometry: Geometry,
+    made: Result<(), Unopened>,
+    manner: Manner,
+) -> u8
     ensures { result ≤ 7 }
 {
+    if let Err(unopened) = made {
+        return explain_unopened(rt, &unopened, manner.style);
+    }
     let outcome = match print_created(path, geometry, manner.style, &mut io::writer(rt)) {
         Ok(()) => Outcome::Done,
         Err(_) => Outcome::Failed,
     };
-    warn_of_format(rt, manner.style);
     explain(rt, outcome, &Known::nothing(), manner.style)
-}
-
-/// Notes that format 3 is replaced by a later one.
-pub fn warn_of_format<R: Eprint>(rt: &R, style: Style) {
-    match style {
-        Style::Text => {
-            let _ = eprintln!(rt;
-                "note: a later version replaces format 3; bring a store over by `export`"
-            );
-        }
-        Style::Json => warn(
-            rt,
-            "a later version replaces format 3; bring a store over by `export`",
-            style,
-        ),
-    }
 }
 
 /// How many extents hold the runs of the index at most.
@@ -207,7 +258,8 @@ fn run_extents(extents: u64) -> u64
     if extents >= 16 { 2 } else { 1 }
 }
 
-/// The bytes of the largest shard that a new store takes: 8 chunks, if there are extents enough beside those that puts leave.
+/// The bytes of the largest shard that a new store takes: 8 chunks, if there are extents enough beside those that puts
+/// leave.
 fn largest_shard(geometry: Geometry) -> u64 {
     let extents = u64::from(geometry.extents());
     let chunks = extents.saturating_sub(run_extents(extents) + 2).min(8);
@@ -217,6 +269,12 @@ fn largest_shard(geometry: Geometry) -> u64 {
 /// What a word has at its end for so many things.
 pub fn plural_of(count: u8) -> &'static str {
     if count == 1 { "" } else { "s" }
+}
+
+/// The identity of a store as it is printed: 32 hex digits.
+pub fn hex_of(geometry: Geometry) -> Simple {
+    let id = geometry.format().store().unwrap_or(NO_IDENTITY);
+    Uuid::from_bytes(id.0).simple()
 }
 
 /// Prints what was made.
@@ -233,14 +291,15 @@ fn print_created<W: Write>(
     let largest = largest_shard(geometry);
     let identifiers = geometry.most_weight() / 33;
     let plural = plural_of(sections);
+    let id = hex_of(geometry);
     match style {
         Style::Text => writeln!(
             writer,
-            "created {path}: format 3, {extents} extents of {pages} pages, {sections} section{plural}: {bytes} bytes; shards up to {largest} bytes, up to {identifiers} identifiers of one chunk"
+            "created {path}: format 4, id {id}, {extents} extents of {pages} pages, {sections} section{plural}: {bytes} bytes; shards up to {largest} bytes, up to {identifiers} identifiers of one chunk"
         )?,
         Style::Json => writeln!(
             writer,
-            "{{\"created\":true,\"format\":3,\"extents\":{extents},\"pages\":{pages},\"sections\":{sections},\"bytes\":{bytes},\"shard_bytes\":{largest},\"identifiers\":{identifiers}}}"
+            "{{\"created\":true,\"format\":4,\"id\":\"{id}\",\"extents\":{extents},\"pages\":{pages},\"sections\":{sections},\"bytes\":{bytes},\"shard_bytes\":{largest},\"identifiers\":{identifiers}}}"
         )?,
     }
     writer.flush()

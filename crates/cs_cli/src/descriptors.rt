@@ -10,8 +10,8 @@ const INPUT: i32 = 0;
 
 const ERROR: i32 = 2;
 
-/// Files that hold the numbers of closed standard streams, so that no file of a store gets one and is written to as if it were a stream. Each
-/// fails at what its stream is used for.
+/// Files that hold the numbers of closed standard streams, so that no file of a store gets one and is written to as if
+/// it were a stream. Each fails at what its stream is used for.
 #[derive(Drop)]
 pub struct Standing {
     pub input: Option<File>,
@@ -19,8 +19,8 @@ pub struct Standing {
     pub error: Option<File>,
 }
 
-/// Opens files in place of those standard streams that are closed: one that can't be read in place of the input, and such as can't be
-/// written in place of the output and of the error.
+/// Opens files in place of those standard streams that are closed: one that can't be read in place of the input, and
+/// such as can't be written in place of the output and of the error.
 pub fn stand_in<R: Files<File = File>>(rt: &R) -> io::Result<Standing> {
     // The operating system gives the lowest number that is free.
     let input = null_up_to(rt, File::options().write(true), INPUT)?;

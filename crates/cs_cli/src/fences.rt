@@ -20,7 +20,7 @@ pub fn open_core_to_write<R: AllocGlobal + Clock + Files<File = File> + Eprint>(
     place: Place,
     style: Style,
 ) -> Result<Core<Mounted<Written>>, Unopened> {
-    let opened = open_core::<Mounted<Written>, R>(rt, disk_to_write(rt, place))?;
+    let opened = open_core::<Mounted<Written>, R>(rt, disk_to_write(rt, place, style))?;
     let (commands, _) = opened.store.opened();
     warn_of(rt, &opened, commands, style);
     if !are_passed_over(&opened.findings) {
@@ -42,7 +42,7 @@ pub fn open_typed_to_write<R: AllocGlobal + Clock + Files<File = File> + Eprint>
     place: Place,
     style: Style,
 ) -> Result<Store<Mounted<Written>>, Unopened> {
-    let opened = open_typed::<Mounted<Written>, R>(rt, disk_to_write(rt, place))?;
+    let opened = open_typed::<Mounted<Written>, R>(rt, disk_to_write(rt, place, style))?;
     let (commands, _) = opened.store.found();
     warn_of(rt, &opened, commands, style);
     if !are_passed_over(&opened.findings) {

@@ -23,7 +23,8 @@ impl<R: Clock> Patience for Deadline<'_, R> {
     }
 }
 
-/// The greatest command that the frames on a device name, for five seconds at most; none where that can't be read, or the clock fails.
+/// The greatest command that the frames on a device name, for five seconds at most; none where that can't be read, or
+/// the clock fails.
 pub fn scan<D: PageDisk, R: AllocGlobal + Clock>(rt: &R, disk: &mut D) -> Option<Scanned> {
     let start = Instant::now(rt).ok()?;
     greatest_command(rt.alloc(), disk, &Deadline { rt, start }).ok()

@@ -1,4 +1,5 @@
-//! The program: its command line, by which it makes a store in a file, does a command over one, runs a script, checks a plan document, or runs a race.
+//! The program: its command line, by which it makes a store in a file, does a command over one, runs a script, checks a
+//! plan document, or runs a race.
 #![tactic(auto)]
 
 mod benches;
@@ -6,6 +7,7 @@ mod command_lines;
 mod copies;
 mod creates;
 mod descriptors;
+mod devices;
 mod fences;
 mod files;
 mod heads;
@@ -14,6 +16,7 @@ mod kept_pages;
 mod lefts;
 mod manners;
 mod openings;
+mod overs;
 mod progress;
 mod queries;
 mod repairs;

@@ -143,16 +143,13 @@ impl Unopened {
     }
 }
 
-/// Opens the store in a file. If the newest root may be the one that is damaged, the device is scanned first for the commands that are on it.
+/// Opens the store in a file. If the newest root may be the one that is damaged, the device is scanned first for the
+/// commands that are on it.
 pub fn open_core<E: Shown + Drop, R: AllocGlobal + Clock>(
     rt: &R,
-    disk: Result<E::Below, FileFault>,
+    disk: Result<E::Below, Unopened>,
 ) -> Result<Opened<Core<E>>, Unopened> {
-    let disk = match disk {
-        Ok(disk) => disk,
-        Err(fault) => return Err(Unopened::of_file(rt.alloc(), fault)),
-    };
-    let opened = core_on::<E>(rt.alloc(), disk, None)?;
+    let opened = core_on::<E>(rt.alloc(), disk?, None)?;
     if !may_be_lost(&opened.findings) {
         return Ok(opened);
     }
@@ -180,13 +177,9 @@ fn core_on<E: Shown + Drop>(
 /// Opens the store in a file as a typed store, as `open_core`.
 pub fn open_typed<E: Shown + Drop, R: AllocGlobal + Clock>(
     rt: &R,
-    disk: Result<E::Below, FileFault>,
+    disk: Result<E::Below, Unopened>,
 ) -> Result<Opened<Store<E>>, Unopened> {
-    let disk = match disk {
-        Ok(disk) => disk,
-        Err(fault) => return Err(Unopened::of_file(rt.alloc(), fault)),
-    };
-    let opened = typed_on::<E>(rt.alloc(), disk, None)?;
+    let opened = typed_on::<E>(rt.alloc(), disk?, None)?;
     if !may_be_lost(&opened.findings) {
         return Ok(opened);
     }

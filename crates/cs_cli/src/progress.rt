@@ -4,7 +4,8 @@ use crate::manners::Manner;
 use cs_tools::Progress;
 use std::time::{Clock, Instant};
 
-/// From how many pages on it may take a second and more to make a file: 64 MiB, less the extent that gives way to the superblock.
+/// From how many pages on it may take a second and more to make a file: 64 MiB, less the extent that gives way to the
+/// superblock.
 const LARGE: u64 = 16_128;
 
 /// Whether it takes time to make a file of so many pages.

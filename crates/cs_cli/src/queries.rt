@@ -65,13 +65,13 @@ pub fn ask_file<R: AllocGlobal + Clock + Files<File = File> + Print + Eprint>(
         };
     }
     if older {
-        let opened = open_core::<AsOf<Mounted<Read>>, R>(rt, disk_to_read(rt, place));
+        let opened = open_core::<AsOf<Mounted<Read>>, R>(rt, disk_to_read(rt, place, manner.style));
         if opened.is_ok() {
             warn_of_older(rt, manner.style);
         }
         return ask_opened(rt, opened, query, manner, &mut writer);
     }
-    let opened = open_core::<Mounted<Read>, R>(rt, disk_to_read(rt, place));
+    let opened = open_core::<Mounted<Read>, R>(rt, disk_to_read(rt, place, manner.style));
     ask_opened(rt, opened, query, manner, &mut writer)
 }
 

@@ -27,7 +27,8 @@ pub enum Loss {
 /// What is scrubbed: a store of whose pages this was found before they were written anew.
 type Mended = (Core<Mounted<Written>>, Vec<Finding>);
 
-/// Writes the damaged pages of the superblock and of the root anew from their other copies, scrubs the store in a file, and gives the exit status.
+/// Writes the damaged pages of the superblock and of the root anew from their other copies, scrubs the store in a file,
+/// and gives the exit status.
 pub fn repair_file<R: AllocGlobal + Clock + Files<File = File> + Print + Eprint>(
     rt: &R,
     place: Place,
@@ -36,7 +37,10 @@ pub fn repair_file<R: AllocGlobal + Clock + Files<File = File> + Print + Eprint>
 ) -> u8
     ensures { result ≤ 7 }
 {
-    let opened = match open_core::<Mounted<Written>, R>(rt, disk_to_write(rt, place)) {
+    let opened = match open_core::<Mounted<Written>, R>(
+        rt,
+        disk_to_write(rt, place, manner.style),
+    ) {
         Ok(opened) => opened,
         Err(unopened) => return explain_unopened(rt, &unopened, manner.style),
     };
@@ -64,7 +68,8 @@ fn stop<R: AllocGlobal + Print>(
     }
 }
 
-/// The store of which each damaged page that has a whole other copy was written anew; where a loss is accepted, after it was kept beside the store.
+/// The store of which each damaged page that has a whole other copy was written anew; where a loss is accepted, after
+/// it was kept beside the store.
 fn mended<R: AllocGlobal + Files<File = File> + Eprint>(
     rt: &R,
     place: Place,

@@ -1,6 +1,7 @@
 //! The command `run`.
 ghost use Rattle.std.specs.Prelude.{◌≤◌};
 
+use crate::creates::NO_RANDOM;
 use crate::fences::open_core_to_write;
 use crate::files::{Place, Written, disk_to_write, emptied_disk};
 use crate::lefts::{Left, left_in, tell_left};
@@ -14,21 +15,21 @@ use cs_disk::{Access, CrashDisk, SystemFault};
 use cs_mount::the_core::Core;
 use cs_mount::{AsOf, MountOptions, Mounted};
 use cs_options::script::{Onward, print_no_store, run_over_watched};
-use cs_options::{geometry_of, wait_of};
+use cs_options::{device_pages_of, geometry_of, wait_of};
 use cs_refusal::Refusal;
-use cs_tools::{Known, Outcome, Style, tell};
+use cs_tools::store::{NO_IDENTITY, new_identity};
+use cs_tools::{Known, Outcome, Style, tell, warn};
 use std::fs::File;
 use std::io;
 use std::io::{BufWriter, Write};
+use std::random::RandomSource;
 use std::rt::Files;
 use std::time::Clock;
 
 /// Runs the script on standard input over the store that the options name, and gives the exit status.
-pub fn run_standard_input<R: AllocGlobal + Clock + Files<File = File> + Input + Print + Eprint>(
-    rt: &R,
-    options: &ArgMatches,
-    terminal: bool,
-) -> u8
+pub fn run_standard_input<
+    R: AllocGlobal + Clock + Files<File = File> + RandomSource + Input + Print + Eprint,
+>(rt: &R, options: &ArgMatches, terminal: bool) -> u8
 where
     R::Reader: Drop,
     ensures { result ≤ 4 }
@@ -44,7 +45,7 @@ where
 }
 
 /// The same with this writer.
-fn run_on<R: AllocGlobal + Clock + Files<File = File> + Input + Eprint, W: Write>(
+fn run_on<R: AllocGlobal + Clock + Files<File = File> + RandomSource + Input + Eprint, W: Write>(
     rt: &R,
     options: &ArgMatches,
     manner: Manner,
@@ -56,30 +57,32 @@ where
 {
     let onward = onward_of(options);
     let Some(path) = options.get_str("file") else {
-        let store = match geometry_of(options) {
+        let store = match geometry_of(options, NO_IDENTITY) {
             Ok(geometry) => MountOptions::new(rt.alloc()).create_in_memory(geometry),
             Err(refusal) => Err(refusal),
         };
         return run_over_a(rt, told(rt, store), onward, writer);
     };
-    let wait = wait_of(options);
     if options.get_flag("as-of") {
-        let place = Place {
-            path,
-            access: Access::Read,
-            wait,
-        };
+        let place = place_of(path, Access::Read, options);
         return run_over_a(rt, in_older_file(rt, place, manner), onward, writer);
     }
-    let place = Place {
-        path,
-        access: Access::Write,
-        wait,
-    };
+    let place = place_of(path, Access::Write, options);
     if options.get_flag("new") {
         run_over_a(rt, in_new_file(rt, place, options, manner), onward, writer)
     } else {
         run_over_a(rt, in_old_file(rt, place, manner), onward, writer)
+    }
+}
+
+/// A file that is opened so, as the options ask for.
+fn place_of<'a>(path: &'a str, access: Access, options: &ArgMatches) -> Place<'a> {
+    Place {
+        path,
+        access,
+        wait: wait_of(options),
+        id: None,
+        device_pages: device_pages_of(options),
     }
 }
 
@@ -138,7 +141,7 @@ fn in_older_file<R: AllocGlobal + Clock + Files<File = File> + Eprint>(
     place: Place,
     manner: Manner,
 ) -> Result<Core<AsOf<Mounted<Written>>>, Refusal> {
-    let opened = open_core::<AsOf<Mounted<Written>>, R>(rt, disk_to_write(rt, place));
+    let opened = open_core::<AsOf<Mounted<Written>>, R>(rt, disk_to_write(rt, place, manner.style));
     if opened.is_ok() {
         warn_of_older(rt, manner.style);
     }
@@ -179,15 +182,20 @@ fn refusal_in(outcome: Outcome) -> Refusal {
     }
 }
 
-/// A new store in a file, in place of what is there, of the geometry that the options ask for. Refused 7 BadGeometry before the file is touched. On a terminal
-/// a large one is announced before it is made. If the file had a store, it is reported what it was.
-fn in_new_file<R: AllocGlobal + Clock + Files<File = File> + Eprint>(
+/// A new store in a file, in place of what is there, of the geometry that the options ask for. Refused 7 BadGeometry
+/// before the file is touched. On a terminal a large one is announced before it is made. If the file had a store, it is
+/// reported what it was.
+fn in_new_file<R: AllocGlobal + Clock + Files<File = File> + RandomSource + Eprint>(
     rt: &R,
     place: Place,
     options: &ArgMatches,
     manner: Manner,
 ) -> Result<Core<Mounted<Written>>, Refusal> {
-    let geometry = told(rt, geometry_of(options))?;
+    let Ok(id) = new_identity(rt) else {
+        warn(rt, NO_RANDOM, Style::Text);
+        return refused_by(rt, SystemFault::Failed);
+    };
+    let geometry = told(rt, geometry_of(options, id))?;
     let left = left_in(rt, place);
     if left == Left::Refused(SystemFault::InUse) {
         return refused_by(rt, SystemFault::InUse);

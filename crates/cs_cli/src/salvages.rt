@@ -10,7 +10,7 @@ use crate::warnings::{explain_unopened, warn_of, warn_of_rescue, warn_of_salvage
 use cs_frame::ShardId;
 use cs_mount::Mounted;
 use cs_options::Listing;
-use cs_tools::rescue::Rescue;
+use cs_tools::rescue::{Rescue, Whose};
 use cs_tools::{
     Known, Outcome, Scanned, explain, explain_got, export_salvaged, get_rescued, list_rescued,
     may_be_lost, open_rescue, salvage,
@@ -22,23 +22,21 @@ use std::io::BufWriter;
 use std::rt::Files;
 use std::time::Clock;
 
-/// Prints a script that puts the shards that the frames in a file spell, and gives the exit status.
+/// Prints a script that puts the shards that the frames in a file spell, those of its store or of any, and gives the
+/// exit status.
 pub fn export_frames<R: AllocGlobal + Clock + Files<File = File> + Print + Eprint>(
     rt: &R,
     place: Place,
+    whose: Whose,
     manner: Manner,
 ) -> u8
     ensures { result ≤ 7 }
 {
-    let mut disk = match disk_to_read(rt, place) {
+    let mut disk = match disk_to_read(rt, place, manner.style) {
         Ok(disk) => disk,
-        Err(fault) => return explain_unopened(
-            rt,
-            &Unopened::of_file(rt.alloc(), fault),
-            manner.style,
-        ),
+        Err(unopened) => return explain_unopened(rt, &unopened, manner.style),
     };
-    match salvage(rt.alloc(), &mut disk) {
+    match salvage(rt.alloc(), &mut disk, whose) {
         Ok(found) => {
             warn_of_salvage(rt, &found, manner.style);
             let told = Told::new(rt, manner);
@@ -63,11 +61,7 @@ fn rescue_in_file<R: AllocGlobal + Clock + Files<File = File> + Eprint>(
     place: Place,
     manner: Manner,
 ) -> Result<Rescue<Mounted<Read>>, Unopened> {
-    let disk = match disk_to_read(rt, place) {
-        Ok(disk) => disk,
-        Err(fault) => return Err(Unopened::of_file(rt.alloc(), fault)),
-    };
-    let opened = rescued(rt, disk)?;
+    let opened = rescued(rt, disk_to_read(rt, place, manner.style)?)?;
     let rescue = &opened.store;
     warn_of(rt, &opened, rescue.commands(), manner.style);
     let root = if rescue.root_lost() {
@@ -79,7 +73,8 @@ fn rescue_in_file<R: AllocGlobal + Clock + Files<File = File> + Eprint>(
     Ok(opened.store)
 }
 
-/// What can be got of the store on a disk. If the newest root may be the one that is damaged, the device is scanned first for the commands that are on it.
+/// What can be got of the store on a disk. If the newest root may be the one that is damaged, the device is scanned
+/// first for the commands that are on it.
 fn rescued<R: AllocGlobal + Clock>(
     rt: &R,
     disk: Read,

@@ -29,13 +29,16 @@ pub fn get_from_file<R: AllocGlobal + Clock + Files<File = File> + Print + Eprin
     ensures { result ≤ 7 }
 {
     if older {
-        let opened = open_typed::<AsOf<Mounted<Read>>, R>(rt, disk_to_read(rt, place));
+        let opened = open_typed::<AsOf<Mounted<Read>>, R>(
+            rt,
+            disk_to_read(rt, place, manner.style),
+        );
         if opened.is_ok() {
             warn_of_older(rt, manner.style);
         }
         return get_opened(rt, opened, id, manner);
     }
-    let opened = open_typed::<Mounted<Read>, R>(rt, disk_to_read(rt, place));
+    let opened = open_typed::<Mounted<Read>, R>(rt, disk_to_read(rt, place, manner.style));
     get_opened(rt, opened, id, manner)
 }
 
@@ -91,7 +94,8 @@ fn store_to_write<R: AllocGlobal + Clock + Files<File = File> + Eprint>(
     }
 }
 
-/// Prints how a command over a store ended, with what the operating system said where the disk failed, and gives the exit status.
+/// Prints how a command over a store ended, with what the operating system said where the disk failed, and gives the
+/// exit status.
 fn explain_over<E: Shown + Drop, R: Eprint>(
     rt: &R,
     store: Store<E>,

@@ -1,11 +1,13 @@
 //! The commands that are done at one word, most of them over the store in a file.
-ghost use Rattle.std.specs.Prelude.{◌≤◌};
+ghost use Rattle.std.specs.Prelude.{◌≤◌, IfErr};
 
 use crate::benches::bench_in_file;
 use crate::copies::copy_file;
 use crate::creates::create_in_file;
+use crate::devices::create_on_device;
 use crate::files::{Place, is_special};
 use crate::manners::Manner;
+use crate::overs::create_over_file;
 use crate::queries::{ask_file, query_of};
 use crate::repairs::{Loss, repair_file};
 use crate::salvages::{export_frames, get_rest, list_rest};
@@ -13,22 +15,21 @@ use crate::shards::{delete_from_file, get_from_file, put_into_file};
 use clap::ArgMatches;
 use cs_disk::Access;
 use cs_frame::ShardId;
-use cs_options::{NoFile, file_of, id_of, listing_of, wait_of};
+use cs_options::{NoFile, device_pages_of, file_of, id_of, identity_of, listing_of, wait_of};
+use cs_tools::rescue::Whose;
 use cs_tools::{Known, Outcome, explain, graph};
 use std::fs::File;
 use std::io;
 use std::io::BufWriter;
+use std::random::RandomSource;
 use std::rt::Files;
 use std::time::Clock;
 
 /// Does what these words ask for, and gives the exit status. The environment may name the file.
-pub fn run_tool<'a, R: AllocGlobal + Clock + Files<File = File> + Input + Print + Eprint>(
-    rt: &R,
-    name: &str,
-    options: &ArgMatches<'a>,
-    environment: Option<&'a str>,
-    terminal: bool,
-) -> u8
+pub fn run_tool<
+    'a,
+    R: AllocGlobal + Clock + Files<File = File> + RandomSource + Input + Print + Eprint,
+>(rt: &R, name: &str, options: &ArgMatches<'a>, environment: Option<&'a str>, terminal: bool) -> u8
 where
     R::Reader: Drop,
     ensures { result ≤ 7 }
@@ -61,16 +62,18 @@ fn tell_no_file<R: Eprint>(rt: &R, none: NoFile) -> u8
     cs_words::COMMAND_LINE
 }
 
-/// Reports that a device or a pipe is named, and gives the exit status.
+/// Reports that a pipe or a character device is named, and gives the exit status.
 fn tell_special<R: Eprint>(rt: &R, path: &str) -> u8
     ensures { result ≤ 7 }
 {
-    let _ = eprintln!(rt; "error: {path} is a device or a pipe: a store lies in a regular file");
+    let _ = eprintln!(rt;
+        "error: {path} is a pipe or a character device: a store lies in a regular file, or on a block device"
+    );
     cs_words::NOT_THERE
 }
 
 /// Copies the store in one file into another.
-fn copy_named<R: AllocGlobal + Clock + Files<File = File> + Print + Eprint>(
+fn copy_named<R: AllocGlobal + Clock + Files<File = File> + RandomSource + Print + Eprint>(
     rt: &R,
     options: &ArgMatches,
     manner: Manner,
@@ -79,26 +82,40 @@ fn copy_named<R: AllocGlobal + Clock + Files<File = File> + Print + Eprint>(
 {
     match (options.get_str("source"), options.get_str("target")) {
         (Some(path), Some(_)) if is_special(rt, path) => tell_special(rt, path),
-        (Some(path), Some(target)) => {
-            let place = place_to_read(path, options);
-            copy_file(rt, place, target, options, manner)
-        }
+        (Some(path), Some(target)) => match place_to_read(rt, path, options) {
+            Ok(place) => copy_file(rt, place, target, options, manner),
+            Err(status) => status,
+        },
         _ => cs_words::COMMAND_LINE,
     }
 }
 
-/// A file that is only read, as the options ask for.
-fn place_to_read<'a>(path: &'a str, options: &ArgMatches) -> Place<'a> {
+/// A file that is only read, as the options ask for; or the exit status if `--id` is no identity.
+fn place_to_read<'a, R: Eprint>(
+    rt: &R,
+    path: &'a str,
+    options: &ArgMatches,
+) -> Result<Place<'a>, u8>
+    ensures { IfErr result (λ status. status ≤ 7) }
+{
     let access = if options.get_flag("no-lock") {
         Access::ReadUnlocked
     } else {
         Access::Read
     };
-    Place {
+    let Ok(id) = identity_of(options) else {
+        let _ = eprintln!(rt;
+            "error: --id takes the identity of a store, 32 hex digits or a UUID: `stat` prints it"
+        );
+        return Err(cs_words::COMMAND_LINE);
+    };
+    Ok(Place {
         path,
         access,
         wait: wait_of(options),
-    }
+        id,
+        device_pages: device_pages_of(options),
+    })
 }
 
 /// A file that is read and written, as the options ask for.
@@ -107,11 +124,18 @@ fn place_to_write<'a>(path: &'a str, options: &ArgMatches) -> Place<'a> {
         path,
         access: Access::Write,
         wait: wait_of(options),
+        id: None,
+        device_pages: device_pages_of(options),
     }
 }
 
+/// Whether a store is made over what is there already: a device, or a file whose content is given up.
+fn is_over(options: &ArgMatches) -> bool {
+    options.get_flag("device") || options.get_flag("force")
+}
+
 /// Does the command of this name about a file.
-fn run_on_file<R: AllocGlobal + Clock + Files<File = File> + Input + Print + Eprint>(
+fn run_on_file<R: AllocGlobal + Clock + Files<File = File> + RandomSource + Input + Print + Eprint>(
     rt: &R,
     name: &str,
     options: &ArgMatches,
@@ -123,9 +147,11 @@ where
     ensures { result ≤ 7 }
 {
     match name {
-        "create" => create_in_file(rt, path, options, manner),
+        "create" if !is_over(options) => create_in_file(rt, path, options, manner),
         "bench" => bench_in_file(rt, path, options, manner),
         _ if is_special(rt, path) => tell_special(rt, path),
+        "create" if options.get_flag("device") => create_on_device(rt, path, options, manner),
+        "create" => create_over_file(rt, path, options, manner),
         "get" | "put" | "del" => run_on_shard(rt, name, options, path, manner),
         "list" | "export" if options.get_flag("salvage") => {
             run_salvage(rt, name, options, path, manner)
@@ -179,7 +205,10 @@ fn get_shard<R: AllocGlobal + Clock + Files<File = File> + Print + Eprint>(
 ) -> u8
     ensures { result ≤ 7 }
 {
-    let place = place_to_read(path, options);
+    let place = match place_to_read(rt, path, options) {
+        Ok(place) => place,
+        Err(status) => return status,
+    };
     if options.get_flag("salvage") {
         get_rest(rt, place, id, manner)
     } else {
@@ -197,7 +226,10 @@ fn run_salvage<R: AllocGlobal + Clock + Files<File = File> + Print + Eprint>(
 ) -> u8
     ensures { result ≤ 7 }
 {
-    let place = place_to_read(path, options);
+    let place = match place_to_read(rt, path, options) {
+        Ok(place) => place,
+        Err(status) => return status,
+    };
     if name == "list" {
         return match listing_of(options) {
             Some(listing) => list_rest(rt, place, listing, manner),
@@ -208,7 +240,12 @@ fn run_salvage<R: AllocGlobal + Clock + Files<File = File> + Print + Eprint>(
         let _ = eprintln!(rt; "error: --salvage prints all shards: leave out --from");
         return cs_words::COMMAND_LINE;
     }
-    export_frames(rt, place, manner)
+    let whose = if options.get_flag("any-store") {
+        Whose::OfAny
+    } else {
+        Whose::OfStore
+    };
+    export_frames(rt, place, whose, manner)
 }
 
 /// Repairs a store, and scrubs it.
@@ -224,9 +261,9 @@ fn run_repair<R: AllocGlobal + Clock + Files<File = File> + Print + Eprint>(
         let _ = eprintln!(rt; "error: --accept-loss is for --repair");
         return cs_words::COMMAND_LINE;
     }
-    if options.get_flag("as-of") || options.get_flag("no-lock") {
+    if options.get_flag("as-of") || options.get_flag("no-lock") || options.contains_id("id") {
         let _ = eprintln!(rt;
-            "error: --repair writes to the file: leave out --as-of and --no-lock"
+            "error: --repair writes to the file: leave out --as-of, --id and --no-lock"
         );
         return cs_words::COMMAND_LINE;
     }
@@ -248,10 +285,17 @@ fn run_query<R: AllocGlobal + Clock + Files<File = File> + Print + Eprint>(
 ) -> u8
     ensures { result ≤ 7 }
 {
+    if options.get_flag("any-store") {
+        let _ = eprintln!(rt; "error: --any-store is for --salvage");
+        return cs_words::COMMAND_LINE;
+    }
     let place = if name == "reclaim" {
         place_to_write(path, options)
     } else {
-        place_to_read(path, options)
+        match place_to_read(rt, path, options) {
+            Ok(place) => place,
+            Err(status) => return status,
+        }
     };
     match query_of(name, options, manner.style) {
         Some(query) => ask_file(rt, place, options.get_flag("as-of"), query, manner),

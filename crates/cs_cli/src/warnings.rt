@@ -2,7 +2,7 @@
 ghost use Rattle.std.specs.Prelude.{◌≤◌};
 
 use crate::openings::{Opened, Unopened};
-use cs_frame::Locator;
+use cs_frame::{Locator, StoreId};
 use cs_mount::Finding;
 use cs_tools::rescue::DamagedRun;
 use cs_tools::{Salvaged, Scanned, Style, explain, may_be_lost, tell, warn};
@@ -20,8 +20,38 @@ pub fn warn_text<R: Eprint>(rt: &R, text: Result<String, AllocError>, style: Sty
     }
 }
 
-/// Warns of each page of an opened store that is damaged and whose other copy is used. If one of them is the root's, the newest root may be lost, and with it commands:
-/// that is said first. So many commands it was opened with.
+/// Warns that a device has more pages than it had when its store was made.
+pub fn warn_of_length<R: AllocGlobal + Eprint>(rt: &R, all: u64, pages: u64, style: Style) {
+    let text = format!(in rt.alloc();
+        "the device has {all} pages, and the store {pages}: it is read as of its first {pages}"
+    );
+    warn_text(rt, text, style);
+}
+
+/// Warns that the store that was asked for isn't there, but the one with this identity, or one of format 2.
+pub fn warn_of_other<R: AllocGlobal + Eprint>(
+    rt: &R,
+    id: StoreId,
+    found: Option<StoreId>,
+    style: Style,
+) {
+    let id = Uuid::from_bytes(id.0).simple();
+    let text = match found {
+        Some(found) => {
+            let found = Uuid::from_bytes(found.0).simple();
+            format!(in rt.alloc();
+                "the store with the identity {id} is not there: the one that is there has {found}"
+            )
+        }
+        None => format!(in rt.alloc();
+            "the store with the identity {id} is not there: the one that is there has none"
+        ),
+    };
+    warn_text(rt, text, style);
+}
+
+/// Warns of each page of an opened store that is damaged and whose other copy is used. If one of them is the root's,
+/// the newest root may be lost, and with it commands: that is said first. So many commands it was opened with.
 pub fn warn_of<R: AllocGlobal + Eprint, S>(
     rt: &R,
     opened: &Opened<S>,
@@ -146,7 +176,8 @@ pub fn warn_of_older<R: Eprint>(rt: &R, style: Style) {
     );
 }
 
-/// Warns of what isn't known of a store that was read for what can be got of it, as of the root of this version: where a later one is recorded, and where a run can't be read.
+/// Warns of what isn't known of a store that was read for what can be got of it, as of the root of this version: where
+/// a later one is recorded, and where a run can't be read.
 pub fn warn_of_rescue<R: AllocGlobal + Eprint>(
     rt: &R,
     root: Option<u64>,

@@ -11,7 +11,8 @@ use Rattle.cs_frame.specs.Formats.{refusal_of}
 use Rattle.law_machine.specs.Refusal.{BadDigest, BadLength, BadMagic, BadPadding, BadVersion, Misplaced, Refusal as Ground}
 use Rattle.law_refinement.specs.Refusals.{refusal_for}
 
--- the refusal is that of damage: only faults of this ground have it, and neither the device nor want of a place or number
+-- the refusal is that of damage: only faults of this ground have it, and neither the device nor want of a place or
+-- number
 pub record IsDamage (r : Code) : Type 0 where
   pub ground : Ground
   pub number : r ≡ refusal_for ground

@@ -43,4 +43,5 @@ module _ (x : ExtentsState) (s : State) (same : s.world.extents ≡ extents_of x
       within l payload reads,
       read_back l.extent l.page ((formats_of (shape x)).frame ChunkFrame payload) reads.passes.inside.0 reads.inside reads.stand,
       reads.marked,
+      reads.long,
     )

@@ -1,13 +1,15 @@
 -- Disks on which the sections of a superblock and a root are written.
-use Rattle.std.proofs.Common.{◌≡◌, ◌≢◌, ◌∙◌, ◌⊎◌, inl, inr, ⊎_elim, ℕ, suc, ◌+◌, ◌*◌, ◌<◌, ◌==◌, Bool, true, false, List, [], ◌∷◌, ◌++◌, append_assoc, arith, eq-eqb, ne_eqb, if◌then◌else◌, length, replicate, refl, sym, ap, subst, Result, Ok, Err, OnErr, OnOk}
+use Rattle.std.proofs.Common.{◌≡◌, ◌≢◌, ◌∙◌, ◌⊎◌, inl, inr, ⊎_elim, ℕ, suc, ◌+◌, ◌*◌, ◌<◌, ◌==◌, Bool, true, false, List, [], ◌∷◌, ◌++◌, append_assoc, arith, eq-eqb, ne_eqb, if◌then◌else◌, length, refl, sym, ap, subst, Result, Ok, Err, OnErr, OnOk}
 use Rattle.std.specs.Prelude.{All}
 use Rattle.std.proofs.lemmas.Bool.{cases_eq}
 use Rattle.std.proofs.lemmas.List.{append-nil}
 use Rattle.cs_disk.proofs.Images.{All_cons, applied_push, length-applied, page_other, page_same}
 use Rattle.cs_disk.specs.Disk.{Image, State as DiskState, Write, flushed, page, seen, written}
-use Rattle.cs_frame.specs.Geometries.{device_pages}
-use Rattle.cs_frame.specs.Roots.{SpellsRoot}
+use Rattle.cs_frame.proofs.GeometryLaws.{pages_on_device}
+use Rattle.cs_frame.specs.Geometries.{IsGeometry, device_pages}
+use Rattle.cs_frame.specs.Roots.{SpellsRoot, identity_in}
 use Rattle.cs_core.specs.Started.{AreNewWritten, IsHead, IsHeadWritten, IsNewOn, head_page, SpellsNew}
+use Rattle.law_machine.specs.Format.{Format}
 
 -- whatever the refusal
 pub on_err : {T E : Type 0} (r : Result T E) (A : Type 0) → A → OnErr r A
@@ -22,10 +24,12 @@ first_page extents pages j is = let test : (j == 0) ≡ true = eq-eqb j 0 is in 
 later_page : (extents pages j : ℕ) → (j ≡ 0 → ⊥) → head_page extents pages j ≡ 1 + extents * pages + j
 later_page extents pages j some = let test : (j == 0) ≡ false = ne_eqb j 0 some in ap (λ (b : Bool). if b then 0 else 1 + extents * pages + j) test
 
-pub head_below : (format extents pages sections j : ℕ) → j < sections → head_page extents pages j < device_pages format extents pages sections
-head_below format extents pages sections j lt = ⊎_elim
-    (λ (is : j ≡ 0). let at = first_page extents pages j is in omega (arith, at, lt))
-    (λ (some : j ≡ 0 → ⊥). let at = later_page extents pages j some in omega (arith, at, lt))
+pub head_below : (format : Format) (extents pages sections j : ℕ) → IsGeometry format extents pages sections → j < sections → head_page extents pages j < device_pages format extents pages sections
+head_below format extents pages sections j is_one lt =
+    let on = pages_on_device format extents pages sections is_one in
+    ⊎_elim
+    (λ (is : j ≡ 0). let at = first_page extents pages j is in omega (arith, at, lt, on))
+    (λ (some : j ≡ 0 → ⊥). let at = later_page extents pages j some in omega (arith, at, lt, on))
     (cases_eq j 0)
 
 pub head_is : (extents pages j : ℕ) → IsHead extents pages (head_page extents pages j)
@@ -91,7 +95,7 @@ wrote_here d p bytes inside = ap (λ (i : Image). page i p) (applied_push d.dura
 wrote_there : (d : DiskState) (p q : ℕ) (bytes : List ℕ) → q ≢ p → page (seen (written d p bytes)) q ≡ page (seen d) q
 wrote_there d p q bytes other = ap (λ (i : Image). page i q) (applied_push d.durable d.volatile (p, bytes)) ∙ page_other (seen d) p q bytes other
 
-module _ (format extents pages sections : ℕ) (old : DiskState) (sized : length old.durable ≡ device_pages format extents pages sections) where
+module _ (format : Format) (extents pages sections : ℕ) (is_one : IsGeometry format extents pages sections) (old : DiskState) (sized : length old.durable ≡ device_pages format extents pages sections) where
   pub none_written : AreNewWritten format extents pages sections 0 old old
   none_written = record { head = head_none extents pages old; each = λ j lt. absurd (omega (arith, lt)) }
 
@@ -101,7 +105,7 @@ module _ (format extents pages sections : ℕ) (old : DiskState) (sized : length
       → AreNewWritten format extents pages sections (count + 1) old new
   more_written count mid new bytes so_far lt spelled is =
       let long : length mid.durable ≡ device_pages format extents pages sections = ap length so_far.head.durable ∙ sized in
-      let below : head_page extents pages count < device_pages format extents pages sections = head_below format extents pages sections count lt in
+      let below : head_page extents pages count < device_pages format extents pages sections = head_below format extents pages sections count is_one lt in
       let inside : head_page extents pages count < length mid.durable = omega (arith, below, long) in
       subst (λ (d : DiskState). AreNewWritten format extents pages sections (count + 1) old d) (sym is) (record {
         head = head_more extents pages old mid (head_page extents pages count) bytes (head_is extents pages count) so_far.head;
@@ -117,22 +121,23 @@ module _ (format extents pages sections : ℕ) (old : DiskState) (sized : length
       })
 
   -- and then the root, and all is durable
-  pub new_on : (mid new : DiskState) (bytes : List ℕ) → AreNewWritten format extents pages sections sections old mid → SpellsRoot bytes format 1 0 [] → 0 < sections → new ≡ flushed (written mid 1 bytes)
+  pub new_on : (mid new : DiskState) (bytes : List ℕ) → AreNewWritten format extents pages sections sections old mid → SpellsRoot bytes (identity_in format) 1 0 [] → new ≡ flushed (written mid 1 bytes)
       → IsNewOn format extents pages sections old new
-  new_on mid new bytes so_far spelled some is =
+  new_on mid new bytes so_far spelled is =
       let long : length mid.durable ≡ device_pages format extents pages sections = ap length so_far.head.durable ∙ sized in
+      let on = pages_on_device format extents pages sections is_one in
       subst (λ (d : DiskState). IsNewOn format extents pages sections old d) (sym is) (record {
         formatted = (written mid 1 bytes, head_more extents pages old mid 1 bytes (inl (omega arith)) so_far.head, refl);
         superblock = λ j lt. subst (λ (b : List ℕ). SpellsNew format extents pages sections j b)
             (sym (wrote_there mid 1 (head_page extents pages j) bytes (head_not_root extents pages j))) (so_far.each j lt);
-        root = subst (λ (b : List ℕ). SpellsRoot b format 1 0 []) (sym (wrote_here mid 1 bytes (omega (arith, long, some)))) spelled;
+        root = subst (λ (b : List ℕ). SpellsRoot b (identity_in format) 1 0 []) (sym (wrote_here mid 1 bytes (omega (arith, long, on, is_one.fewest_sections)))) spelled;
       })
 
 -- whatever the last writes answered
-pub heads_written : {T E : Type 0} (format extents pages sections : ℕ) (old : DiskState) → length old.durable ≡ device_pages format extents pages sections → (r : Result T E) (mid new : DiskState) (bytes : List ℕ)
-    → AreNewWritten format extents pages sections sections old mid → SpellsRoot bytes format 1 0 [] → 0 < sections → OnOk r (new ≡ flushed (written mid 1 bytes)) → OnOk r (IsNewOn format extents pages sections old new)
-heads_written format extents pages sections old sized (Ok t) mid new bytes so_far spelled some is = new_on format extents pages sections old sized mid new bytes so_far spelled some is
-heads_written format extents pages sections old sized (Err e) mid new bytes so_far spelled some is = tt
+pub heads_written : {T E : Type 0} (format : Format) (extents pages sections : ℕ) → IsGeometry format extents pages sections → (old : DiskState) → length old.durable ≡ device_pages format extents pages sections → (r : Result T E) (mid new : DiskState) (bytes : List ℕ)
+    → AreNewWritten format extents pages sections sections old mid → SpellsRoot bytes (identity_in format) 1 0 [] → OnOk r (new ≡ flushed (written mid 1 bytes)) → OnOk r (IsNewOn format extents pages sections old new)
+heads_written format extents pages sections is_one old sized (Ok t) mid new bytes so_far spelled is = new_on format extents pages sections is_one old sized mid new bytes so_far spelled is
+heads_written format extents pages sections is_one old sized (Err e) mid new bytes so_far spelled is = tt
 
 pub heads_failed : {T E : Type 0} (extents pages : ℕ) (old : DiskState) (r : Result T E) (mid new : DiskState) (bytes : List ℕ) → IsHeadWritten extents pages old mid
     → OnErr r ((new ≡ mid) ⊎ (new ≡ written mid 1 bytes)) → OnErr r (IsHeadWritten extents pages old new)

@@ -8,6 +8,7 @@ use Rattle.cs_extent.specs.Appended.{AreAppendedBy, IsAppendedBy, IsReady}
 use Rattle.cs_extent.specs.Frames.{AreResetsStaged, root_family}
 use Rattle.cs_extent.specs.State.{IsWhole, State as ExtentsState, extents_of, shape}
 use Rattle.cs_chunk.proofs.Chunkings.{length-spelled}
+use Rattle.cs_frame.specs.FormatNumbers.{number_in}
 use Rattle.cs_frame.specs.declared.locators.Locator.{Locator}
 use Rattle.cs_frame.specs.Formats.{formats_of, place_of}
 use Rattle.cs_frame.specs.Frames.{spelled_frame}
@@ -45,9 +46,9 @@ pub places_there : (b : Bool) (x : ExtentsState) (g : GraphState) (r : Reason) (
 places_there b x g r S [] [] y h same a p among = absurd among
 places_there b x g r S (c ∷ cs) (l ∷ ls) y h same a p among = ⊎_elim
     (λ (here : p ≡ place_of l).
-    let some : 1 ≤ length (spelled_frame 0 c) = omega (arith, length-spelled 0 c) in
-    let there : l.extent < S.extents = subst (λ (T : Shape). l.extent < T.extents) (sym same) (extent_there b x g r (spelled_frame 0 c) l a.0 a.1 a.2) in
-    let fits : l.page + length (spelled_frame 0 c) ≤ S.pages = subst (λ (T : Shape). l.page + length (spelled_frame 0 c) ≤ T.pages) (sym same) (frame_fits b x g r (spelled_frame 0 c) l a.0 a.1 a.2) in
+    let some : 1 ≤ length (spelled_frame (number_in S.format) 0 c) = omega (arith, length-spelled (number_in S.format) 0 c) in
+    let there : l.extent < S.extents = subst (λ (T : Shape). l.extent < T.extents) (sym same) (extent_there b x g r (spelled_frame (number_in S.format) 0 c) l a.0 a.1 a.2) in
+    let fits : l.page + length (spelled_frame (number_in S.format) 0 c) ≤ S.pages = subst (λ (T : Shape). l.page + length (spelled_frame (number_in S.format) 0 c) ≤ T.pages) (sym same) (frame_fits b x g r (spelled_frame (number_in S.format) 0 c) l a.0 a.1 a.2) in
     let below : l.page < S.pages = omega (arith, some, fits) in
     subst (λ (q : Place). Inside S q.extent q.page) (sym here) (there, below))
     (λ (behind : p ∈ map place_of ls). places_there b a.0 a.1 r S cs ls y h (same ∙ sym a.2.same_shape) a.3 p behind)
@@ -133,13 +134,13 @@ pub swept_newest : (i : IndexState) (x : ExtentsState) (g : GraphState) (v comma
 swept_newest i x g v commands j y h rule staged swept =
     swept_part false (deletions_go (shape x) i (stage_takes (shape x) i)) (stage_takes (shape x) i) i x g ForRun j.runs y staged.between rule staged.appended swept
 
-pub moves_retired : (i : IndexState) (x : ExtentsState) (g : GraphState) (e v commands : ℕ) (j : IndexState) (y : ExtentsState) (h : GraphState) → 1 ≤ x.sections → IsRetired i x g e v commands j y h → shape y ≡ shape x → KeepsDevice x g y h
+pub moves_retired : (i : IndexState) (x : ExtentsState) (g : GraphState) (e v commands : ℕ) (j : IndexState) (y : ExtentsState) (h : GraphState) → 1 < page_total (shape x) → IsRetired i x g e v commands j y h → shape y ≡ shape x → KeepsDevice x g y h
 moves_retired i x g e v commands j y h some r same =
     let merged : KeepsDevice x g r.0 h = moves_merged i x g ForMove v commands j r.0 h some r.1 in
     moves_then x g r.0 h y h merged (moves_extents r.0 h y (same ∙ sym merged.same_shape))
 
 -- an extent is retired
-pub swept_retired : (i : IndexState) (x : ExtentsState) (g : GraphState) (e v commands : ℕ) (j : IndexState) (y : ExtentsState) (h : GraphState) → (shape x).apart ≡ false → 1 ≤ x.sections → IsRetired i x g e v commands j y h → shape y ≡ shape x → AreSwept x → AreSwept y
+pub swept_retired : (i : IndexState) (x : ExtentsState) (g : GraphState) (e v commands : ℕ) (j : IndexState) (y : ExtentsState) (h : GraphState) → (shape x).apart ≡ false → 1 < page_total (shape x) → IsRetired i x g e v commands j y h → shape y ≡ shape x → AreSwept x → AreSwept y
 swept_retired i x g e v commands j y h rule some r same swept = only_before y (ap (λ (S : Shape). S.apart) same ∙ rule) (λ d is.
     let mid : AreSwept r.0 = swept_merged i x g ForMove v commands j r.0 h rule r.1 swept in
     let shapes : shape r.0 ≡ shape x = (moves_merged i x g ForMove v commands j r.0 h some r.1).same_shape in

@@ -1,10 +1,10 @@
 -- What a move of a chunk keeps.
-use Rattle.std.proofs.Common.{◌≡◌, ◌∙◌, ◌⊎◌, false, inl, inr, ⊎_elim, ℕ, zero, suc, List, [], ◌∷◌, Some, None, Ok, Err, ap, arith, length, refl, sym, subst}
+use Rattle.std.proofs.Common.{◌≡◌, ◌∙◌, ◌⊎◌, false, inl, inr, ⊎_elim, ℕ, zero, suc, List, [], ◌∷◌, Some, None, Ok, Err, ap, arith, refl, sym, subst}
 use Rattle.std.specs.Prelude.{OnErr, OnOk, Option, Result}
 use Rattle.cs_refusal.specs.declared.refusals.Refusal.{Refusal as Code}
 use Rattle.cs_deps.specs.State.{State as GraphState}
 use Rattle.cs_extent.specs.Appended.{IsReady}
-use Rattle.cs_extent.specs.State.{State as ExtentsState, extents_of, shape}
+use Rattle.cs_extent.specs.State.{State as ExtentsState, shape}
 use Rattle.cs_frame.specs.declared.identifiers.ShardId.{ShardId}
 use Rattle.cs_frame.specs.Formats.{place_of}
 use Rattle.cs_index.specs.State.{State as IndexState, id_number, index_of}

@@ -34,6 +34,7 @@ use Rattle.cs_core.specs.Stored.{AreInside, AreSwept, IsKept, IsKeptApart, Keeps
 use Rattle.cs_core.proofs.PutsMeant.{live_means, settled_means, then_means}
 use Rattle.cs_core.proofs.Kept.{kept_on, not_both, noted_on, only_apart}
 use Rattle.cs_core.proofs.Moves.{AddsRoot, last_root, moves_extents, moves_newest, moves_refused, moves_then, root_newest}
+use Rattle.cs_reader.specs.ImageReads.{page_total}
 
 -- where chunks and runs may lie on one extent nothing of this is asked
 pub kept_together : (x y : ExtentsState) (j : IndexState) (copies : List Copy) → shape y ≡ shape x → (shape x).apart ≡ false → (shape y).apart ≡ true → IsKeptApart y j copies
@@ -121,7 +122,7 @@ module _ (s : IndexState) (x : ExtentsState) (g : GraphState) (v commands : ℕ)
   no_table : IsStagedApart s x g v commands t y h → t.table ≡ []
   no_table staged = ⊎_elim (λ (m : Newest). m.table) (λ (m : All). m.1.table) staged
 
-  moves_staged : 1 ≤ x.sections → IsStagedApart s x g v commands t y h → KeepsDevice x g y h
+  moves_staged : 1 < page_total (shape x) → IsStagedApart s x g v commands t y h → KeepsDevice x g y h
   moves_staged some staged = ⊎_elim
       (λ (m : Newest). moves_newest true (deletions_go (shape x) s (takes_apart (shape x) s)) (takes_apart (shape x) s) s x g ForRun v commands t y h some m)
       (λ (m : All). moves_newest true (deletions_go (shape x) s (length s.runs)) (length s.runs) s x g ForMerge v commands t y h some m.1)
@@ -147,7 +148,7 @@ module _ (s : IndexState) (x : ExtentsState) (g : GraphState) (v commands : ℕ)
 
 module _ (s : IndexState) (x : ExtentsState) (g : GraphState) (copies : List Copy) (v commands : ℕ) (t : IndexState) (y : ExtentsState) (h : GraphState) (after : List Copy)
     (done : IsSweepStaged s x g copies v commands t y h after) where
-  pub swept_moves : 1 ≤ x.sections → KeepsDevice x g y h
+  pub swept_moves : 1 < page_total (shape x) → KeepsDevice x g y h
   swept_moves some = moves_then x g done.mid h y h (moves_staged s x g v commands t done.mid h some done.staged) (moves_extents done.mid h y done.rooted.same_shape)
 
   pub swept_adds : root_family < length h.staging.latest → AddsRoot g h v
@@ -254,9 +255,9 @@ settled_inside S s counted copies settled placed old id l among =
 
 module _ (s : IndexState) (x : ExtentsState) (g : GraphState) (copies : List Copy) (e v commands : ℕ) (t : IndexState) (y : ExtentsState) (h : GraphState) (after : List Copy)
     (done : IsRetiredApart s x g copies e v commands t y h after) where
-  pub retired_moves : 1 ≤ x.sections → KeepsDevice x g y h
+  pub retired_moves : 1 < page_total (shape x) → KeepsDevice x g y h
   retired_moves some = moves_then x g done.unmarked g y h (moves_extents x g done.unmarked done.ended.same_shape)
-      (swept_moves done.counted done.unmarked g [] v commands t y h after done.staged (subst (λ (S : Shape). 1 ≤ S.sections) (sym done.ended.same_shape) some))
+      (swept_moves done.counted done.unmarked g [] v commands t y h after done.staged (subst (λ (S : Shape). 1 < page_total S) (sym done.ended.same_shape) some))
 
   pub retired_adds : root_family < length h.staging.latest → AddsRoot g h v
   retired_adds lt = swept_adds done.counted done.unmarked g [] v commands t y h after done.staged lt

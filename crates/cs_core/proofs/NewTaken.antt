@@ -1,11 +1,11 @@
 -- Disks that take what is written of a new store.
-use Rattle.std.proofs.Common.{◌≡◌, ◌≢◌, ◌∙◌, ℕ, ◌+◌, ◌<◌, ◌≤◌, List, [], Result, Ok, Err, OnOk, arith, subst, sym}
+use Rattle.std.proofs.Common.{◌≡◌, ◌≢◌, ◌∙◌, ℕ, ◌+◌, List, Result, Ok, Err, OnOk, arith, subst, sym}
 use Rattle.cs_disk.specs.declared.disk.PageDisk.{Ghosts as PageDisk}
-use Rattle.cs_frame.specs.Roots.{SpellsRoot}
 use Rattle.cs_core.specs.Started.{TakesNew, head_page}
 use Rattle.cs_core.proofs.Heads.{head_apart, head_not_root}
+use Rattle.law_machine.specs.Format.{Format}
 
-module _ {D : Type 0} (disks : PageDisk D) (format extents pages sections : ℕ) where
+module _ {D : Type 0} (disks : PageDisk D) (format : Format) (extents pages sections : ℕ) where
   -- a section was written
   pub others_taken : {T E : Type 0} (r : Result T E) (before after : D) (j number : ℕ) → number ≡ head_page extents pages j
       → OnOk r ((other : ℕ) (later : List ℕ) → other ≢ number → disks.takes before other later → disks.takes after other later)

@@ -10,11 +10,12 @@ use Rattle.cs_disk.specs.Disk.{Elapses, Image, LeavesOnly, MayLeave, State as Di
 use Rattle.cs_extent.specs.State.{State as ExtentsState, extents_at, shape}
 use Rattle.cs_frame.specs.declared.locators.Locator.{Locator}
 use Rattle.cs_frame.specs.Geometries.{device_pages}
-use Rattle.cs_frame.specs.Roots.{SpellsRoot}
+use Rattle.cs_frame.specs.Roots.{SpellsRoot, identity_in}
 use Rattle.cs_reader.specs.Counts.{HasCount}
 use Rattle.cs_reader.specs.ImageReads.{IsRunRead}
 use Rattle.cs_index.specs.declared.stored_runs.StoredRun.{StoredRun}
 use Rattle.cs_index.specs.State.{newest_first}
+use Rattle.law_machine.specs.Format.{Format}
 use Rattle.law_machine.specs.Index.{entries_of, live_at, named_weight}
 use Rattle.cs_core.specs.declared.core_openings.OpenedStore.{OpenedStore}
 use Rattle.cs_reader.specs.declared.heads.Head.{Head}
@@ -39,7 +40,7 @@ module _ (honest : Type 0) (count : ℕ) (view : ℕ → List ℕ) (head : Head)
   pub root_lost : honest → head.root_lost ≡ true → IsNoAnswer RootLost ⊎ IsWhyNotOpened count view RootLost
   root_lost h lost =
       let later : IsLater = passed IsLater IsNewest head.root_lost is.lost lost in
-      inr (inr (inr (inr (inr (inr (inr (inl (record {
+      inr (inr (inr (inr (inr (inr (inr (inr (inl (record {
         format = is.format;
         versions = is.versions;
         records = is.records;
@@ -51,7 +52,7 @@ module _ (honest : Type 0) (count : ℕ) (view : ℕ → List ℕ) (head : Head)
         one_of_them = later.1;
         later = later.2;
         refusal = refl;
-      }))))))))
+      })))))))))
 
   -- or none does
   pub is_newest : head.root_lost ≡ false → IsNewest
@@ -59,14 +60,14 @@ module _ (honest : Type 0) (count : ℕ) (view : ℕ → List ℕ) (head : Head)
 
   -- the runs are read at the places of the root
   module _ (newest : IsNewest) (places : List Locator) (listed : places ≡ head.root.runs.items) where
-    root_there : honest → SpellsRoot (view 1) is.format head.root.version head.root.commands places
-    root_there h = subst (λ (ls : List Locator). SpellsRoot (view 1) is.format head.root.version head.root.commands ls) (sym listed) (is.root h)
+    root_there : honest → SpellsRoot (view 1) (identity_in is.format) head.root.version head.root.commands places
+    root_there h = subst (λ (ls : List Locator). SpellsRoot (view 1) (identity_in is.format) head.root.version head.root.commands ls) (sym listed) (is.root h)
 
     pub run_damaged : honest → (r : Refusal) → IsNoAnswer r ⊎ IsWhyNoRuns head.extents view places r → IsNoAnswer r ⊎ IsWhyNotOpened count view r
     run_damaged h r why = ⊎_elim (λ n. inl n)
         (λ (w : IsWhyNoRuns head.extents view places r).
         let v : IsWhyNoRuns (extents_at is.format is.pages (length is.versions) is.written) view places r = subst (λ (y : ExtentsState). IsWhyNoRuns y view places r) is.extents w in
-        inr (inr (inr (inr (inr (inr (inr (inr (inl (record {
+        inr (inr (inr (inr (inr (inr (inr (inr (inr (inl (record {
           format = is.format;
           versions = is.versions;
           records = is.records;
@@ -80,12 +81,12 @@ module _ (honest : Type 0) (count : ℕ) (view : ℕ → List ℕ) (head : Head)
           place = v.place;
           next = v.next;
           why = v.why;
-        }))))))))))
+        })))))))))))
         why
 
     module _ (runs : List StoredRun) (read : honest → (map (λ run. run.place) runs ≡ places) × AllByRecursion (IsRunRead head.extents view) runs) where
-      root_page : honest → SpellsRoot (view 1) is.format head.root.version head.root.commands (map (λ run. run.place) runs)
-      root_page h = subst (λ (ps : List Locator). SpellsRoot (view 1) is.format head.root.version head.root.commands ps) (sym (read h).0) (root_there h)
+      root_page : honest → SpellsRoot (view 1) (identity_in is.format) head.root.version head.root.commands (map (λ run. run.place) runs)
+      root_page h = subst (λ (ps : List Locator). SpellsRoot (view 1) (identity_in is.format) head.root.version head.root.commands ps) (sym (read h).0) (root_there h)
 
       runs_read : honest → AllByRecursion (IsRunRead (extents_at is.format is.pages (length is.versions) is.written) view) runs
       runs_read h = subst (λ (y : ExtentsState). AllByRecursion (IsRunRead y view) runs) is.extents (read h).1
@@ -106,7 +107,7 @@ module _ (honest : Type 0) (count : ℕ) (view : ℕ → List ℕ) (head : Head)
           → IfOk result (λ found. found.commands ≡ head.root.commands)
           → IfOk result (λ found. HasCount (λ id. live_at (entries_of (newest_first runs)) id ≢ []) found.live)
           → OnOk result (AreLocatedBy head.extents runs) → OnOk result (named_weight (shape head.extents).weigh (entries_of (newest_first runs)) ≤ (shape head.extents).most_weight)
-          → IfOk result (λ found. (format : ℕ) × (versions : List ℕ) × (records : List ℕ) × (pages : ℕ) × (written : List (ℕ × ℕ)) × (count ≡ device_pages format (length written) pages (length versions))
+          → IfOk result (λ found. (format : Format) × (versions : List ℕ) × (records : List ℕ) × (pages : ℕ) × (written : List (ℕ × ℕ)) × (count ≡ device_pages format (length written) pages (length versions))
           × IsStoreMade honest view format versions records pages written found.commands found.live found.store)
       store_made (Ok found) made same counted located named =
           let loaded = subst (λ (y : ExtentsState). IsLoaded y head.graph head.root.version head.root.commands runs found.store) is.extents made in (
@@ -136,7 +137,7 @@ module _ (honest : Type 0) (count : ℕ) (view : ℕ → List ℕ) (head : Head)
       index_damaged h (Err r) why = ⊎_elim
           (λ (m : r ≡ OutOfMemory). inl (inr m))
           (λ (w : (r ≡ NotAStore) × ((¬ AreLocatedBy head.extents runs) ⊎ ((shape head.extents).most_weight < named_weight (shape head.extents).weigh (entries_of (newest_first runs))))).
-          inr (inr (inr (inr (inr (inr (inr (inr (inr (record {
+          inr (inr (inr (inr (inr (inr (inr (inr (inr (inr (record {
             format = is.format;
             versions = is.versions;
             records = is.records;
@@ -148,17 +149,18 @@ module _ (honest : Type 0) (count : ℕ) (view : ℕ → List ℕ) (head : Head)
             runs_read = runs_read h;
             why = subst (λ (y : ExtentsState). (¬ AreLocatedBy y runs) ⊎ ((shape y).most_weight < named_weight (shape y).weigh (entries_of (newest_first runs)))) is.extents w.1;
             refusal = w.0;
-          }))))))))))
+          })))))))))))
           why
 
--- where no head is read no store is
+-- if no head is read, no store is
 pub not_opened : (count : ℕ) (view : ℕ → List ℕ) (r : Refusal) → IsNoAnswer r ⊎ IsWhyNoHead count view r → IsNoAnswer r ⊎ IsWhyNotOpened count view r
 not_opened count view r (inl none) = inl none
 not_opened count view r (inr (inl why)) = inr (inr (inl why))
 not_opened count view r (inr (inr (inl why))) = inr (inr (inr (inl why)))
 not_opened count view r (inr (inr (inr (inl why)))) = inr (inr (inr (inr (inl why))))
 not_opened count view r (inr (inr (inr (inr (inl why))))) = inr (inr (inr (inr (inr (inl why)))))
-not_opened count view r (inr (inr (inr (inr (inr why))))) = inr (inr (inr (inr (inr (inr (inl why))))))
+not_opened count view r (inr (inr (inr (inr (inr (inl why)))))) = inr (inr (inr (inr (inr (inr (inl why))))))
+not_opened count view r (inr (inr (inr (inr (inr (inr why)))))) = inr (inr (inr (inr (inr (inr (inr (inl why)))))))
 
 -- where runs aren't read no store is, for the same cause
 pub caused_still : {T U : Type 0} (before now : ℕ) (read : Result U Refusal) (r : Refusal) → read ≡ Err r → IsCaused before now read → IsCaused {T = T} before now (Err r)
@@ -167,7 +169,7 @@ caused_still before now read r is caused = record { later = caused.later; failed
 -- ---- what was read later was there before
 
 module _ (old mid : DiskState) (before now : Type 0) (later : before → now) (same : before → seen mid ≡ seen old) where
-  made_before : (format : ℕ) (versions records : List ℕ) (pages : ℕ) (written : List (ℕ × ℕ)) (result : Result OpenedStore Refusal)
+  made_before : (format : Format) (versions records : List ℕ) (pages : ℕ) (written : List (ℕ × ℕ)) (result : Result OpenedStore Refusal)
       → IfOk result (λ found. IsStoreMade now (page (seen mid)) format versions records pages written found.commands found.live found.store)
       → IfOk result (λ found. IsStoreMade before (page (seen old)) format versions records pages written found.commands found.live found.store)
   made_before format versions records pages written (Ok found) made = record {
@@ -182,8 +184,8 @@ module _ (old mid : DiskState) (before now : Type 0) (later : before → now) (s
   made_before format versions records pages written (Err r) made = tt
 
   pub some_made : (count after : ℕ) (result : Result OpenedStore Refusal) → after ≡ count
-      → IfOk result (λ found. (format : ℕ) × (versions : List ℕ) × (records : List ℕ) × (pages : ℕ) × (written : List (ℕ × ℕ)) × (after ≡ device_pages format (length written) pages (length versions)) × IsStoreMade now (page (seen mid)) format versions records pages written found.commands found.live found.store)
-      → IfOk result (λ found. (format : ℕ) × (versions : List ℕ) × (records : List ℕ) × (pages : ℕ) × (written : List (ℕ × ℕ)) × (count ≡ device_pages format (length written) pages (length versions)) × IsStoreMade before (page (seen old)) format versions records pages written found.commands found.live found.store)
+      → IfOk result (λ found. (format : Format) × (versions : List ℕ) × (records : List ℕ) × (pages : ℕ) × (written : List (ℕ × ℕ)) × (after ≡ device_pages format (length written) pages (length versions)) × IsStoreMade now (page (seen mid)) format versions records pages written found.commands found.live found.store)
+      → IfOk result (λ found. (format : Format) × (versions : List ℕ) × (records : List ℕ) × (pages : ℕ) × (written : List (ℕ × ℕ)) × (count ≡ device_pages format (length written) pages (length versions)) × IsStoreMade before (page (seen old)) format versions records pages written found.commands found.live found.store)
   some_made count after (Ok found) size made = (made.0, made.1, made.2, made.3, made.4, sym size ∙ made.5, made_before made.0 made.1 made.2 made.3 made.4 (Ok found) made.6)
   some_made count after (Err r) size made = tt
 

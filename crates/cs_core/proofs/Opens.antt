@@ -23,6 +23,7 @@ use Rattle.cs_index.specs.State.{newest_first}
 use Rattle.law_machine.proofs.Unique.{one_recovery}
 use Rattle.law_machine.specs.Device.{Shape}
 use Rattle.law_machine.specs.Element.{Map, Run}
+use Rattle.law_machine.specs.Format.{Format}
 use Rattle.law_machine.specs.Geometry.{most_weight_in, shape_of}
 use Rattle.law_machine.specs.Index.{entries_of, live_at}
 use Rattle.law_machine.specs.Open.{opened_state, root_read}
@@ -40,7 +41,7 @@ use Rattle.cs_reader.proofs.Exactly.{none_fails, recovers_here, same_numbers}
 use Rattle.cs_reader.proofs.Located.{hidden_gone, hidden_stand}
 use Rattle.cs_core.proofs.RootsRead.{noted, read_alone}
 
-module _ (image : Image) (format : ℕ) (versions records : List ℕ) (pages : ℕ) (written : List (ℕ × ℕ)) (root commands : ℕ) (runs : List StoredRun) (y : ExtentsState)
+module _ (image : Image) (format : Format) (versions records : List ℕ) (pages : ℕ) (written : List (ℕ × ℕ)) (root commands : ℕ) (runs : List StoredRun) (y : ExtentsState)
     (opened : AreExtentsOpened (extents_at format pages (length versions) written) (index_at (newest_first runs) format (most_weight_in format pages)) root y)
     (are : ArePages (device_pages format (length written) pages (length versions)) (page image)) (read : IsStoreReadBy (page image) format versions records pages written root commands runs) where
   abbrev x : ExtentsState
@@ -61,7 +62,7 @@ module _ (image : Image) (format : ℕ) (versions records : List ℕ) (pages : �
         subst (λ (T : Shape). Starts y T) (sym opened.same_shape) (
           s.0,
           s.1,
-          subst (λ (f : ℕ). IsStartOf y (graph_at versions root) (index_at (newest_first runs) f (most_weight_in y.format y.pages)) image (opened_state (shape x) (formats_of (shape x)) (page image) commands s.0 s.1)) (sym same) s.2,
+          subst (λ (f : Format). IsStartOf y (graph_at versions root) (index_at (newest_first runs) f (most_weight_in y.format y.pages)) image (opened_state (shape x) (formats_of (shape x)) (page image) commands s.0 s.1)) (sym same) s.2,
         ))
     | inr not ↦ subst (λ (z : ExtentsState). Starts z (shape z)) (sym (opened.together not))
         (read_started image format versions records pages written root commands (most_weight_in format pages) runs are (read.whole (hidden_stand x not)) not)
@@ -131,7 +132,7 @@ module _ (image : Image) (format : ℕ) (versions records : List ℕ) (pages : �
 
 -- ---- the core
 
-module _ {D : Type 0} (disks : PageDisk D) (disk : D) (old : DiskState) (before : Type 0) (format : ℕ) (versions records : List ℕ) (pages : ℕ) (written : List (ℕ × ℕ)) (commands live : ℕ) (store : Stored)
+module _ {D : Type 0} (disks : PageDisk D) (disk : D) (old : DiskState) (before : Type 0) (format : Format) (versions records : List ℕ) (pages : ℕ) (written : List (ℕ × ℕ)) (commands live : ℕ) (store : Stored)
     (sized : disks.page_count disk ≡ device_pages format (length written) pages (length versions)) (made : IsStoreMade before (page (seen old)) format versions records pages written commands live store)
     (was : disks.honest disk → before) (now : disks.honest disk → disks.state disk ≡ flushed old) (whole : disks.honest disk → IsWholeDisk (disks.state disk)) (long : disks.honest disk → length (disks.state disk).durable ≡ disks.page_count disk) where
   are_pages : disks.honest disk → ArePages (device_pages format (length written) pages (length versions)) (page (seen old))
@@ -178,7 +179,7 @@ module _ {D : Type 0} (disks : PageDisk D) (disk : D) (old : DiskState) (before 
 
 -- ---- what its caller is told
 
-pub is_opened : (before : Type 0) (old : DiskState) (image : Image) (format : ℕ) (versions records : List ℕ) (pages : ℕ) (written : List (ℕ × ℕ)) (commands live : ℕ) (store : Stored) → IsStoreMade before (page (seen old)) format versions records pages written commands live store
+pub is_opened : (before : Type 0) (old : DiskState) (image : Image) (format : Format) (versions records : List ℕ) (pages : ℕ) (written : List (ℕ × ℕ)) (commands live : ℕ) (store : Stored) → IsStoreMade before (page (seen old)) format versions records pages written commands live store
     → (before → image ≡ seen old) → IsOpened before image (commands, live) (but_for_room store)
 is_opened before old image format versions records pages written commands live store made same = record {
   format = format;
@@ -194,12 +195,12 @@ is_opened before old image format versions records pages written commands live s
   read = λ h. subst (λ (i : Image). IsStoreReadBy (page i) format versions records pages written made.root commands made.runs) (sym (same h)) (made.read h);
 }
 
-module _ (before : Type 0) (old : DiskState) (count : ℕ) (h : before) (whole : IsWholeDisk old) (long : length old.durable ≡ count) (format extents pages sections : ℕ) (is : IsGeometry format extents pages sections) (sized : count ≡ device_pages format extents pages sections) (n : ℕ) (m : Map)
+module _ (before : Type 0) (old : DiskState) (count : ℕ) (h : before) (whole : IsWholeDisk old) (long : length old.durable ≡ count) (format : Format) (extents pages sections : ℕ) (is : IsGeometry format extents pages sections) (sized : count ≡ device_pages format extents pages sections) (n : ℕ) (m : Map)
     (r : Recovers (shape_of extents pages sections (section_size extents sections) format) (formats_of (shape_of extents pages sections (section_size extents sections) format)) (page (seen old)) n m) where
   are : ArePages count (page (seen old))
   are = seen_pages old count whole (le_of_eq (sym long))
 
-  pub opened_as : (f : ℕ) (versions records : List ℕ) (p : ℕ) (written : List (ℕ × ℕ)) (commands live : ℕ) (store : Stored) → count ≡ device_pages f (length written) p (length versions) → IsStoreMade before (page (seen old)) f versions records p written commands live store
+  pub opened_as : (f : Format) (versions records : List ℕ) (p : ℕ) (written : List (ℕ × ℕ)) (commands live : ℕ) (store : Stored) → count ≡ device_pages f (length written) p (length versions) → IsStoreMade before (page (seen old)) f versions records p written commands live store
       → (shape store.extents ≡ shape_of extents pages sections (section_size extents sections) format) × (commands ≡ n) × HasCount (λ id. m id ≢ None) live
   opened_as f versions records p written commands live store size made =
       let here : ArePages (device_pages f (length written) p (length versions)) (page (seen old)) = subst (λ (k : ℕ). ArePages k (page (seen old))) size are in
@@ -209,7 +210,7 @@ module _ (before : Type 0) (old : DiskState) (count : ℕ) (h : before) (whole :
       let one = one_map (seen old) f versions records p written made.root commands made.runs made.extents made.opened here read live made.counted n m
       (recovers_here count (page (seen old)) format extents pages sections is sized are n m r f (length versions) p written same.0 same.1 same.2 same.3) in (
         ap (λ (u : Stored). shape u.extents) made.made ∙ made.opened.same_shape
-            ∙ ap (λ (k : ℕ). shape_of (length written) p (length versions) (section_size (length written) (length versions)) k) same.0
+            ∙ ap (λ (k : Format). shape_of (length written) p (length versions) (section_size (length written) (length versions)) k) same.0
             ∙ ap (λ (k : ℕ). shape_of k p (length versions) (section_size k (length versions)) format) same.1
             ∙ ap (λ (q : ℕ). shape_of extents q (length versions) (section_size extents (length versions)) format) same.2
             ∙ ap (λ (k : ℕ). shape_of extents pages k (section_size extents k) format) same.3,

@@ -18,6 +18,7 @@ use Rattle.law_machine.proofs.Chunks.{chunked_there}
 use Rattle.law_machine.proofs.Payloads.{payloads_length}
 use Rattle.law_machine.specs.Events.{ArePayloads, Chunked, Does}
 use Rattle.law_machine.specs.Extents.{FitsBy, ForPut, Purpose}
+use Rattle.law_machine.specs.Format.{Format}
 use Rattle.law_machine.specs.Formats.{Formats}
 use Rattle.law_machine.specs.Geometry.{weigh_in}
 use Rattle.law_machine.specs.Grounds.{NoRoomToPut, Refuses, TooHeavy, WouldPass}
@@ -140,7 +141,7 @@ module _ (v : Stored) (s : State) (whole : IsWhole v.extents) (is : IsStateOf v 
   )
     where
       as_heavy : (n : ℕ) → weight_with (weigh_in v.index.format) (index_of v.index) id n ≡ weight_with (shape v.extents).weigh (index_now s) id n
-      as_heavy n = ap (λ (f : ℕ). weight_with (weigh_in f) (index_of v.index) id n) format
+      as_heavy n = ap (λ (f : Format). weight_with (weigh_in f) (index_of v.index) id n) format
           ∙ as_heavy_with v.index s.table s.runs is.parts.index (shape v.extents).weigh id n
 
   module _ (limit : v.index.limit ≡ (shape v.extents).most_weight) (format : v.index.format ≡ (shape v.extents).format) (runs : v.halted ≡ false) where

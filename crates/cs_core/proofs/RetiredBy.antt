@@ -1,5 +1,5 @@
 -- An extent is retired, by the rule of the format.
-use Rattle.std.proofs.Common.{◌≡◌, ◌⊎◌, ℕ, ◌+◌, ◌<◌, ◌≤◌, Bool, true, false, List, [], ◌∷◌, ◌++◌, Result, Ok, Err, length, refl, sym, ◌∙◌, subst, arith}
+use Rattle.std.proofs.Common.{◌≡◌, ◌⊎◌, ℕ, ◌+◌, ◌<◌, Bool, true, false, List, [], ◌∷◌, ◌++◌, Result, Ok, Err, length, refl, sym, ◌∙◌, subst}
 use Rattle.std.specs.Prelude.{◌↔◌}
 use Rattle.cs_refusal.specs.declared.refusals.Refusal.{Refusal as Code}
 use Rattle.cs_refusal.specs.declared.refusals.Refusal.TheVariants as code
@@ -20,15 +20,16 @@ use Rattle.cs_core.specs.Steps.{Declines, Steps}
 use Rattle.cs_core.specs.Stored.{AreSwept, IsKept, IsKeptApart, AreInside, KeepsDevice, Stored, but_for_room}
 use Rattle.cs_core.proofs.Kept.{inside_live, kept_on, moves_retired, noted_staged, root_there, swept_retired}
 use Rattle.cs_core.proofs.KeptStages.{kept_together, retired_adds, retired_inside, retired_kept, retired_means, retired_moves, retired_swept}
-use Rattle.cs_core.proofs.Moves.{AddsRoot, root_merged}
+use Rattle.cs_core.proofs.Moves.{AddsRoot, root_merged, root_on}
 use Rattle.cs_core.proofs.PutsMeant.{live_means}
 use Rattle.cs_core.proofs.StagesApart.{retire_apart_refused, retire_apart_steps}
 use Rattle.cs_core.proofs.StageSteps.{retire_refused, retire_steps}
+use Rattle.cs_reader.specs.ImageReads.{page_total}
 
 -- ---- what a Retire did
 
 module _ (i : IndexState) (x : ExtentsState) (g : GraphState) (copies : List Copy) (e n commands : ℕ) (j : IndexState) (y : ExtentsState) (h : GraphState) (after : List Copy) where
-  pub retired_moves_by : (b : Bool) → IsRetiredBy b i x g copies e n commands j y h after → 1 ≤ x.sections → shape y ≡ shape x → KeepsDevice x g y h
+  pub retired_moves_by : (b : Bool) → IsRetiredBy b i x g copies e n commands j y h after → 1 < page_total (shape x) → shape y ≡ shape x → KeepsDevice x g y h
   retired_moves_by false done some same = moves_retired i x g e n commands j y h some done.0 same
   retired_moves_by true done some same = retired_moves i x g copies e n commands j y h after done.0 some
 
@@ -48,7 +49,7 @@ module _ (i : IndexState) (x : ExtentsState) (g : GraphState) (copies : List Cop
 
     module _ (whole : IsWhole x) (same : shape y ≡ shape x) (marks : (extents_of x).swept e ≡ true) where
       retired_swept_by : (b : Bool) → (shape x).apart ≡ b → IsRetiredBy b i x g copies e n commands j y h after → AreSwept x → AreSwept y
-      retired_swept_by false rule done swept = swept_retired i x g e n commands j y h rule whole.geometry.fewest_sections done.0 same swept
+      retired_swept_by false rule done swept = swept_retired i x g e n commands j y h rule (root_on x whole) done.0 same swept
       retired_swept_by true rule done swept = retired_swept i x g copies e n commands j y h after done.0 (kept rule).one marks
 
       retired_kept_by : (b : Bool) → (shape x).apart ≡ b → IsRetiredBy b i x g copies e n commands j y h after → (shape y).apart ≡ true → IsKeptApart y j after
@@ -66,7 +67,7 @@ module _ (v : Stored) (kept : IsKept v) (y : ExtentsState) (h : GraphState) (j :
       → ((shape v.extents).apart ≡ false → (id : ℕ) → live_at (index_of j) id ≡ live_at (index_of v.index) id)
       → IsRetiredBy b v.index v.extents v.graph v.copies e n commands j y h after → roots ≡ v.roots ++ record { version = n; commands = v.accepted } ∷ [] → IsKept store_then
   kept_retired_by b rule whole graph e n commands marks same map done noted =
-      let m = retired_moves_by v.index v.extents v.graph v.copies e n commands j y h after b done whole.geometry.fewest_sections same in
+      let m = retired_moves_by v.index v.extents v.graph v.copies e n commands j y h after b done (root_on v.extents whole) same in
       kept_on v store_then kept m ready format limit
       (retired_inside_by v.index v.extents v.graph v.copies e n commands j y h after kept.apart map b rule done kept.places) (m.round ∙ sym kept.round) refl kept.numbers
       (retired_swept_by v.index v.extents v.graph v.copies e n commands j y h after kept.apart map whole same marks b rule done kept.swept)

@@ -46,7 +46,8 @@ use Rattle.cs_core.proofs.Noted.{left_new, left_old, noted_first, noted_left}
 use Rattle.cs_reader.proofs.Lists.{drop_all, drop_some}
 use Rattle.cs_core.proofs.Members.{are_names, drop_left, drop_none, map_next, map_none, map_push, member_waits, take_all_of, take_more}
 
--- where a round is persistent, the roots that are left are those of the state from the newest persistent one on, which has the frontier
+-- where a round is persistent, the roots that are left are those of the state from the newest persistent one on, which
+-- has the frontier
 roots_left : (x : ExtentsState) (h : GraphState) (i : IndexState) (s z : State) (p l : ℕ) (roots rest : List Noted) (f a k : ℕ) → AreRootsOf roots s → ArePartsOf x h i z → s.world.persistent.root ≤ z.world.persistent.root
     → IsFrontier (shape x) (formats_of (shape x)) z k → roots_of z.world.elements ≡ roots_of s.world.elements → z.count ≡ s.count
     → AreNoted p l roots f a → (goes : LetsGo (slice_index h.staging.pending.persistent root_family) roots rest) → AreRootsOf rest z × (k ≡ goes.first.commands)

@@ -126,7 +126,8 @@ module _ {D : Type 0} (disks : PageDisk D) where
 
 -- ---- what a get tells
 
--- bytes that the places of an identifier mean are those that were put under it last, or two different texts at one place have one mark
+-- bytes that the places of an identifier mean are those that were put under it last, or two different texts at one
+-- place have one mark
 pub told_is_put : (v : Stored) (id : ℕ) (bytes told : List ℕ) → marks_in v.extents.format ≡ true → AreMeantBytes v id bytes → AreMeantBytes v id told
     → SameOrTwoAgree v id bytes told
 told_is_put = same_or_two

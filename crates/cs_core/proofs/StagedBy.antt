@@ -1,5 +1,5 @@
 -- A root is staged, by the rule of the format.
-use Rattle.std.proofs.Common.{◌≡◌, ◌≢◌, ◌⊎◌, inl, inr, ⊎_elim, ℕ, ◌+◌, ◌<◌, ◌≤◌, Bool, true, false, List, [], ◌∷◌, ◌++◌, length, refl, sym, ◌∙◌, subst, arith}
+use Rattle.std.proofs.Common.{◌≡◌, ◌≢◌, ◌⊎◌, inl, inr, ⊎_elim, ℕ, ◌+◌, ◌<◌, Bool, true, false, List, [], ◌∷◌, ◌++◌, length, refl, sym, ◌∙◌, subst}
 use Rattle.cs_refusal.specs.declared.refusals.Refusal.{Refusal as Code}
 use Rattle.cs_deps.specs.Staging.{IsKept as AreKept}
 use Rattle.cs_deps.specs.State.{State as GraphState}
@@ -19,14 +19,15 @@ use Rattle.cs_core.specs.Steps.{Declines, Steps}
 use Rattle.cs_core.specs.Stored.{AreSwept, IsKept, IsKeptApart, KeepsDevice, Stored, but_for_room}
 use Rattle.cs_core.proofs.Kept.{inside_live, kept_on, noted_staged, root_there, swept_newest}
 use Rattle.cs_core.proofs.KeptStages.{kept_together, swept_adds, swept_kept, swept_moves, swept_still, swept_table}
-use Rattle.cs_core.proofs.Moves.{AddsRoot, moves_newest, root_newest}
+use Rattle.cs_core.proofs.Moves.{AddsRoot, moves_newest, root_newest, root_on}
 use Rattle.cs_core.proofs.StagesApart.{stage_apart_declines, stage_apart_none, stage_apart_steps}
 use Rattle.cs_core.proofs.StageSteps.{stage_declines, stage_none, stage_steps}
+use Rattle.cs_reader.specs.ImageReads.{page_total}
 
 -- ---- what a Stage did
 
 module _ (i : IndexState) (x : ExtentsState) (g : GraphState) (copies : List Copy) (n commands : ℕ) (j : IndexState) (y : ExtentsState) (h : GraphState) (after : List Copy) where
-  pub staged_moves_by : (b : Bool) → IsSweepStagedBy b i x g copies n commands j y h after → 1 ≤ x.sections → KeepsDevice x g y h
+  pub staged_moves_by : (b : Bool) → IsSweepStagedBy b i x g copies n commands j y h after → 1 < page_total (shape x) → KeepsDevice x g y h
   staged_moves_by false done some = moves_newest false (deletions_go (shape x) i (stage_takes (shape x) i)) (stage_takes (shape x) i) i x g ForRun n commands j y h some done.0
   staged_moves_by true done some = swept_moves i x g copies n commands j y h after done some
 
@@ -56,7 +57,7 @@ module _ (v : Stored) (kept : IsKept v) (y : ExtentsState) (h : GraphState) (j :
       → IsSweepStagedBy b v.index v.extents v.graph v.copies n commands j y h after → roots ≡ v.roots ++ record { version = n; commands = v.accepted } ∷ []
       → IsKept (record v { extents = y; graph = h; out = h.round; index = j; copies = after; roots = roots })
   kept_staged_by b rule whole graph n commands same map done noted =
-      let m = staged_moves_by v.index v.extents v.graph v.copies n commands j y h after b done whole.geometry.fewest_sections in
+      let m = staged_moves_by v.index v.extents v.graph v.copies n commands j y h after b done (root_on v.extents whole) in
       kept_on v (record v { extents = y; graph = h; out = h.round; index = j; copies = after; roots = roots }) kept m ready format limit
       (inside_live (shape v.extents) v.index j kept.places map) (m.round ∙ sym kept.round) refl kept.numbers
       (staged_swept_by v.index v.extents v.graph v.copies n commands j y h after b rule done kept.swept)

@@ -24,6 +24,7 @@ use Rattle.cs_index.proofs.Sorted.{some_at}
 use Rattle.cs_index.specs.declared.stored_runs.StoredRun.{StoredRun}
 use Rattle.cs_index.specs.State.{State as IndexState, newest_first}
 use Rattle.law_machine.specs.Element.{Copy, Map}
+use Rattle.law_machine.specs.Format.{Format}
 use Rattle.law_machine.specs.Geometry.{most_weight_in}
 use Rattle.law_machine.specs.Open.{opened_state, root_read}
 use Rattle.law_machine.specs.Recovery.{Recovers}
@@ -48,7 +49,7 @@ all_default zero e d = refl
 all_default (suc n) zero d = refl
 all_default (suc n) (suc e) d = all_default n e d
 
-pub kept_new : (format extents pages sections : ℕ) → 1 ≤ sections → IsKept (new_stored format extents pages sections)
+pub kept_new : (format : Format) (extents pages sections : ℕ) → 1 ≤ sections → IsKept (new_stored format extents pages sections)
 kept_new format extents pages sections some = record {
   ready = record {
     families = omega (arith, length-by_family (replicate sections 1) 1, length-replicate {A = ℕ} sections 1);
@@ -78,7 +79,7 @@ kept_new format extents pages sections some = record {
     unmarked e = all_default (length (replicate {A = ℕ × ℕ} extents (0, 0))) e false
 
 -- a new store is of a state of the machine, and recovers no command and no shard
-module _ (format extents pages sections : ℕ) (is : IsGeometry format extents pages sections) (old now : DiskState) (on : IsNewOn format extents pages sections old now) where
+module _ (format : Format) (extents pages sections : ℕ) (is : IsGeometry format extents pages sections) (old now : DiskState) (on : IsNewOn format extents pages sections old now) where
   abbrev x : ExtentsState
   x = extents_at format pages sections (replicate extents (0, 0))
 
@@ -118,7 +119,7 @@ module _ (format extents pages sections : ℕ) (is : IsGeometry format extents p
 
 -- ---- what it is made of
 
-module _ (format extents pages sections : ℕ) (items : List Superblock) (new_ones : AreNew format extents pages sections items) where
+module _ (format : Format) (extents pages sections : ℕ) (items : List Superblock) (new_ones : AreNew format extents pages sections items) where
   -- its sections are one superblock
   first : (it : Superblock) × (slice_get items 0 ≡ Some it)
   first = some_at items 0 (omega (arith, new_ones.new_ones.counted, new_ones.geometry.fewest_sections))
@@ -140,7 +141,7 @@ module _ (format extents pages sections : ℕ) (items : List Superblock) (new_on
   new_sections = record {
     some = omega (arith, new_ones.new_ones.counted, new_ones.geometry.fewest_sections);
     each = λ k it at.
-        subst (λ (n : ℕ). IsSectionAt n (count_of items) (pages_of items) (length items) k it) (sym format_is)
+        subst (λ (f : Format). IsSectionAt f (count_of items) (pages_of items) (length items) k it) (sym format_is)
         (subst (λ (n : ℕ). IsSectionAt format n (pages_of items) (length items) k it) (sym count_is)
         (subst (λ (n : ℕ). IsSectionAt format extents n (length items) k it) (sym pages_are)
         (subst (λ (n : ℕ). IsSectionAt format extents pages n k it) (sym new_ones.new_ones.counted) (new_ones.new_ones.each k it at).section_at)));
@@ -176,20 +177,20 @@ module _ (format extents pages sections : ℕ) (items : List Superblock) (new_on
 
   pub new_extents_are : (x : ExtentsState) → x ≡ extents_at (format_of items) (pages_of items) (length items) (rows_of items) → x ≡ (new_stored format extents pages sections).extents
   new_extents_are x is = is
-      ∙ ap (λ (n : ℕ). extents_at n (pages_of items) (length items) (rows_of items)) format_is
+      ∙ ap (λ (f : Format). extents_at f (pages_of items) (length items) (rows_of items)) format_is
       ∙ ap (λ (n : ℕ). extents_at format n (length items) (rows_of items)) pages_are
       ∙ ap (λ (n : ℕ). extents_at format pages n (rows_of items)) new_ones.new_ones.counted
       ∙ ap (λ (rows : List (ℕ × ℕ)). extents_at format pages sections rows) rows_are
 
 -- that no root was persistent can be spelled
-none_fits : (format : ℕ) → FitsRecord format 0
+none_fits : (format : Format) → FitsRecord format 0
 none_fits format =
     let none : record_in format 0 ≡ 0 = (let le : record_in format 0 ≤ 0 = recorded_below_root format 0 in omega (arith, le)) in
     let small : 0 < 2 ^ 64 = omega arith in
     subst (λ (n : ℕ). FitsRecord format n) none (recorded_fits_in format 0 small)
 
 -- a section of it, from its numbers
-pub new_section_is : (format extents pages sections section : ℕ) → IsGeometry format extents pages sections → section < sections → (it : Superblock) → it.format ≡ format → it.version ≡ 1 → it.recorded ≡ 0 → it.extent_count ≡ extents → it.pages ≡ pages
+pub new_section_is : (format : Format) (extents pages sections section : ℕ) → IsGeometry format extents pages sections → section < sections → (it : Superblock) → it.format ≡ format → it.version ≡ 1 → it.recorded ≡ 0 → it.extent_count ≡ extents → it.pages ≡ pages
     → it.sections ≡ sections → it.section ≡ section → it.extents.items ≡ replicate (section_length extents sections section) (0, 0) → IsNewSection format extents pages sections section it
 new_section_is format extents pages sections section g lt it written version unrecorded counted same divided place rows = record {
   section_at = record {
@@ -197,7 +198,7 @@ new_section_is format extents pages sections section g lt it written version unr
       first_version = omega (arith, version);
       last_version = omega (arith, version);
       recorded_fits = subst (λ (n : ℕ). FitsRecord it.format n) (sym unrecorded) (none_fits it.format);
-      geometry = subst (λ (n : ℕ). IsGeometry n it.extent_count it.pages it.sections) (sym written)
+      geometry = subst (λ (f : Format). IsGeometry f it.extent_count it.pages it.sections) (sym written)
           (subst (λ (n : ℕ). IsGeometry format n it.pages it.sections) (sym counted)
           (subst (λ (n : ℕ). IsGeometry format extents n it.sections) (sym same) (subst (λ (n : ℕ). IsGeometry format extents pages n) (sym divided) g)));
       one_of_them = omega (arith, place, divided, lt);
@@ -221,11 +222,11 @@ new_section_is format extents pages sections section g lt it written version unr
     empty_points (suc n) = (omega arith, empty_points n)
 
 -- none of them yet
-pub none_new : (format extents pages sections : ℕ) → AreFirstNew format extents pages sections 0 []
+pub none_new : (format : Format) (extents pages sections : ℕ) → AreFirstNew format extents pages sections 0 []
 none_new format extents pages sections = record { counted = refl; each = λ k it at. absurd (let clash : None ≡ Some it = at in cc clash) }
 
 -- its page spells it so
-pub spelled_new : (format extents pages sections section : ℕ) (it : Superblock) → IsNewSection format extents pages sections section it → (bytes : List ℕ)
+pub spelled_new : (format : Format) (extents pages sections section : ℕ) (it : Superblock) → IsNewSection format extents pages sections section it → (bytes : List ℕ)
     → SpellsSuperblock bytes it.format it.version it.recorded it.extent_count it.pages it.sections it.section it.extents.items
     → SpellsNew format extents pages sections section bytes
 spelled_new format extents pages sections section it new_one bytes spelled =
@@ -233,22 +234,32 @@ spelled_new format extents pages sections section it new_one bytes spelled =
     let rows : List (ℕ × ℕ) = replicate (section_length extents sections section) (0, 0) in
     subst (λ (n : ℕ). SpellsSuperblock bytes format n 0 extents pages sections section rows) new_one.first
     (subst (λ (n : ℕ). SpellsSuperblock bytes format it.version n extents pages sections section rows) new_one.unrecorded
-    (subst (λ (n : ℕ). SpellsSuperblock bytes n it.version it.recorded extents pages sections section rows) at.of_format
+    (subst (λ (f : Format). SpellsSuperblock bytes f it.version it.recorded extents pages sections section rows) at.of_format
     (subst (λ (n : ℕ). SpellsSuperblock bytes it.format it.version it.recorded n pages sections section rows) at.of_extents
     (subst (λ (n : ℕ). SpellsSuperblock bytes it.format it.version it.recorded it.extent_count n sections section rows) at.of_pages
     (subst (λ (n : ℕ). SpellsSuperblock bytes it.format it.version it.recorded it.extent_count it.pages n section rows) at.of_sections
     (subst (λ (n : ℕ). SpellsSuperblock bytes it.format it.version it.recorded it.extent_count it.pages it.sections n rows) at.place
     (subst (λ (rs : List (ℕ × ℕ)). SpellsSuperblock bytes it.format it.version it.recorded it.extent_count it.pages it.sections it.section rs) new_one.rows spelled)))))))
 
+-- its numbers are a geometry
+pub section_geometry : (format : Format) (extents pages sections section : ℕ) (it : Superblock) → IsNewSection format extents pages sections section it
+    → IsGeometry format extents pages sections
+section_geometry format extents pages sections section it new_one =
+    let at = new_one.section_at in
+    subst (λ (f : Format). IsGeometry f extents pages sections) at.of_format
+    (subst (λ (n : ℕ). IsGeometry it.format n pages sections) at.of_extents
+    (subst (λ (n : ℕ). IsGeometry it.format it.extent_count n sections) at.of_pages
+    (subst (λ (n : ℕ). IsGeometry it.format it.extent_count it.pages n) at.of_sections at.is.geometry)))
+
 -- what was written of a section, by its number
-pub moved_section : (format extents pages sections section k : ℕ) → section ≡ k → (old new : DiskState)
+pub moved_section : (format : Format) (extents pages sections section k : ℕ) → section ≡ k → (old new : DiskState)
     → (bytes : List ℕ) × SpellsNew format extents pages sections section bytes × (new ≡ written old (head_page extents pages section) bytes)
     → (bytes : List ℕ) × SpellsNew format extents pages sections k bytes × (new ≡ written old (head_page extents pages k) bytes)
 moved_section format extents pages sections section k same old new wrote = subst
     (λ (n : ℕ). (bytes : List ℕ) × SpellsNew format extents pages sections n bytes × (new ≡ written old (head_page extents pages n) bytes)) same wrote
 
 -- one more of them
-pub more_new : (format extents pages sections count : ℕ) (items : List Superblock) (it : Superblock) → AreFirstNew format extents pages sections count items → IsNewSection format extents pages sections count it
+pub more_new : (format : Format) (extents pages sections count : ℕ) (items : List Superblock) (it : Superblock) → AreFirstNew format extents pages sections count items → IsNewSection format extents pages sections count it
     → AreFirstNew format extents pages sections (count + 1) (items ++ it ∷ [])
 more_new format extents pages sections count items it so_far new_one = record {
   counted = length-append items (it ∷ []) ∙ ap (λ (n : ℕ). n + 1) so_far.counted;
@@ -259,15 +270,15 @@ more_new format extents pages sections count items it so_far new_one = record {
       (in_push items it k other at);
 }
 
-pub new_index_is : (format extents pages sections its_format limit : ℕ) (runs : List StoredRun) (i : IndexState) → its_format ≡ format → limit ≡ most_weight_in format pages → runs ≡ []
+pub new_index_is : (format : Format) (extents pages sections : ℕ) (its_format : Format) (limit : ℕ) (runs : List StoredRun) (i : IndexState) → its_format ≡ format → limit ≡ most_weight_in format pages → runs ≡ []
     → i ≡ record { table = []; runs = newest_first runs; format = its_format; limit = limit; room = 0 } → i ≡ (new_stored format extents pages sections).index
 new_index_is format extents pages sections its_format limit runs i of_format same none is = is
-    ∙ ap (λ (f : ℕ). record { table = []; runs = newest_first runs; format = f; limit = limit; room = 0 }) of_format
+    ∙ ap (λ (f : Format). record { table = []; runs = newest_first runs; format = f; limit = limit; room = 0 }) of_format
     ∙ ap (λ (k : ℕ). record { table = []; runs = newest_first runs; format = format; limit = k; room = 0 }) same
     ∙ ap (λ (rs : List StoredRun). record { table = []; runs = newest_first rs; format = format; limit = most_weight_in format pages; room = 0 }) none
 
 -- a new store, from its parts
-pub new_is : (format extents pages sections : ℕ) (g : GraphState) (x : ExtentsState) (i : IndexState) (copies : List Copy) (roots : List Noted) → g ≡ (new_stored format extents pages sections).graph → x ≡ (new_stored format extents pages sections).extents
+pub new_is : (format : Format) (extents pages sections : ℕ) (g : GraphState) (x : ExtentsState) (i : IndexState) (copies : List Copy) (roots : List Noted) → g ≡ (new_stored format extents pages sections).graph → x ≡ (new_stored format extents pages sections).extents
     → i ≡ (new_stored format extents pages sections).index → copies ≡ [] → roots ≡ record { version = 1; commands = 0 } ∷ []
     → record { graph = g; extents = x; index = i; copies = copies; roots = roots; out = g.round; issued = 0; base = 0; accepted = 0; frontier = 0; halted = false } ≡ new_stored format extents pages sections
 new_is format extents pages sections g x i copies roots graph extents_are index none noted =
@@ -289,7 +300,7 @@ none_there m none = ([], record { rising = search rules; exact = λ id. (λ has.
     not_in id (k, lt, at) = let l : k < 0 = lt in omega arith
 
 -- a core over a disk on which a new store was written
-pub new_core : {D : Type 0} (disks : PageDisk D) (disk : D) (opened : Image) (v : Stored) (history : List (Event × Reply)) (base limit format extents pages sections : ℕ)
+pub new_core : {D : Type 0} (disks : PageDisk D) (disk : D) (opened : Image) (v : Stored) (history : List (Event × Reply)) (base limit : ℕ) (format : Format) (extents pages sections : ℕ)
     → IsGeometry format extents pages sections → v ≡ new_stored format extents pages sections → history ≡ [] → base ≡ 0 → disks.page_count disk ≡ device_pages format extents pages sections → opened ≡ (disks.state disk).durable
     → (disks.honest disk → length (disks.state disk).durable ≡ disks.page_count disk) → (old : DiskState) → (disks.honest disk → IsNewOn format extents pages sections old (disks.state disk))
     → IsCore disks (record { disk = disk; opened = opened; found = (0, 0); store = but_for_room v; history = history; base = base; limit = limit })

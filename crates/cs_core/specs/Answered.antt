@@ -35,8 +35,8 @@ IsAlone End = ⊥
 IsAlone (MoveOne e) = ⊥
 IsAlone event = Unit {0}
 
--- the events that are refused where as many are kept as may be: those of clients, and those that begin a sweep and move chunks. What writes back,
--- and what ends a sweep, is never refused for that
+-- the events that are refused where as many are kept as may be: those of clients, and those that begin a sweep and move
+-- chunks. What writes back, and what ends a sweep, is never refused for that
 abbrev pub IsLimited : Event → Type 0
 IsLimited (Put id bytes) = Unit {0}
 IsLimited (Get id) = Unit {0}

@@ -37,8 +37,8 @@ pub record IsRoundDone (old new : Stored) : Type 0 where
   pub end : WritesBack last End (Ended frontier) new
 
 module _ {D : Type 0} (disks : PageDisk D) where
-  -- One call of `apply` or of `checkpoint`, by what its contract says of crashes: an event was done, or nothing for want of memory, or the history
-  -- was replaced.
+  -- One call of `apply` or of `checkpoint`, by what its contract says of crashes: an event was done, or nothing for
+  -- want of memory, or the history was replaced.
   pub record IsCall (old new : View D) : Type 0 where
     pub did : ((event : Event) × (reply : Reply) × Applies disks old event reply new) ⊎ IsUntouched disks old new ⊎ ((n : ℕ) × Replaces old n new)
     pub rises : old.store.frontier ≤ new.store.frontier

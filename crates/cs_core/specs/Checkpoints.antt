@@ -6,7 +6,8 @@ use Rattle.cs_extent.specs.State.{extents_of}
 use Rattle.cs_core.specs.Stored.{Stored}
 use Rattle.cs_core.specs.Views.{View, kept}
 
--- A store is settled: nothing waits, no round is out, the index has no change that isn't staged, and no extent is being swept.
+-- A store is settled: nothing waits, no round is out, the index has no change that isn't staged, and no extent is being
+-- swept.
 pub record IsSettled (s : Stored) : Type 0 where
   pub none_waits : s.graph.staging.pending.waiting ≡ []
   pub none_out : s.out ≡ None
@@ -17,7 +18,8 @@ pub record IsSettled (s : Stored) : Type 0 where
 abbrev pub Replaces : {D : Type 0} → (old : View D) → ℕ → (new : View D) → Type 0
 Replaces old n new = (n ≡ length (kept old)) × (new ≡ record old { base = length old.history })
 
--- why a history isn't replaced: the store is halted; else it isn't settled; else more events would have been replaced than can be counted
+-- why a history isn't replaced: the store is halted; else it isn't settled; else more events would have been replaced
+-- than can be counted
 abbrev pub IsNotReplaced : {D : Type 0} → View D → Refusal → Type 0
 IsNotReplaced v Halted = v.store.halted ≡ true
 IsNotReplaced v Unsettled = (v.store.halted ≡ false) × ¬ IsSettled v.store

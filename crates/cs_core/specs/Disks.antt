@@ -20,16 +20,18 @@ pub record IsMemberWritten (old : Stored) (disk : DiskState) (x : Name) (page : 
   pub kept : write_of old.graph x ≡ Some (page, bytes)
   pub write : after ≡ written disk page bytes
 
--- What an honest disk holds after an event with this reply: Issue makes one write, and where that fails it may be there or not; End
--- makes one flush, and where that fails nothing is flushed; no other event, and no other refusal, writes or flushes.
+-- What an honest disk holds after an event with this reply: Issue makes one write, and where that fails it may be there
+-- or not; End makes one flush, and where that fails nothing is flushed; no other event, and no other refusal, writes or
+-- flushes.
 abbrev pub IsDiskAfter : (old : Stored) (disk : DiskState) → Event → Reply → (after : DiskState) → Type 0
 IsDiskAfter old disk Issue (Issued x page) after = IsMemberWritten old disk x page after
 IsDiskAfter old disk Issue (Refused DeviceFault) after = (after ≡ disk) ⊎ ((x : Name) × (page : ℕ) × IsMemberWritten old disk x page after)
 IsDiskAfter old disk End (Ended n) after = after ≡ flushed disk
 IsDiskAfter old disk event reply after = after ≡ disk
 
--- How many writes and flushes were made, from the count before an event to the one after it: one by Issue and one by End; one or none
--- where that call fails; none by any other event or refusal. Want of memory is no reply; its lines are for the calls below `apply`.
+-- How many writes and flushes were made, from the count before an event to the one after it: one by Issue and one by
+-- End; one or none where that call fails; none by any other event or refusal. Want of memory is no reply; its lines are
+-- for the calls below `apply`.
 abbrev pub CountsCalls : Event → Reply → (before now : ℕ) → Type 0
 CountsCalls Issue (Issued x page) before now = now ≡ before + 1
 CountsCalls End (Ended n) before now = now ≡ before + 1
@@ -44,8 +46,8 @@ abbrev pub reply_of : {T : Type 0} → (told : T → Reply) → Result T Refusal
 reply_of told (Ok x) = told x
 reply_of told (Err r) = Refused r
 
--- A call that does an event with this result writes and flushes as its reply has it, and no more: an honest disk counts so many
--- calls and holds that then. Its honesty and its size stay.
+-- A call that does an event with this result writes and flushes as its reply has it, and no more: an honest disk counts
+-- so many calls and holds that then. Its honesty and its size stay.
 pub record WritesAsTold {D T : Type 0} (disks : PageDisk D)
     (old : Stored) (before : D) (event : Event) (told : T → Reply) (result : Result T Refusal) (after : D) : Type 0 where
   pub calls : disks.honest before → CountsCalls event (reply_of told result) (disks.moment before) (disks.moment after)

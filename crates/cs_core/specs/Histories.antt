@@ -4,7 +4,8 @@ use Rattle.cs_core.specs.declared.events.Event.{Event}
 use Rattle.cs_core.specs.declared.events.Reply.{Reply}
 use Rattle.cs_core.specs.declared.histories.Before.{Before, Nothing, Then'}
 
--- All events with their replies, the first one first; how many of them, from the first on, were replaced; and for how many more there is room.
+-- All events with their replies, the first one first; how many of them, from the first on, were replaced; and for how
+-- many more there is room.
 pub record Recorded : Type 0 where
   pub all : List (Event × Reply)
   pub base : ℕ

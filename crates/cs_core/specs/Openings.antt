@@ -12,6 +12,7 @@ use Rattle.law_machine.specs.Geometry.{most_weight_in, shape_of}
 use Rattle.law_machine.specs.Index.{entries_of, live_at}
 use Rattle.law_machine.specs.Device.{Page, Shape}
 use Rattle.law_machine.specs.Element.{Map}
+use Rattle.law_machine.specs.Format.{Format}
 use Rattle.law_machine.specs.Recovery.{Recovers}
 use Rattle.cs_reader.specs.Openings.{IsStoreReadBy}
 use Rattle.cs_core.specs.Stored.{Stored}
@@ -19,17 +20,17 @@ use Rattle.law_refinement.specs.cs_reclaim.Rooted.{freed_under}
 use Rattle.cs_frame.specs.Formats.{formats_of}
 use Rattle.cs_frame.specs.Geometries.{IsGeometry, device_pages, section_size}
 
--- The extents of a store as it is opened, from those that were read, an index of the runs that were read, and this version of the root:
--- they are as they were read where chunks and runs may lie on one extent; where they lie apart it is noted on which of them runs lie, and
--- those on which nothing lives and no run lies are emptied under the root.
+-- The extents of a store as it is opened, from those that were read, an index of the runs that were read, and this
+-- version of the root: they are as they were read where chunks and runs may lie on one extent; where they lie apart it
+-- is noted on which of them runs lie, and those on which nothing lives and no run lies are emptied under the root.
 pub record AreExtentsOpened (x : ExtentsState) (i : IndexState) (root : ℕ) (y : ExtentsState) : Type 0 where
   pub same_shape : shape y ≡ shape x
   pub together : (shape x).apart ≡ false → y ≡ x
   pub apart : (shape x).apart ≡ true
       → (noted : ExtentsState) × IsWhole noted × AreExtentsNoted x i.runs noted × (extents_of y ≡ freed_under (shape noted) (extents_of noted) i [] root)
 
--- the store of these extents, of sections of a superblock with these versions, of a root and of its runs, oldest first, on which nothing
--- was staged yet
+-- the store of these extents, of sections of a superblock with these versions, of a root and of its runs, oldest first,
+-- on which nothing was staged yet
 abbrev pub opened_stored : ExtentsState → (versions : List ℕ) → (root commands : ℕ) → List StoredRun → Stored
 opened_stored x versions root commands runs = record {
   graph = graph_at versions root;
@@ -53,7 +54,7 @@ pub record IsLoaded (x : ExtentsState) (g : GraphState) (root commands : ℕ) (r
 
 -- A store is made of what was read, which an honest disk has: `found` tells the number of the root's commands.
 pub record IsOpened (honest : Type 0) (image : Image) (found : ℕ × ℕ) (store : Stored) : Type 0 where
-  pub format : ℕ
+  pub format : Format
   pub versions : List ℕ
   pub records : List ℕ
   pub pages : ℕ
@@ -65,9 +66,9 @@ pub record IsOpened (honest : Type 0) (image : Image) (found : ℕ × ℕ) (stor
   pub made : store ≡ opened_stored extents versions root found.0 runs
   pub read : honest → IsStoreReadBy (page image) format versions records pages written root found.0 runs
 
--- A store is made of sections of a superblock and of what was read after them, which an honest disk has. It has so many commands,
--- and so many live shards.
-pub record IsStoreMade (honest : Type 0) (view : ℕ → List ℕ) (format : ℕ) (versions records : List ℕ) (pages : ℕ) (written : List (ℕ × ℕ)) (commands live : ℕ) (store : Stored) : Type 0 where
+-- A store is made of sections of a superblock and of what was read after them, which an honest disk has. It has so many
+-- commands, and so many live shards.
+pub record IsStoreMade (honest : Type 0) (view : ℕ → List ℕ) (format : Format) (versions records : List ℕ) (pages : ℕ) (written : List (ℕ × ℕ)) (commands live : ℕ) (store : Stored) : Type 0 where
   pub root : ℕ
   pub runs : List StoredRun
   pub extents : ExtentsState
@@ -76,15 +77,16 @@ pub record IsStoreMade (honest : Type 0) (view : ℕ → List ℕ) (format : ℕ
   pub counted : HasCount (λ id. live_at (entries_of (newest_first runs)) id ≢ []) live
   pub read : honest → IsStoreReadBy view format versions records pages written root commands runs
 
--- a device of so many pages holds a store of so many commands and so many live shards, and this store is made of it; if the device is
--- honest, its pages read as these
+-- a device of so many pages holds a store of so many commands and so many live shards, and this store is made of it; if
+-- the device is honest, its pages read as these
 abbrev pub IsStoreFound : (honest : Type 0) → (count : ℕ) → (view : ℕ → List ℕ) → (commands live : ℕ) → Stored → Type 0
-IsStoreFound honest count view commands live store = (format : ℕ) × (versions : List ℕ) × (records : List ℕ) × (pages : ℕ) × (written : List (ℕ × ℕ))
+IsStoreFound honest count view commands live store = (format : Format) × (versions : List ℕ) × (records : List ℕ) × (pages : ℕ) × (written : List (ℕ × ℕ))
     × (count ≡ device_pages format (length written) pages (length versions)) × IsStoreMade honest view format versions records pages written commands live store
 
--- of whatever store a device of so many pages holds, which read as these: of its shape, its number of commands and its map
+-- of whatever store a device of so many pages holds, which read as these: of its shape, its number of commands and its
+-- map
 abbrev pub IfStoreOn : (count : ℕ) → (view : ℕ → Page) → (Shape → ℕ → Map → Type 0) → Type 0
-IfStoreOn count view P = (format extents pages sections : ℕ) → IsGeometry format extents pages sections → count ≡ device_pages format extents pages sections
+IfStoreOn count view P = (format : Format) (extents pages sections : ℕ) → IsGeometry format extents pages sections → count ≡ device_pages format extents pages sections
     → (n : ℕ) (m : Map) → (let S = shape_of extents pages sections (section_size extents sections) format in Recovers S (formats_of S) view n m → P S n m)
 
 -- a store was opened as one of this shape, of n commands and of as many shards as the map has

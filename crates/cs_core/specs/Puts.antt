@@ -24,14 +24,15 @@ MeansTheSame old new = (id : ℕ) → marks_at new id ≡ marks_at old id
 abbrev pub MeansTheSameBut : (id : ℕ) → (old new : IndexState) → Type 0
 MeansTheSameBut id old new = (d : ℕ) → d ≢ id → marks_at new d ≡ marks_at old d
 
--- What an event makes of what places mean: those of an identifier under which bytes were put mean these bytes, and those of all others mean what
--- they meant. Of one that was deleted nothing is said.
+-- What an event makes of what places mean: those of an identifier under which bytes were put mean these bytes, and
+-- those of all others mean what they meant. Of one that was deleted nothing is said.
 abbrev pub ChangesMeaning : (old : Stored) → Event → Reply → (new : Stored) → Type 0
 ChangesMeaning old (Put id bytes) (Accepted n) new = AreMeantBytes new (id_number id) bytes × MeansTheSameBut (id_number id) old.index new.index
 ChangesMeaning old (Delete id) (Accepted n) new = MeansTheSameBut (id_number id) old.index new.index
 ChangesMeaning old event reply new = MeansTheSame old.index new.index
 
--- the newest command to an identifier, of commands newest first: the bytes that it put, or None where it deleted; None where there is no command
+-- the newest command to an identifier, of commands newest first: the bytes that it put, or None where it deleted; None
+-- where there is no command
 abbrev pub newest_command : List Command → (id : ℕ) → Option (Option (List ℕ))
 newest_command [] id = None
 newest_command (c ∷ cs) id = if c.0 == id then Some c.1 else newest_command cs id

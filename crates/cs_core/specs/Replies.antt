@@ -62,8 +62,8 @@ MayRefuse (Abandon e) Halted = Unit {0}
 MayRefuse (Settle n) HistoryFull = Unit {0}
 MayRefuse event r = ⊥
 
--- The replies to each event. Commands are numbered from 1. Where Settle answers NotYet, the number that it tells is below the one
--- asked for, unless that was 0.
+-- The replies to each event. Commands are numbered from 1. Where Settle answers NotYet, the number that it tells is
+-- below the one asked for, unless that was 0.
 abbrev pub MayAnswer : Event → Reply → Type 0
 MayAnswer event (Refused r) = MayRefuse event r
 MayAnswer (Put id bytes) (Accepted n) = 1 ≤ n

@@ -14,9 +14,9 @@ use Rattle.cs_core.specs.Disks.{CountsCalls, IsDiskAfter}
 use Rattle.cs_core.specs.Stored.{Stored, but_for_room}
 use Rattle.cs_core.specs.Views.{Serves}
 
--- The event was served: done or refused by one step of the machine, with a reply that store and disk bear out, and that is given
--- twice; or there was no memory, and store and disk hold what they held. Whatever came of it, the disk changes by Issue and End
--- alone, and the frontier doesn't fall.
+-- The event was served: done or refused by one step of the machine, with a reply that store and disk bear out, and that
+-- is given twice; or there was no memory, and store and disk hold what they held. Whatever came of it, the disk changes
+-- by Issue and End alone, and the frontier doesn't fall.
 pub record IsServed {D : Type 0} (disks : PageDisk D)
     (old : Stored) (before : D) (event : Event) (result : Result (Reply × Reply) OutOfMemory) (new : Stored) (after : D) : Type 0 where
   -- one reply to tell, and the same to keep in the history

@@ -5,16 +5,18 @@ use Rattle.cs_disk.specs.Disk.{State as DiskState, Write, flushed, page, seen}
 use Rattle.cs_extent.specs.Sections.{IsSectionAt}
 use Rattle.cs_frame.specs.declared.superblocks.Superblock.{Superblock}
 use Rattle.cs_frame.specs.Geometries.{IsGeometry, section_length, section_size}
-use Rattle.cs_frame.specs.Roots.{SpellsRoot}
+use Rattle.cs_frame.specs.Roots.{SpellsRoot, identity_in}
 use Rattle.cs_frame.specs.Superblocks.{SpellsSuperblock}
 use Rattle.law_refinement.specs.Images.{AreNewSections}
 use Rattle.cs_reader.specs.Loads.{graph_at}
 use Rattle.cs_extent.specs.State.{extents_at}
+use Rattle.law_machine.specs.Format.{Format}
 use Rattle.law_machine.specs.Geometry.{most_weight_in, shape_of}
 use Rattle.cs_core.specs.Stored.{Stored}
 
--- a store of this format, of so many extents of so many pages, and of so many sections of the superblock, on which nothing was staged yet
-abbrev pub new_stored : (format extents pages sections : ℕ) → Stored
+-- a store of this format, of so many extents of so many pages, and of so many sections of the superblock, on which
+-- nothing was staged yet
+abbrev pub new_stored : (format : Format) (extents pages sections : ℕ) → Stored
 new_stored format extents pages sections = record {
   graph = graph_at (replicate sections 1) 1;
   extents = extents_at format pages sections (replicate extents (0, 0));
@@ -30,7 +32,7 @@ new_stored format extents pages sections = record {
 }
 
 -- This is a section of a new store's superblock.
-pub record IsNewSection (format extents pages sections section : ℕ) (it : Superblock) : Type 0 where
+pub record IsNewSection (format : Format) (extents pages sections section : ℕ) (it : Superblock) : Type 0 where
   pub section_at : IsSectionAt format extents pages sections section it
   pub first : it.version ≡ 1
   -- no root was persistent yet
@@ -38,12 +40,12 @@ pub record IsNewSection (format extents pages sections section : ℕ) (it : Supe
   pub rows : it.extents.items ≡ replicate (section_length extents sections section) (0, 0)
 
 -- These are its first sections, so many.
-pub record AreFirstNew (format extents pages sections count : ℕ) (items : List Superblock) : Type 0 where
+pub record AreFirstNew (format : Format) (extents pages sections count : ℕ) (items : List Superblock) : Type 0 where
   pub counted : length items ≡ count
   pub each : (k : ℕ) (it : Superblock) → slice_get items k ≡ Some it → IsNewSection format extents pages sections k it
 
 -- These are all of its sections, in order.
-pub record AreNew (format extents pages sections : ℕ) (items : List Superblock) : Type 0 where
+pub record AreNew (format : Format) (extents pages sections : ℕ) (items : List Superblock) : Type 0 where
   pub geometry : IsGeometry format extents pages sections
   pub new_ones : AreFirstNew format extents pages sections sections items
 
@@ -67,22 +69,22 @@ abbrev pub head_page : (extents pages j : ℕ) → ℕ
 head_page extents pages j = if j == 0 then 0 else 1 + extents * pages + j
 
 -- the page spells section j of the superblock of a new store
-abbrev pub SpellsNew : (format extents pages sections j : ℕ) → List ℕ → Type 0
+abbrev pub SpellsNew : (format : Format) (extents pages sections j : ℕ) → List ℕ → Type 0
 SpellsNew format extents pages sections j bytes = SpellsSuperblock bytes format 1 0 extents pages sections j (replicate (section_length extents sections j) (0, 0))
 
 -- The pages of the first so many sections of a new store were written.
-pub record AreNewWritten (format extents pages sections count : ℕ) (old new : DiskState) : Type 0 where
+pub record AreNewWritten (format : Format) (extents pages sections count : ℕ) (old new : DiskState) : Type 0 where
   pub head : IsHeadWritten extents pages old new
   pub each : (j : ℕ) → j < count
       → SpellsNew format extents pages sections j (page (seen new) ((shape_of extents pages sections (section_size extents sections) format).section_page j))
 
 -- A disk takes what is written of a new store: the sections of its superblock, from this one on, and its root.
-pub record TakesNew {D : Type 0} (disks : PageDisk D) (format extents pages sections first : ℕ) (disk : D) : Type 0 where
+pub record TakesNew {D : Type 0} (disks : PageDisk D) (format : Format) (extents pages sections first : ℕ) (disk : D) : Type 0 where
   pub of_section : (j : ℕ) (bytes : List ℕ) → first ≤ j → j < sections → SpellsNew format extents pages sections j bytes → disks.takes disk (head_page extents pages j) bytes
-  pub of_root : (bytes : List ℕ) → SpellsRoot bytes format 1 0 [] → disks.takes disk 1 bytes
+  pub of_root : (bytes : List ℕ) → SpellsRoot bytes (identity_in format) 1 0 [] → disks.takes disk 1 bytes
 
 -- A new store was written and made durable: the sections of its superblock, and its root.
-pub record IsNewOn (format extents pages sections : ℕ) (old new : DiskState) : Type 0 where
+pub record IsNewOn (format : Format) (extents pages sections : ℕ) (old new : DiskState) : Type 0 where
   pub formatted : IsFormatted extents pages old new
   pub superblock : AreNewSections (page new.durable) format extents pages sections
-  pub root : SpellsRoot (page new.durable 1) format 1 0 []
+  pub root : SpellsRoot (page new.durable 1) (identity_in format) 1 0 []

@@ -57,23 +57,23 @@ pub record StagesBehind (g h : Pending) : Type 0 where
   pub behind : h.waiting ≡ g.waiting ++ more
   pub persistent : h.persistent ≡ g.persistent
 
--- the device is as large as before, what goes to it goes to its pages still, the round that is out is the same, and nothing but
--- what was staged since waits anew
+-- the device is as large as before, what goes to it goes to its pages still, the round that is out is the same, and
+-- nothing but what was staged since waits anew
 pub record KeepsDevice (x : ExtentsState) (g : GraphState) (y : ExtentsState) (h : GraphState) : Type 0 where
   pub same_shape : shape y ≡ shape x
   pub within : AreWithin (page_total (shape x)) g → AreWithin (page_total (shape x)) h
   pub round : h.round ≡ g.round
   pub behind : StagesBehind g.staging.pending h.staging.pending
 
--- each extent that is marked as being swept is there and isn't empty; where chunks and runs may lie on one extent it isn't open, and
--- where they lie apart chunks lie on it
+-- each extent that is marked as being swept is there and isn't empty; where chunks and runs may lie on one extent it
+-- isn't open, and where they lie apart chunks lie on it
 abbrev pub AreSwept : ExtentsState → Type 0
 AreSwept x = (e : ℕ) → (extents_of x).swept e ≡ true
     → ((shape x).apart ≡ false → IsSwept (shape x) (extents_of x) e) × ((shape x).apart ≡ true → IsSweptApart (shape x) (extents_of x) e)
 
--- What every store keeps where chunks and runs lie apart: no more runs than a root may have, and of the sweep that goes on that one extent
--- alone is marked, that each chunk that lives there is copied up to the last copy, by identifier and then by number, that the copies
--- lie on pages of extents that are there, and that a copy means what the chunk meant.
+-- What every store keeps where chunks and runs lie apart: no more runs than a root may have, and of the sweep that goes
+-- on that one extent alone is marked, that each chunk that lives there is copied up to the last copy, by identifier and
+-- then by number, that the copies lie on pages of extents that are there, and that a copy means what the chunk meant.
 pub record IsKeptApart (x : ExtentsState) (i : IndexState) (copies : List Copy) : Type 0 where
   pub runs : length i.runs ≤ (shape x).most_runs
   pub one : (d e : ℕ) → (extents_of x).swept d ≡ true → (extents_of x).swept e ≡ true → d ≡ e
@@ -100,17 +100,19 @@ pub record IsKept (s : Stored) : Type 0 where
   pub apart : (shape s.extents).apart ≡ true → IsKeptApart s.extents s.index s.copies
   pub noted : AreNoted (slice_index s.graph.staging.pending.persistent root_family) (slice_index s.graph.staging.latest root_family) s.roots s.frontier s.accepted
 
--- the store with the rooms of graph and index as 0: clauses compare stores so, as how much memory is reserved doesn't matter
+-- the store with the rooms of graph and index as 0: clauses compare stores so, as how much memory is reserved doesn't
+-- matter
 abbrev pub but_for_room : Stored → Stored
 but_for_room s = record s { graph = record s.graph { room = 0 }; index = record s.index { room = 0 } }
 
--- with an entry of the chunks of these bytes in place of what the identifier has, the newest entries of an index weigh more than they may
+-- with an entry of the chunks of these bytes in place of what the identifier has, the newest entries of an index weigh
+-- more than they may
 abbrev pub IsTooHeavy : Shape → IndexState → (id : ℕ) → (bytes : List ℕ) → Type 0
 IsTooHeavy S index id bytes = (pieces : List (List ℕ)) × Chunked S.chunk_bytes bytes pieces
     × (index.limit < weight_with (weigh_in index.format) (index_of index) id (length pieces))
 
--- why a put is refused where the number of commands is the greatest, whatever its identifier and its number: 30 where its chunks don't
--- fit, else 35
+-- why a put is refused where the number of commands is the greatest, whatever its identifier and its number: 30 where
+-- its chunks don't fit, else 35
 abbrev pub IsWhyWorn : ExtentsState → List ℕ → Refusal → Type 0
 IsWhyWorn x bytes WornOut = (id command : ℕ) → PutFits x id command bytes
 IsWhyWorn x bytes Full = (id command : ℕ) → IsPutFull x id command bytes

@@ -24,9 +24,10 @@ use Rattle.cs_core.specs.Puts.{ArePutsMeant, ChangesMeaning}
 use Rattle.cs_core.specs.States.{IsStateOf}
 use Rattle.cs_core.specs.Stored.{Stored}
 
--- A core over a disk of this type: its disk, the image that it was opened on, how many commands the root counted there and
--- how many shards there were, its store, all events since then with their replies, how many of them, from the first on, checkpoints
--- replaced, and with how many kept ones no further put or the like is taken. The replaced events are known to contracts alone.
+-- A core over a disk of this type: its disk, the image that it was opened on, how many commands the root counted there
+-- and how many shards there were, its store, all events since then with their replies, how many of them, from the first
+-- on, checkpoints replaced, and with how many kept ones no further put or the like is taken. The replaced events are
+-- known to contracts alone.
 pub record View (D : Type 0) : Type 0 where
   pub disk : D
   pub opened : Image
@@ -66,9 +67,9 @@ pub record IsIn {D : Type 0} (state : D → DiskState) (v : View D) (s : model.S
 abbrev pub IsFound : Shape → Image → (found : ℕ × ℕ) → Type 0
 IsFound S image found = (m : Map) × Recovers S (formats_of S) (page image) found.0 m × HasCount (λ id. m id ≢ None) found.1
 
--- What every core keeps: the disk has the geometry's pages, the events that were replaced are some of its history, what was put last under an
--- identifier is what its places mean, and where the disk is honest the core is in a state of the machine that its whole history leads to, and was
--- opened on an image of that many commands and shards.
+-- What every core keeps: the disk has the geometry's pages, the events that were replaced are some of its history, what
+-- was put last under an identifier is what its places mean, and where the disk is honest the core is in a state of the
+-- machine that its whole history leads to, and was opened on an image of that many commands and shards.
 pub record IsCore {D : Type 0} (disks : PageDisk D) (v : View D) : Type 0 where
   pub device : disks.page_count v.disk ≡ page_total (shape v.store.extents)
   pub replaced : v.base ≤ length v.history
@@ -84,8 +85,8 @@ pub record IsFull {D : Type 0} (old : View D) (event : Event) (reply : Reply) (n
   pub full : old.limit ≤ length (kept old)
   pub same : new ≡ old
 
--- The event with its reply was kept in the history, and where the disk is honest the core went on by one step of the machine,
--- from whichever state it was in. Whatever the disk is, places mean what the event made of them.
+-- The event with its reply was kept in the history, and where the disk is honest the core went on by one step of the
+-- machine, from whichever state it was in. Whatever the disk is, places mean what the event made of them.
 pub record IsStep {D : Type 0} (disks : PageDisk D) (old : View D) (event : Event) (reply : Reply) (new : View D) : Type 0 where
   pub room : IsLimited event → length (kept old) < old.limit
   pub history : new.history ≡ old.history ++ (event, reply) ∷ []
@@ -103,12 +104,13 @@ pub record IsStep {D : Type 0} (disks : PageDisk D) (old : View D) (event : Even
       → (m : model.Reply) × (t : model.State) × Says (shape old.store.extents) (formats_of (shape old.store.extents)) reply m
       × Step (shape old.store.extents) (formats_of (shape old.store.extents)) s (event_of event) m t × IsIn disks.state new t
 
--- what a call does that has memory: the kept history was full, and nothing has changed; or the event was done or refused by one step, and kept
+-- what a call does that has memory: the kept history was full, and nothing has changed; or the event was done or
+-- refused by one step, and kept
 abbrev pub Applies : {D : Type 0} → (disks : PageDisk D) → (old : View D) → Event → Reply → (new : View D) → Type 0
 Applies disks old event reply new = IsFull old event reply new ⊎ IsStep disks old event reply new
 
--- What one event does to a store and to an honest disk: whichever state they are in, the machine makes a step from it to one
--- that they are in then.
+-- What one event does to a store and to an honest disk: whichever state they are in, the machine makes a step from it
+-- to one that they are in then.
 unfoldable pub Serves : (old : Stored) (disk : DiskState) → Event → Reply → (new : Stored) (after : DiskState) → Type 0
 Serves old disk event reply new after = (s : model.State) → IsStateOf old s → IsDiskOf (shape old.extents) (formats_of (shape old.extents)) s disk
     → (m : model.Reply) × (t : model.State) × Says (shape old.extents) (formats_of (shape old.extents)) reply m

@@ -56,8 +56,9 @@ pub record IsRoundEnded (frontier : ℕ) (old new : Stored) : Type 0 where
   pub same_index : new.index ≡ old.index
   pub is_frontier : new.frontier ≡ frontier
 
--- What a refused event leaves: a device fault in Issue or End halts the store, and nothing else changes. A Begin is refused 5 only
--- where a round is out, an Issue 42 only where none of it is left, and an End 42 only where none is out or some of it isn't issued.
+-- What a refused event leaves: a device fault in Issue or End halts the store, and nothing else changes. A Begin is
+-- refused 5 only where a round is out, an Issue 42 only where none of it is left, and an End 42 only where none is out
+-- or some of it isn't issued.
 abbrev pub StaysRefused : Event → Refusal → (old new : Stored) → Type 0
 StaysRefused Issue DeviceFault old new = new ≡ record old { halted = true }
 StaysRefused End DeviceFault old new = new ≡ record old { halted = true }

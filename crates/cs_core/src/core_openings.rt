@@ -136,7 +136,7 @@ fn note_runs(runs: &[StoredRun], extents: &mut Extents)
 }
 
 /// Readies extents that were read: notes on which of them runs lie, and empties the blank ones under the root. No sweep
-/// is unfinished. In the older formats nothing is done.
+/// is unfinished. In format 2 nothing is done.
 fn ready_extents(index: &Index, extents: &mut Extents, sweeps: &Sweeps, root: u64)
     requires read { extents.old ≡ extents_at extents.old.format extents.old.pages extents.old.sections extents.old.written }
     requires places { AllByRecursion (λ run. run.place.extent < (shape extents.old).extents) index.now.runs }
@@ -372,7 +372,7 @@ fn write_heads<D: PageDisk>(
     ensures taken { D.honest disk.old → D.sound disk.old → TakesNew D.PageDisk geometry.format geometry.extents geometry.pages geometry.sections 0 disk.old → D.refusal_count disk.new ≡ D.refusal_count disk.old }
 {
     let root = Root {
-        format: geometry.format(),
+        store: geometry.format().store(),
         version: 1,
         commands: 0,
         runs: Vec::new(alloc),

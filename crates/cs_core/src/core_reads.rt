@@ -211,8 +211,8 @@ impl<D: PageDisk> Core<D> {
     /// before the second page is read. It takes memory for the pages and the payload.
     ///
     /// 20 `BadMagic`, 21 `BadDigest`, 22 `BadLength`, 23 `BadPadding` or 24 `BadVersion`, the first test that fails, if
-    /// no frame of this kind begins there. 26 `Misplaced` if one does that the place doesn't mean. 1 `DeviceFault` if a
-    /// read failed; 9 `OutOfMemory`.
+    /// no frame of this kind begins there. 26 `Misplaced` if one does that the place doesn't mean. Then 22 if it is a
+    /// chunk's and its payload is shorter than a head. 1 `DeviceFault` if a read failed; 9 `OutOfMemory`.
     pub fn read_frame(&mut self, kind: FrameKind, place: Locator) -> Result<Vec<u8>, Refusal>
         requires extent { place.extent < (shape self.old.store.extents).extents }
         requires page { place.page < (shape self.old.store.extents).pages }

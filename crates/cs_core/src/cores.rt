@@ -135,21 +135,21 @@ impl<D: PageDisk> Core<D> {
     /// Opens the store on a disk: flushes, and reads the superblock section by section, the root and the runs. The
     /// pages of shards aren't read.
     ///
-    /// The superblock's pointers, the root's numbers and the index are kept in memory. In format 3 the extents on which
-    /// nothing that counts lies are emptied there.
+    /// The superblock's pointers, the root's numbers and the index are kept in memory. The extents on which nothing
+    /// that counts lies are emptied there. In format 2 they aren't.
     ///
     /// A refusal returns the disk. It is that of the first test that fails, but 1 `DeviceFault` and 9 `OutOfMemory` may
     /// come in place of any but the first:
     /// - 43 `NotAStore` if there are fewer than 10 pages, before the disk is asked for anything;
     /// - 20 to 24 for page 0; 43 if it has another section than the first, then if the disk doesn't have the
     ///   superblock's pages;
-    /// - for each further section 20 to 24 for its page, and 43 if it has another section, or one of another
-    ///   superblock;
-    /// - 20 to 24 for page 1; 27 `RootLost` if a section records a later root, since commands that were acknowledged
-    ///   would be missed;
+    /// - for each further section 20 to 24 for its page, and 43 if it has another section, or one of another superblock
+    ///   or store;
+    /// - 20 to 24 for page 1; 43 if it has the root of another store; 27 `RootLost` if a section records a later root,
+    ///   since commands that were acknowledged would be missed;
     /// - for each run, the oldest first, 43 if its locator is of no frame, and 20 to 26 for its pages;
-    /// - 43 if a locator of the newest entry of an identifier is of no frame (in the older formats one of any entry),
-    ///   or if the newest entries weigh more than those of one run may.
+    /// - 43 if a locator of the newest entry of an identifier is of no frame (in format 2 one of any entry), or if the
+    ///   newest entries weigh more than those of one run may.
     pub fn open(alloc: Global, disk: D, limits: Limits) -> Result<Self, (Refusal, D)>
         ensures new { IfOk result (λ core. (core.history ≡ []) × (core.base ≡ 0) × (core.limit ≡ limits.history)) }
         ensures image { IfOk result (λ core. D.honest disk → (core.opened ≡ seen (D.state disk)) × (D.state core.disk ≡ flushed (D.state disk))) }
@@ -446,7 +446,7 @@ impl<D: PageDisk> Core<D> {
     }
 
     /// Whether an extent may be swept: it is there, isn't empty and holds chunks, and no sweep goes on or left copies.
-    /// In the older formats: it is there, and neither open, empty nor being swept.
+    /// In format 2: it is there, and neither open, empty nor being swept.
     pub fn is_sweepable(&self, extent: usize) -> bool
         ensures may { IsTrue result → ¬ IsUnsweepable self.now.store extent }
         ensures not { ¬ (IsTrue result) → IsUnsweepable self.now.store extent }

@@ -28,11 +28,12 @@ impl<T: Drop> From<AllocFailed<T>> for OutOfMemory {
 /// What a core is asked. Extents are named by their numbers. `Core::apply` speaks of a full history (41) and of a
 /// halted core (40).
 ///
-/// In format 3 chunks and runs of the index lie on extents of their own, and over a disk that keeps to the model only a
-/// Put is refused 30. In the older formats they may lie on one extent. There 26 never comes. A Stage merges all that is
-/// live if four runs are there, and does nothing else. BeginSweep is refused 33 only of an extent that is open, empty,
-/// being swept or not there. A chunk that is moved counts at once and stays where it was moved to, and Retire merges
-/// all that is live.
+/// Chunks and runs of the index lie on extents of their own, and over a disk that keeps to the model only a Put is
+/// refused 30.
+///
+/// In format 2 they may lie on one extent. There 26 never comes. A Stage merges all that is live if four runs are
+/// there, and does nothing else. BeginSweep is refused 33 only of an extent that is open, empty, being swept or not
+/// there. A chunk that is moved counts at once and stays where it was moved to, and Retire merges all that is live.
 #[derive(Debug, Drop)]
 pub enum Event {
     /// To keep these bytes under an identifier: `Accepted`. Refused 31 TooLarge, then 32 IndexFull, then 30 Full, then
@@ -41,7 +42,7 @@ pub enum Event {
     Put(ShardId, Bytes),
     /// For the bytes of an identifier: `Found` or `Absent`. Refused 1 DeviceFault; 20 BadMagic, 21 BadDigest, 22
     /// BadLength, 23 BadPadding or 24 BadVersion if a chunk is damaged; 26 Misplaced if a whole frame lies there that
-    /// isn't the chunk's.
+    /// isn't the chunk's; then 22 if the chunk's payload is shorter than a head.
     Get(ShardId),
     /// To delete an identifier: `Accepted`, or `Absent` if there is nothing under it. Refused 35 WornOut.
     Delete(ShardId),

@@ -2,8 +2,8 @@
 //! its reply until a checkpoint replaces it.
 //!
 //! An event goes through `cores` (`apply`) and `stores` (`serve`), which refuses most of them where the store is
-//! halted, to one call of a `Store`: `commands`, `core_reads`, `stagings`, `rounds` or `sweep_events`. `core_openings` makes
-//! a new store, or one of what cs_reader reads.
+//! halted, to one call of a `Store`: `commands`, `core_reads`, `stagings`, `rounds` or `sweep_events`. `core_openings`
+//! makes a new store, or one of what cs_reader reads.
 #![tactic(auto)]
 
 mod commands;

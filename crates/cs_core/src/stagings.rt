@@ -38,8 +38,7 @@ impl Store {
     ///
     /// The run replaces as many of the newest runs as their sizes ask for, or all of them if such a run finds no place.
     /// If only a sweep that was given up left copies, the root is staged alone. Under each root the extents on which
-    /// nothing lives are emptied. In the older formats one run of all that is live replaces four runs, and nothing else
-    /// is done.
+    /// nothing lives are emptied. In format 2 one run of all that is live replaces four runs, and nothing else is done.
     pub fn stage(&mut self) -> Result<Option<u64>, Refusal>
         ensures step { self.old.halted ≡ false → Answers self.old Stage staged_or_not result self.new }
         ensures staged { IfOk result (λ staged. MatchOption staged ((self.old.index.table ≡ []) × (but_for_room self.new ≡ but_for_room self.old)) (λ v. self.new.index.table ≡ [])) }

@@ -31,8 +31,7 @@ pub struct Store {
     pub graph: Graph,
     pub extents: Extents,
     pub index: Index,
-    /// What a sweep copied that doesn't count yet. Nothing in the older formats, in which a chunk that is moved counts
-    /// at once.
+    /// What a sweep copied that doesn't count yet. Nothing in format 2, in which a chunk that is moved counts at once.
     pub sweeps: Sweeps,
     /// The newest root that is persistent, and after it those that were staged since and wait.
     pub roots: VecDeque<Root>,

@@ -64,7 +64,7 @@ impl Store {
     }
 
     /// Copies the first live chunk that isn't copied yet off an extent that is being swept. Returns which it was, or
-    /// None if all are copied. In the older formats it is moved, and None means that no chunk lives there.
+    /// None if all are copied. In format 2 it is moved, and None means that no chunk lives there.
     /// `Event::MoveOne` has the refusals.
     pub fn move_one<D: PageDisk>(
         &mut self,
@@ -101,8 +101,8 @@ impl Store {
     }
 
     /// Ends the sweep of an extent: what was copied counts, a root is staged as by `stage`, and the extent is emptied
-    /// under it. Returns the root's version. `Event::Retire` has the refusals. In the older formats one run of all that
-    /// is live is staged with the root.
+    /// under it. Returns the root's version. `Event::Retire` has the refusals. In format 2 one run of all that is live
+    /// is staged with the root.
     pub fn retire(&mut self, extent: usize) -> Result<u64, Refusal>
         ensures staged { OnOk result (self.new.index.table ≡ []) }
         ensures step { self.old.halted ≡ false → Answers self.old (Retire extent) (λ v. Retired v) result self.new }

@@ -1,5 +1,5 @@
 // A disk in a file, and how files are opened and made.
-ghost use Rattle.std.specs.Prelude.{◌≡◌, ◌≢◌, ◌<◌, ◌^◌, ◌↔◌, ◌*◌, [], Err, IsOk, IfErr, IfOk, IsOkUnless, OnErr, OnOk, Some, List, ℕ};
+ghost use Rattle.std.specs.Prelude.{◌≡◌, ◌≢◌, ◌<◌, ◌^◌, ◌↔◌, ◌*◌, [], Err, IsOk, IfErr, IfOk, IsOkUnless, OnErr, OnOk, Some, List, ℕ, min};
 ghost use Rattle.std.specs.BTreeMap.{IsEmpty, get};
 ghost use Rattle.std.specs.Ordering.{nat_cmp};
 ghost use Rattle.cs_disk.specs.Ahead.{pages_ahead};
@@ -12,8 +12,8 @@ use crate::{CrashDisk, DiskFault, FileFault, OpenFault, PageDisk, SystemFault};
 use std::alloc::Global;
 use std::fs::{File, TryLockError};
 use std::io;
-use std::io::ErrorKind;
-use std::os::unix::fs::{FileExt, OpenOptionsExt};
+use std::io::{ErrorKind, Seek, SeekFrom};
+use std::os::unix::fs::{FileExt, FileTypeExt, OpenOptionsExt};
 use std::rt::Files;
 
 /// A disk in a file, page 0 first. No clause can say what a file holds, so nothing says that it is honest: what is
@@ -79,6 +79,34 @@ impl FileDisk {
             Ok(_) => Err(FileFault::OddLength),
             Err(fault) => Err(FileFault::System(fault)),
         }
+    }
+
+    /// Opens a block device, or a file that plays one, to make a store on it: with as many whole pages as it has. Its length
+    /// stays as it is. Refused 1 DeviceFault alone.
+    pub fn open_device<R: Files<File = File>>(
+        rt: &R,
+        alloc: Global,
+        path: &str,
+    ) -> Result<Self, FileFault>
+        ensures pages { IfOk result (λ d. file_pages d < 2 ^ 52) }
+        ensures failures { IfOk result (λ d. file_failures d ≡ 0) }
+        ensures fault { IfErr result (λ fault. (fault ≢ FileFault.NotEmpty) × (fault ≢ FileFault.OddLength)) }
+    {
+        match existing(rt, path, Access::Write) {
+            Ok((file, length)) => Ok(FileDisk::over(alloc, file, length / 4096, Access::Write)),
+            Err(fault) => Err(FileFault::System(fault)),
+        }
+    }
+
+    /// The first pages of the file alone, at most so many, for a store that was made when its device had no more. What
+    /// comes after them is neither read nor written.
+    pub fn first_pages(self, pages: u64) -> Self
+        ensures pages { file_pages result ≡ min (file_pages self) pages }
+        ensures failures { file_failures result ≡ file_failures self }
+    {
+        let mut disk = self;
+        disk.pages = disk.pages.min(pages);
+        disk
     }
 
     /// Makes a file of so many pages of zeros, writes all of it where that is a gibibyte or less, and syncs it and its folder. One that is there is emptied, but
@@ -338,7 +366,7 @@ impl From<TryLockError> for NewFault {
 }
 
 // Of these functions no clause can say more than their types do; a test calls them.
-/// A file that is there, locked as this access asks for, and its length in bytes.
+/// A file that is there, locked as this access asks for, and its length in bytes; of a block device that of its whole pages.
 pub fn existing<R: Files<File = File>>(
     rt: &R,
     path: &str,
@@ -356,7 +384,18 @@ pub fn existing<R: Files<File = File>>(
     if about.is_dir() {
         return Err(SystemFault::Folder);
     }
+    if about.file_type().is_block_device() {
+        let size = size_of_device(&file)?;
+        return Ok((file, size));
+    }
     Ok((file, about.len()))
+}
+
+/// The bytes of the whole pages of a block device. Its metadata don't say how large it is, so its end is sought.
+fn size_of_device(file: &File) -> io::Result<u64> {
+    let mut device = file;
+    let size = device.seek(SeekFrom::End(0))?;
+    Ok(size - size % 4096)
 }
 
 /// Up to how many pages a new file is written full: a gibibyte.

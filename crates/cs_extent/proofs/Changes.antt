@@ -6,6 +6,7 @@ use Rattle.std.proofs.lemmas.Bool.Decides.{nat_tests}
 use Rattle.std.proofs.lemmas.Bool.{cases_lt}
 use Rattle.std.proofs.lemmas.List.{length-map, length-replicate, get_or-set_same, get_or-set_other}
 use Rattle.law_machine.specs.Extents.{emptied}
+use Rattle.law_machine.specs.Format.{Format}
 use Rattle.law_machine.specs.Lists.{with}
 use Rattle.cs_frame.specs.Geometries.{IsGeometry}
 use Rattle.cs_extent.specs.Frames.{greatest}
@@ -79,7 +80,7 @@ advanced_extents s e k x lt p g = λ i. record {
     generations d = ap (λ (y : ℕ × ℕ). y.1) (written_at s.written e x (0, 0) lt d) ∙ chosen (λ (y : ℕ × ℕ). y.1) (d == e) x (get_or s.written d (0, 0)) ∙ kept d (d == e) refl
 
 -- the extents that a superblock's sections record
-pub whole_new : (format pages sections : ℕ) (written : List (ℕ × ℕ)) → IsGeometry format (length written) pages sections → AllByRecursion (λ x. x.0 ≤ pages) written
+pub whole_new : (format : Format) (pages sections : ℕ) (written : List (ℕ × ℕ)) → IsGeometry format (length written) pages sections → AllByRecursion (λ x. x.0 ≤ pages) written
     → (resets : List ℕ) (swept of_runs : List Bool) (found : List ℕ) → resets ≡ replicate (length written) 0
     → swept ≡ replicate (length written) false → of_runs ≡ replicate (length written) false → length found ≡ length written
     → ((e : ℕ) → get_or found e 0 ≤ (get_or written e (0, 0)).0) → IsWhole (record { format = format; pages = pages; sections = sections; written = written; resets = resets; swept = swept; open_extent = None; of_runs = of_runs; found = found; fresh = None; last = None })

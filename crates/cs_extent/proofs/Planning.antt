@@ -94,8 +94,8 @@ open_next o planned i lt =
 
 -- ---- counts
 
--- So many of the chunks are planned, and the versions that they take are counted. If all fit, those that are left do; and wherever these
--- go, the counts with theirs are those of all.
+-- So many of the chunks are planned, and the versions that they take are counted. If all fit, those that are left do;
+-- and wherever these go, the counts with theirs are those of all.
 pub record IsPlanned (S : Shape) (x : Extents) (frames : List ℕ) (n : ℕ) (planned : List Placement) (counts : List ℕ) : Type 0 where
   pub left : FitsBy S true x ForPut frames → FitsBy S true (after_planned x planned) ForPut (drop n frames)
   pub size : length counts ≡ 15

@@ -3,6 +3,7 @@ use Rattle.std.proofs.Common.{◌≡◌, ◌∙◌, ℕ, zero, suc, ◌+◌, ◌
 use Rattle.std.specs.List.{AllByRecursion}
 use Rattle.std.proofs.lemmas.Bool.{lt-ltb}
 use Rattle.std.proofs.lemmas.List.{get_or-drop, get_or-take, length-drop, length-take}
+use Rattle.law_machine.specs.Format.{Format}
 use Rattle.cs_frame.specs.declared.superblocks.Superblock.{Superblock}
 use Rattle.cs_frame.specs.Geometries.{IsGeometry, lengths_below, section_length, section_size, section_start}
 use Rattle.cs_frame.proofs.GeometryLaws.{lengths_sum, section_inside}
@@ -19,7 +20,7 @@ geometry_is (it ∷ sections) are =
     subst (λ (n : ℕ). IsGeometry it.format it.extent_count it.pages n) first.of_sections first.is.geometry
 
 -- sections from section k on record as many extents as they have
-rows_from : (format extents pages count k : ℕ) (sections : List Superblock)
+rows_from : (format : Format) (extents pages count k : ℕ) (sections : List Superblock)
     → ((i : ℕ) (it : Superblock) → slice_get sections i ≡ Some it → IsSectionAt format extents pages count (k + i) it)
     → lengths_below extents count k + length (rows_of sections) ≡ lengths_below extents count (k + length sections)
 rows_from format extents pages count k [] each =
@@ -56,7 +57,7 @@ all_append : (P : ℕ × ℕ → Type 0) (xs ys : List (ℕ × ℕ)) → AllByRe
 all_append P [] ys a b = b
 all_append P (x ∷ xs) ys a b = (a.0, all_append P xs ys a.1 b)
 
-rows_point : (format extents pages count k : ℕ) (sections : List Superblock)
+rows_point : (format : Format) (extents pages count k : ℕ) (sections : List Superblock)
     → ((i : ℕ) (it : Superblock) → slice_get sections i ≡ Some it → IsSectionAt format extents pages count (k + i) it)
     → AllByRecursion (λ (x : ℕ × ℕ). x.0 ≤ pages) (rows_of sections)
 rows_point format extents pages count k [] each = tt
@@ -91,7 +92,7 @@ part_inside extents sections j = below (section_size extents sections) (extents 
     below : (a b : ℕ) → min a b ≤ b
     below a b = omega arith
 
-pub end_inside : (format extents pages sections j : ℕ) → IsGeometry format extents pages sections → j < sections
+pub end_inside : (format : Format) (extents pages sections j : ℕ) → IsGeometry format extents pages sections → j < sections
     → section_start extents sections j + section_length extents sections j ≤ extents
 end_inside format extents pages sections j g lt =
     let low : j * section_size extents sections ≤ (sections - 1) * section_size extents sections = mul-le-mul_right (section_size extents sections) (omega (arith, lt)) in

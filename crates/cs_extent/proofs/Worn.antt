@@ -77,8 +77,8 @@ family_one zero (suc j) is = absurd (omega (arith, is))
 family_one (suc i) zero is = absurd (omega (arith, is))
 family_one (suc i) (suc j) is = omega (arith, is)
 
--- Once a frame went to e, the last version of each section, and those that further frames take, together are what they were with the frame
--- still to come.
+-- Once a frame went to e, the last version of each section, and those that further frames take, together are what they
+-- were with the frame still to come.
 pub frame_counts : (S : Shape) (old new : List ℕ) (e : ℕ) (es : List ℕ) → S.section e < S.sections → length old ≡ 1 + S.sections
     → new ≡ set old (family_of (S.section e)) (get_or old (family_of (S.section e)) 0 + 1)
     → (j : ℕ) → get_or new (family_of j) 0 + in_section S j es ≡ get_or old (family_of j) 0 + in_section S j (e ∷ es)
@@ -250,8 +250,8 @@ count_more S counts more section e is lt same later j a = ⊎_elim
     ((λ h. omega (arith, h, count, read)), (λ h. omega (arith, h, count, read))))
     (cases_eq j section)
 
--- So many of the frames have been counted; this is where the next goes, and wherever those that are left go, the counts with theirs are
--- those of all.
+-- So many of the frames have been counted; this is where the next goes, and wherever those that are left go, the counts
+-- with theirs are those of all.
 pub record IsCounted (S : Shape) (x : Extents) (r : Reason) (frames : List ℕ) (n : ℕ) (w : Way) (counts : List ℕ) : Type 0 where
   pub extents : Extents
   pub begun : IsBegun S extents

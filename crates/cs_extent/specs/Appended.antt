@@ -8,15 +8,15 @@ use Rattle.law_machine.specs.Extents.{Goes, Purpose as Reason, taken_by}
 use Rattle.cs_extent.specs.Frames.{AreResetsStaged, AreWritten, IsFrameStaged, IsOfFrame, AddsOnlyOf, family_of, next_place, next_section, root_recorded}
 use Rattle.cs_extent.specs.State.{SpellsExtents, State, extents_of, need_of, shape}
 
--- the next frame may be appended: the root and each section have a family of versions, and what was reset goes with a version of the
--- root that was staged
+-- the next frame may be appended: the root and each section have a family of versions, and what was reset goes with a
+-- version of the root that was staged
 pub record IsReady (x : State) (s : Staging) : Type 0 where
   pub families : length s.latest ≡ 1 + (shape x).sections
   pub resets : AreResetsStaged (extents_of x) s
 
--- A frame was appended at l, where chunks and runs lie apart or not. Its pages were given and staged after the pointer of an extent that
--- may take them, and then a version of that extent's section, which records them, and the root that was persistent before. Nothing else
--- was staged, and of all other elements no write is kept that wasn't kept before.
+-- A frame was appended at l, where chunks and runs lie apart or not. Its pages were given and staged after the pointer
+-- of an extent that may take them, and then a version of that extent's section, which records them, and the root that
+-- was persistent before. Nothing else was staged, and of all other elements no write is kept that wasn't kept before.
 pub record IsAppendedBy (apart : Bool) (x : State) (g : GraphState) (reason : Reason) (frame : List (List ℕ)) (l : Locator) (y : State) (h : GraphState) : Type 0 where
   pub placed : Goes (shape x) apart (extents_of x) reason (length frame) l.extent
   pub place : l ≡ next_place (extents_of x) l.extent (mark_of (shape x) frame)

@@ -9,6 +9,7 @@ use Rattle.cs_deps.specs.State.{State, Write, write_of}
 use Rattle.cs_frame.specs.declared.locators.Locator.{Locator}
 use Rattle.cs_frame.specs.Superblocks.{record_in}
 use Rattle.law_machine.specs.Extents.{Extents}
+use Rattle.law_machine.specs.Format.{Format}
 
 -- the family of the root's versions
 abbrev pub root_family : ℕ
@@ -57,19 +58,19 @@ abbrev pub NamesNextSection : Staging → (j : ℕ) → Named → Type 0
 NamesNextSection s j needs = (x : Element) → Names needs x ↔ IsVersionUpTo (family_of j) (slice_index s.latest (family_of j) + 1) x
 
 -- what a section's version that is staged then records in a format: the version of the root that is persistent
-abbrev pub root_recorded : (format : ℕ) → Staging → ℕ
+abbrev pub root_recorded : Format → Staging → ℕ
 root_recorded format s = record_in format (slice_index s.pending.persistent root_family)
 
--- The first plain write that a section's version needs by itself, where so many plain writes were staged before its frame of `count`
--- pages. Where page writes come first, with one section that is the first of all. With several it is the first of the version's own frame:
--- what the version before needs, the graph joins, and what the other sections' versions need is theirs. Where roots need the page writes
--- it is behind the last, so that the version needs none.
+-- The first plain write that a section's version needs by itself, where so many plain writes were staged before its
+-- frame of `count` pages. Where page writes come first, with one section that is the first of all. With several it is
+-- the first of the version's own frame: what the version before needs, the graph joins, and what the other sections'
+-- versions need is theirs. Where roots need the page writes it is behind the last, so that the version needs none.
 abbrev pub own_first : (pages_first : Bool) → (sections staged count : ℕ) → ℕ
 own_first pages_first sections staged count =
     if pages_first then (if sections == 1 then 1 else staged + 1) else staged + count + 1
 
--- the last plain write that a root needs by itself, where so many were staged before it, from the first on: none where page writes come
--- first, and else all
+-- the last plain write that a root needs by itself, where so many were staged before it, from the first on: none where
+-- page writes come first, and else all
 abbrev pub root_pages : (pages_first : Bool) → (staged : ℕ) → ℕ
 root_pages pages_first staged = if pages_first then 0 else staged
 
@@ -89,23 +90,23 @@ pub record ArePagesStaged (old new : Staging) (count root : ℕ) : Type 0 where
   pub staged : new.staged ≡ old.staged + count
   pub latest : new.latest ≡ old.latest
 
--- The next version of section j was staged. It needs the plain writes from `first` to the last staged and versions 1 to `need` of the
--- root, joined with what the version before it needs.
+-- The next version of section j was staged. It needs the plain writes from `first` to the last staged and versions 1 to
+-- `need` of the root, joined with what the version before it needs.
 pub record IsSectionStaged (old new : Staging) (j first need : ℕ) : Type 0 where
   pub needs : Named
   pub names : (x : Element) → Names needs x ↔ IsSectionNeed first old.staged need x
   pub version : IsVersionStaged old (family_of j) (slice_index old.latest (family_of j) + 1) needs new
 
--- a frame was staged, where page writes come first or don't and the superblock has so many sections: its pages, and then a version of
--- section j
+-- a frame was staged, where page writes come first or don't and the superblock has so many sections: its pages, and
+-- then a version of section j
 pub record IsFrameStaged (old new : Staging) (pages_first : Bool) (sections j count root need : ℕ) : Type 0 where
   pub between : Staging
   pub pages : ArePagesStaged old between count root
   pub section : IsSectionStaged between new j (own_first pages_first sections old.staged count) need
 
--- Where the superblock has one section and page writes come first: what waits is what waited, and behind it a frame's elements, whose
--- needs are exact: its pages, each of which needs versions 1 to `root` of the root, and the section's next version, which needs the
--- plain writes so far and versions 1 to `need` of the root.
+-- Where the superblock has one section and page writes come first: what waits is what waited, and behind it a frame's
+-- elements, whose needs are exact: its pages, each of which needs versions 1 to `root` of the root, and the section's
+-- next version, which needs the plain writes so far and versions 1 to `need` of the root.
 pub record IsFrameBehind (old new : Staging) (count root need : ℕ) : Type 0 where
   pub entries : List (Element × Named)
   pub behind : new.pending.waiting ≡ old.pending.waiting ++ entries
@@ -136,8 +137,8 @@ IsOfFrame s j count (Version f v) = (f ≡ family_of j) × (v ≡ slice_index s.
 abbrev pub AddsOnlyOf : State → State → (Element → Type 0) → Type 0
 AddsOnlyOf old new These = (x : Element) (w : Write) → write_of new x ≡ Some w → (write_of old x ≡ Some w) ⊎ These x
 
--- Where the superblock has one section: what its waiting versions need is staged plain writes, and no later version of the root than
--- `need`.
+-- Where the superblock has one section: what its waiting versions need is staged plain writes, and no later version of
+-- the root than `need`.
 abbrev pub AreOneSectionsNeedsWithin : Staging → (need : ℕ) → Type 0
 AreOneSectionsNeedsWithin s need =
     (k v : ℕ) (d : Named) (x : Element) → WaitsAt s.pending k (Version (family_of 0) v) d → Names d x → IsSectionNeed 1 s.staged need x

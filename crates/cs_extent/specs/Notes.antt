@@ -3,8 +3,9 @@ use Rattle.std.specs.Prelude.{◌==◌, ℕ, true, Some, if◌then◌else◌, sl
 use Rattle.law_machine.specs.Extents.{ForMerge, ForMove, ForPut, ForRun, Purpose as Reason}
 use Rattle.cs_extent.specs.State.{State}
 
--- A frame went to e, of which so many pages were given before. A chunk of a put leaves e open, and a run leaves it one that holds runs. A
--- copy leaves it the last that copies went to, and the one that the sweep opened where none of its pages were given before.
+-- A frame went to e, of which so many pages were given before. A chunk of a put leaves e open, and a run leaves it one
+-- that holds runs. A copy leaves it the last that copies went to, and the one that the sweep opened where none of its
+-- pages were given before.
 abbrev pub noted_in : Reason → (e : ℕ) → (given : ℕ) → State → State
 noted_in ForPut e given s = record s { open_extent = Some e }
 noted_in ForRun e given s = record s { of_runs = slice_set s.of_runs e true }

@@ -1,4 +1,4 @@
--- Where frames go by a store's own rule, and room for them in the older formats, as two numbers.
+-- Where frames go by a store's own rule, and room for them in format 2, as two numbers.
 use Rattle.std.specs.Prelude.{◌≡◌, ◌≤◌, ◌-◌, ℕ, true, All, length, List, Option, Some, None, nat_le, nat_lt, if◌then◌else◌}
 use Rattle.law_machine.specs.Device.{Shape}
 use Rattle.law_machine.specs.Extents.{FitsBy, Goes, Purpose as Reason}

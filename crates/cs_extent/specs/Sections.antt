@@ -1,5 +1,6 @@
 -- The sections of a superblock, of which a store's extents are read.
 use Rattle.std.specs.Prelude.{◌≡◌, ℕ, ◌<◌, List, [], ◌∷◌, Some, length, flat_map, slice_get}
+use Rattle.law_machine.specs.Format.{Format, Two}
 use Rattle.cs_frame.specs.declared.superblocks.Superblock.{Superblock}
 use Rattle.cs_frame.specs.Superblocks.{IsSuperblock}
 
@@ -8,8 +9,8 @@ abbrev pub rows_of : List Superblock → List (ℕ × ℕ)
 rows_of sections = flat_map (λ it. it.extents.items) sections
 
 -- the format of the store, as the first of them says
-abbrev pub format_of : List Superblock → ℕ
-format_of [] = 0
+abbrev pub format_of : List Superblock → Format
+format_of [] = Two
 format_of (it ∷ sections) = it.format
 
 -- the pages of an extent, as the first of them says
@@ -23,7 +24,7 @@ count_of [] = 0
 count_of (it ∷ sections) = it.extent_count
 
 -- this is section k of a superblock of so many sections, of a store of this format and of so many extents and pages
-pub record IsSectionAt (format extents pages sections k : ℕ) (it : Superblock) : Type 0 where
+pub record IsSectionAt (format : Format) (extents pages sections k : ℕ) (it : Superblock) : Type 0 where
   pub is : IsSuperblock it
   pub of_format : it.format ≡ format
   pub of_extents : it.extent_count ≡ extents

@@ -3,6 +3,7 @@ use Rattle.std.specs.Prelude.{◌≡◌, ℕ, ◌+◌, ◌<◌, ◌≤◌, ◌^�
 use Rattle.law_machine.specs.Device.{Shape}
 use Rattle.law_machine.specs.Geometry.{apart_in, shape_of}
 use Rattle.law_machine.specs.Extents.{Extents}
+use Rattle.law_machine.specs.Format.{Format}
 use Rattle.cs_frame.specs.Geometries.{Dimensions, IsGeometry, section_length, section_size, section_start}
 use Rattle.cs_frame.specs.Superblocks.{SpellsSuperblock}
 use Rattle.cs_extent.specs.Frames.{greatest}
@@ -10,7 +11,7 @@ use Rattle.cs_extent.specs.Frames.{greatest}
 -- the extents of a store, as lists with a place for each
 pub record State : Type 0 where
   -- which format the store has
-  pub format : ℕ
+  pub format : Format
   -- how many pages each extent has
   pub pages : ℕ
   -- how many sections the superblock has
@@ -23,8 +24,8 @@ pub record State : Type 0 where
   pub swept : List Bool
   -- the extent that frames are appended to, if there is one
   pub open_extent : Option ℕ
-  -- where chunks and runs lie apart, of each extent: whether it holds runs, and how many of its pages were given as the store was
-  -- opened, 0 once it was reset
+  -- where chunks and runs lie apart, of each extent: whether it holds runs, and how many of its pages were given as the
+  -- store was opened, 0 once it was reset
   pub of_runs : List Bool
   pub found : List ℕ
   -- so too: the extent that the sweep opened, if it has, and the one to which the last copy of any sweep went
@@ -45,13 +46,14 @@ extents_of s = record {
   last = s.last;
 }
 
--- how many pages of each extent count as found where so many are given at open: all where chunks and runs lie apart, else none
+-- how many pages of each extent count as found where so many are given at open: all where chunks and runs lie apart,
+-- else none
 abbrev pub found_at : (apart : Bool) → (written : List (ℕ × ℕ)) → List ℕ
 found_at false written = replicate (length written) 0
 found_at true written = map (λ row. row.0) written
 
 -- the extents as a store is opened: none is open, none was reset, none is being swept, and none holds runs yet
-abbrev pub extents_at : (format pages sections : ℕ) → (written : List (ℕ × ℕ)) → State
+abbrev pub extents_at : (format : Format) (pages sections : ℕ) (written : List (ℕ × ℕ)) → State
 extents_at format pages sections written = record {
   format = format;
   pages = pages;

@@ -1,5 +1,5 @@
--- Where frames go that are to be appended one after another, how many versions of each section they take, and whether a number
--- would pass its greatest.
+-- Where frames go that are to be appended one after another, how many versions of each section they take, and whether a
+-- number would pass its greatest.
 use Rattle.std.specs.Prelude.{◌≡◌, ◌⊎◌, ◌↔◌, ◌+◌, ◌^◌, ◌<◌, ◌≤◌, ◌==◌, ℕ, Bool, List, [], ◌∷◌, count_by, slice_index, sum}
 use Rattle.cs_deps.specs.Staging.{Staging}
 use Rattle.law_machine.specs.Device.{Shape}
@@ -7,8 +7,8 @@ use Rattle.law_machine.specs.Extents.{Extents, Goes, Purpose as Reason, taken_by
 use Rattle.cs_extent.specs.Frames.{IsWorn, family_of}
 use Rattle.cs_extent.specs.State.{State, extents_of, shape}
 
--- a frame of so many pages has a place, and the number of one of its plain writes, or of the version of its extent's section, would
--- pass 2^63 - 1
+-- a frame of so many pages has a place, and the number of one of its plain writes, or of the version of its extent's
+-- section, would pass 2^63 - 1
 abbrev pub IsFrameWornBy : (apart : Bool) → State → Reason → Staging → (pages : ℕ) → Type 0
 IsFrameWornBy apart x reason s pages =
     (e : ℕ) × Goes (shape x) apart (extents_of x) reason pages e × IsWorn s ((shape x).section e) pages
@@ -29,7 +29,8 @@ ArePlacedBy S apart x reason (k ∷ ks) [] = ⊥
 abbrev pub in_section : Shape → (j : ℕ) → (places : List ℕ) → ℕ
 in_section S j places = count_by (λ e. S.section e == j) places
 
--- appending frames of these numbers of pages would take the number of a plain write, or of a version of a section, past 2^63 - 1
+-- appending frames of these numbers of pages would take the number of a plain write, or of a version of a section, past
+-- 2^63 - 1
 abbrev pub AreWornBy : (apart : Bool) → State → Staging → Reason → (pages : List ℕ) → Type 0
 AreWornBy apart x s reason pages = (2 ^ 63 ≤ s.staged + sum pages)
     ⊎ ((places : List ℕ) × ArePlacedBy (shape x) apart (extents_of x) reason pages places
@@ -46,8 +47,8 @@ pub record IsEmptyFrom (extents : ℕ) (pointer : ℕ → ℕ) (start e : ℕ) :
   pub empty : pointer e ≡ 0
   pub first : (d : ℕ) → start ≤ d → d < e → 0 < pointer d
 
--- Frames of these numbers of pages take so many versions of each section: any number plus one of these counts is past 2^63 - 1 exactly
--- where it is with the true count. So a count may stop at a great number.
+-- Frames of these numbers of pages take so many versions of each section: any number plus one of these counts is past
+-- 2^63 - 1 exactly where it is with the true count. So a count may stop at a great number.
 abbrev pub AreCountedBy : Shape → (apart : Bool) → Extents → Reason → (pages counts : List ℕ) → Type 0
 AreCountedBy S apart x reason pages counts = (places : List ℕ) × ArePlacedBy S apart x reason pages places
     × ((j a : ℕ) → j < 15 → (2 ^ 63 ≤ a + in_section S j places) ↔ (2 ^ 63 ≤ a + slice_index counts j))

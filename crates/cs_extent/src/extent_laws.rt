@@ -19,7 +19,7 @@ pub fn pages_are_given_once()
         ⊎ ((page.generation ≡ x.generation page.extent) × (x.pointer page.extent ≤ page.page)) }
 {}
 
-/// A frame goes to one extent, if to any, in format 3 as in the older formats.
+/// A frame goes to one extent, if to any. So it is in format 2, too.
 pub fn one_place()
     ensures mixed { (S : Shape) (x : Extents) (purpose : Purpose) (k d e : ℕ) → Placed S x purpose k d → Placed S x purpose k e → d ≡ e }
     ensures apart { (S : Shape) (x : Extents) (purpose : Purpose) (k d e : ℕ) → GoesApart S x purpose k d → GoesApart S x purpose k e → d ≡ e }

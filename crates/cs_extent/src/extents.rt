@@ -35,13 +35,13 @@ pub struct Extents {
     /// Which extents are being swept; opening forgets it.
     swept: Vec<bool>,
     pub(crate) open_extent: Option<usize>,
-    /// In format 3, which extents hold runs.
+    /// Which extents hold runs; none in format 2.
     pub(crate) of_runs: Vec<bool>,
-    /// In format 3, how many pages of each extent were given as the store was opened, 0 once it was reset.
+    /// How many pages of each extent were given when the store was opened, 0 after a reset and in format 2.
     pub(crate) found: Vec<u16>,
-    /// In format 3, the extent that the sweep opened.
+    /// The extent that the sweep opened; none in format 2.
     pub(crate) fresh: Option<usize>,
-    /// In format 3, the extent to which the last copy of any sweep went.
+    /// The extent to which the last copy of any sweep went; none in format 2.
     pub(crate) last: Option<usize>,
 }
 
@@ -60,7 +60,7 @@ pub const LAST_GENERATION: u32 = 0xffff_ffff;
 
 impl Extents {
     /// The extents that the sections of a superblock record, in order: none is open, none was reset, and none is being
-    /// swept. In format 3 none holds runs, until `set_kind` says so. Takes memory for each extent.
+    /// swept. None holds runs, until `set_kind` says so. Takes memory for each extent.
     pub fn of(alloc: Global, sections: &[Superblock]) -> Result<Self, AllocError>
         requires { AreSections sections.now }
         ensures { IfOk result (λ x. x ≡ extents_at (format_of sections.now) (pages_of sections.now) (length sections.now) (rows_of sections.now)) }
@@ -95,8 +95,8 @@ impl Extents {
         self.geometry
     }
 
-    /// Whether a section's version needs the plain writes that it counts, as it does in the older formats. Else a root
-    /// needs all plain writes that were staged before it.
+    /// Whether a section's version needs the plain writes that it counts, as it does in format 2. Else a root needs all
+    /// plain writes that were staged before it.
     pub fn pages_first(&self) -> bool
         ensures { result ≡ (shape self.now).pages_first }
     {
@@ -163,8 +163,9 @@ impl Extents {
     }
 
     /// Empties an extent, under the version of the root that was staged for it. Nothing is staged: the next version of
-    /// its section records it. An open before that version is persistent finds the extent as it was. In format 3 the
-    /// extent is no longer one of runs, none of its pages counts as found, and no frame follows another on it.
+    /// its section records it. An open before that version is persistent finds the extent as it was. The extent is no
+    /// longer one of runs, none of its pages counts as found, and no frame follows another on it. Format 2 notes none
+    /// of these.
     ///
     /// 35 `WornOut` if its generation is the greatest, 4,294,967,295.
     pub fn reset(&mut self, extent: usize, root: u64) -> Result<(), Refusal>
@@ -300,8 +301,8 @@ impl Extents {
         entry.0 += pages as u16;
     }
 
-    /// What a version of a section records that is staged now: the version of the root that is persistent, 0 in the
-    /// older formats.
+    /// What a version of a section records that is staged now: the version of the root that is persistent, 0 in
+    /// format 2.
     fn recorded(&self, graph: &Graph) -> u64
         requires { root_family < length graph.now.staging.latest }
         ensures record { result ≡ root_recorded (shape self.now).format graph.now.staging }
@@ -393,7 +394,7 @@ impl Extents {
     /// reset since open, if there is one. The version needs what the one before it needs, and the greatest such root of
     /// the section's extents. Every root that is staged later needs the frame's pages.
     ///
-    /// In the older formats the version itself needs the frame's pages, and so they are persistent once it is. If there
+    /// In format 2 the version itself needs the frame's pages, and so they are persistent once it is. If there
     /// is one section alone it needs all plain writes so far. It records no root.
     ///
     /// Returns where the frame begins, and a dependency that names this version of the section and all before it.

@@ -1,4 +1,4 @@
-//! What is noted of the extents in format 3, in which chunks and runs lie apart.
+//! What is noted of the extents if chunks and runs lie apart.
 ghost use Rattle.std.specs.Prelude.{◌≡◌, ◌↔◌, ◌<◌, ◌≤◌, ◌^◌, ◌==◌, if◌then◌else◌, ℕ, true, Some, None, IfOk, IfErr, OnOk, OnErr, IsTrue, length};
 ghost use Rattle.law_machine.specs.Extents.{emptied, forgotten, other_than, reach};
 ghost use Rattle.law_machine.specs.Geometry.{apart_in, fills_in};
@@ -151,8 +151,8 @@ fn unless_equal(extent: usize, other: usize) -> Option<usize>
     if other == extent { None } else { Some(other) }
 }
 
-/// How many pages of each extent count as found as a store of this format is opened: all that are given in format 3,
-/// else none.
+/// How many pages of each extent count as found when a store of this format is opened: all that are given, but none in
+/// format 2.
 pub fn found_at(
     alloc: Global,
     written: &[(u16, u32)],

@@ -1,5 +1,5 @@
 //! Where frames go. A frame goes after the last one of its kind, else after others of its kind, else to an empty
-//! extent. The older formats have rules of their own, in `places_v2`.
+//! extent. Format 2 has rules of its own, in `places_v2`.
 ghost use Rattle.std.specs.Prelude.{◌≡◌, ◌↔◌, ◌⊎◌, ◌+◌, ◌-◌, ◌<◌, ◌≤◌, ◌^◌, if◌then◌else◌, ℕ, IfErr, IsTrue, MatchBool, MatchOption, OnOk, Some};
 ghost use Rattle.law_machine.specs.Extents.{Behind, ForPut, IsFirst, IsFirstEmpty, MayFill, MayOpen, chunk_extents, how_many, noted, one_if, run_extents};
 ghost use Rattle.cs_extent.specs.Appended.{IsReady};
@@ -42,7 +42,7 @@ impl Extents {
     }
 
     /// Whether frames of these numbers of pages, appended one after another, all find a place. Takes no memory, and
-    /// costs a few passes over the extents for each frame. In the older formats it costs a few for all of them.
+    /// costs a few passes over the extents for each frame. In format 2 it costs a few for all of them.
     pub fn fits(&self, frame_pages: &[usize], purpose: Purpose) -> bool
         requires pages { AreFrameSizes (shape self.now) frame_pages.now }
         requires few { AreFew (shape self.now) purpose frame_pages.now }

@@ -1,4 +1,4 @@
-//! Where frames go in the older formats, in which chunks and runs may lie on one extent: to the open extent, else to an
+//! Where frames go in format 2, in which chunks and runs may lie on one extent: to the open extent, else to an
 //! empty one.
 ghost use Rattle.std.specs.Prelude.{◌≡◌, ◌↔◌, ◌+◌, ◌-◌, ◌<◌, ◌≤◌, ◌^◌, ◌==◌, if◌then◌else◌, ℕ, false, IsTrue, MatchOption, Some, None, length};
 ghost use Rattle.law_machine.specs.Extents.{Fits, Placed, open_after, spare};

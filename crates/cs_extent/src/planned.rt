@@ -1,4 +1,5 @@
-//! Where the chunks of a put go in format 3, before any is appended: each is planned after those before it.
+//! Where the chunks of a put go if chunks and runs lie apart, before any is appended: each is planned after those
+//! before it.
 ghost use Rattle.std.specs.Prelude.{◌≡◌, ◌+◌, ◌<◌, ◌≤◌, ◌==◌, if◌then◌else◌, ℕ, true, MatchOption, length};
 ghost use Rattle.law_machine.specs.Extents.{FitsBy, ForPut};
 ghost use Rattle.cs_extent.specs.Places.{AreFrameSizes};

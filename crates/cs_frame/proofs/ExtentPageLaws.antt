@@ -1,5 +1,5 @@
--- A page that spells pointers and generations of extents, the whole superblock's or a section's: what its tests say, and that they pass
--- where it was written.
+-- A page that spells pointers and generations of extents, the whole superblock's or a section's: what its tests say,
+-- and that they pass where it was written.
 use Rattle.std.proofs.Common.{◌≡◌, ◌≢◌, ℕ, ◌+◌, ◌-◌, ◌*◌, ◌/◌, ◌≤◌, ◌<◌, ◌^◌, true, Bool, List, [], ◌∷◌, ◌++◌, length, take, drop, map, slice_index, codes, Option, None, Some, ne_eqb, refl, sym, ap, subst, ◌∙◌, arith, append_assoc, ◌&&◌, nat_le, nat_lt, ◌==◌, bytes_eq}
 use Rattle.std.specs.List.{AllByRecursion, list_all}
 use Rattle.std.specs.Simd.{first_chunks}
@@ -9,14 +9,14 @@ use Rattle.std.proofs.lemmas.List.Folds.{list_all-map}
 use Rattle.byteorder.specs.Endian.{big_bytes}
 use Rattle.sha2.specs.Sha256.{sha256}
 use Rattle.cs_frame.specs.declared.faults.FormatFault.{FormatFault}
-use Rattle.cs_frame.specs.declared.faults.FormatFault.TheVariants.{BadMagic, BadDigest, BadLength, BadPadding, BadVersion}
+use Rattle.cs_frame.specs.declared.faults.FormatFault.TheVariants.{BadMagic, BadDigest, BadLength, BadPadding, BadVersion, OutOfMemory}
 use Rattle.cs_frame.specs.Bytes.{IsBytes, IsPage, all_zero, field, number, zeros}
 use Rattle.cs_frame.specs.Faults.{first_fault, unless}
 use Rattle.cs_frame.specs.Pages.{padded, sealed, digest_test, digit_test, magic_test, padding_test}
 use Rattle.cs_frame.specs.Pointers.{FitsExtent, extent_in, extents_from, pointers_test, spelled_extent, spelled_extents, superblock_range_test}
 use Rattle.cs_frame.proofs.Fields.{after_field, field_2, field_4, field_8, number_at, number_below, take_more, length-field, IsBytes-field}
 use Rattle.cs_frame.proofs.Pieces.{AllByRecursion-map, AllByRecursion-and, each_piece, length-first_chunks, length-spelled, read_pieces, spelled_pieces}
-use Rattle.cs_frame.proofs.TestLaws.{Passes, fails_second, passed, and_passes, no_test, same_bytes, equal_bytes, all_true, true_all}
+use Rattle.cs_frame.proofs.TestLaws.{Passes, fails_second, no_memory, passed, and_passes, no_test, same_bytes, equal_bytes, all_true, true_all}
 use Rattle.cs_frame.proofs.PageLaws.{digest_of_padded, four_bytes, zeros_of_padded}
 
 -- ---- pointers and generations
@@ -148,6 +148,17 @@ pub other_digit : (page : List ℕ) (digit : ℕ) (counts : Bool) (end : ℕ) (e
 other_digit page digit counts end extents magic other =
     fails_second (bytes_eq (field 0 3 page) (codes "CSS")) (slice_index page 3 == digit) BadMagic BadVersion
     (unless counts BadLength ∷ digest_test end page ∷ superblock_range_test page ∷ pointers_test (number 14 16 page) extents ∷ padding_test (end + 32) page ∷ []) magic (ne_eqb (slice_index page 3) digit other)
+
+-- memory that ran out is none of their faults
+pub never_memory : (page : List ℕ) (digit : ℕ) (counts : Bool) (end : ℕ) (extents : List (ℕ × ℕ)) → first_fault (tests_of page digit counts end extents) ≡ Some OutOfMemory → ⊥
+never_memory page digit counts end extents h =
+    let padding = no_memory (all_zero (drop (end + 32) page)) BadPadding [] (λ e. cc) (λ e. cc) in
+    let pointers = no_memory (list_all (λ (e : ℕ × ℕ). nat_le e.0 (number 14 16 page)) extents) BadLength (padding_test (end + 32) page ∷ []) (λ e. cc) padding in
+    let range = no_memory (nat_le 1 (number 4 12 page) && nat_lt (number 4 12 page) (2 ^ 63)) BadVersion _ (λ e. cc) pointers in
+    let digest = no_memory (bytes_eq (field end (end + 32) page) (sha256 (take end page))) BadDigest _ (λ e. cc) range in
+    let counted = no_memory counts BadLength _ (λ e. cc) digest in
+    let fourth = no_memory (slice_index page 3 == digit) BadVersion _ (λ e. cc) counted in
+    no_memory (bytes_eq (field 0 3 page) (codes "CSS")) BadMagic _ (λ e. cc) fourth h
 
 -- and where that holds they pass
 pub sound_passes : (page : List ℕ) (digit : ℕ) (counts : Bool) (end : ℕ) (extents : List (ℕ × ℕ)) → IsSound page digit counts end extents → first_fault (tests_of page digit counts end extents) ≡ None

@@ -1,34 +1,40 @@
--- A page without a fault as a superblock of the first format is spelled so, and what is spelled so has no fault and is read as it was.
-use Rattle.std.proofs.Common.{◌≡◌, ◌≢◌, ◌⊎◌, ℕ, ◌+◌, ◌*◌, ◌≤◌, ◌==◌, true, false, Bool, List, ◌++◌, length, take, slice_index, codes, None, Some, refl, sym, ap, subst, inl, inr, ⊎_elim, ◌∙◌, arith, length-append, eq-eqb, ne_eqb, if◌then◌else◌}
+-- A page without a fault as a superblock of the first format is spelled so, and what is spelled so has no fault and
+-- is read as it was.
+use Rattle.std.proofs.Common.{◌≡◌, ◌≢◌, ◌⊎◌, ℕ, ◌+◌, ◌*◌, ◌≤◌, ◌==◌, true, false, Bool, List, ◌++◌, length, take, slice_index, codes, None, Some, refl, sym, ap, subst, inl, inr, ⊎_elim, ◌∙◌, arith, bytes_eq, length-append, eq-eqb, ne_eqb, if◌then◌else◌}
 use Rattle.byteorder.specs.Endian.{big_bytes}
 use Rattle.cs_frame.specs.declared.faults.FormatFault.TheVariants.{BadVersion}
-use Rattle.cs_frame.specs.Bytes.{IsPage, number}
-use Rattle.cs_frame.specs.Geometries.{IsKnown, greatest_superblock_extents, in_bounds, section_length}
+use Rattle.cs_frame.specs.declared.formats.FormatNumber.{FormatNumber}
+use Rattle.cs_frame.specs.declared.formats.FormatNumber.TheVariants as of_number
+use Rattle.cs_frame.specs.Bytes.{IsPage, field, number}
+use Rattle.cs_frame.specs.FormatNumbers.{number_in, section_digit}
+use Rattle.cs_frame.specs.Geometries.{greatest_superblock_extents, in_bounds, section_length}
+use Rattle.law_machine.specs.Format.{Format, Two}
 use Rattle.cs_frame.specs.Pages.{padded, sealed}
 use Rattle.cs_frame.specs.FirstFormat.{FitsFirstFormat, SpellsFirstFormat, first_format_end, first_format_extents, first_format_fault, first_format_fields, page_zero_fault, IsOfFirstFormat, SpellsPageZero, spelled_first_format, zero_format}
-use Rattle.cs_frame.specs.Superblocks.{FitsSuperblock, SpellsSuperblock, superblock_end, superblock_extents, superblock_fault}
-use Rattle.cs_frame.proofs.SuperblockLaws.{counts as section_counts, fourth_is as section_fourth, same_magic, spelled_has_none as section_has_none}
+use Rattle.cs_frame.specs.Superblocks.{FitsSuperblock, SpellsSuperblock, superblock_fault}
+use Rattle.cs_frame.proofs.SuperblockLaws.{fourth_is as section_fourth, refused_as, same_magic, spelled_has_none as section_has_none}
 use Rattle.cs_frame.specs.Pointers.{extents_from, spelled_extents}
 use Rattle.cs_frame.proofs.ExtentPageLaws.{are_read, count_again, extents_from-spelled, first_bytes, fourth_byte, head_is_spelled, length-spelled_extents, other_digit, pages_again, sound, sound_passes, spelled_is_sound, tail_again, version_again}
 use Rattle.cs_frame.proofs.Fields.{field_at, take_more}
-use Rattle.cs_frame.proofs.GeometryLaws.{for_known, in_bounds-within, within}
+use Rattle.cs_frame.proofs.GeometryLaws.{in_bounds-within, within}
 use Rattle.cs_frame.proofs.PageLaws.{page_is_padded}
 
--- no known format is the first
-pub not_first : (format : ℕ) → IsKnown format → format ≡ 1 → ⊥
-not_first = for_known (λ f. f ≡ 1 → ⊥) (λ is. omega (arith, is)) (λ is. omega (arith, is))
+-- no section has the digit of the first format
+pub not_first : (n : FormatNumber) → section_digit n ≡ 49 → ⊥
+not_first of_number.Two is = omega (arith, is)
+not_first of_number.Four is = omega (arith, is)
 
 -- ---- a page without a fault
 
 -- the numbers of extents and pages pass
 abbrev counts : List ℕ → Bool
-counts page = in_bounds 2 greatest_superblock_extents (number 12 14 page) (number 14 16 page)
+counts page = in_bounds Two greatest_superblock_extents (number 12 14 page) (number 14 16 page)
 
 -- a page without a fault spells what is read from it
 pub spells : (page : List ℕ) (version pages : ℕ) (extents : List (ℕ × ℕ)) → IsPage page → first_format_fault page ≡ None → version ≡ number 4 12 page → pages ≡ number 14 16 page → extents ≡ first_format_extents page → SpellsFirstFormat page version pages extents
 spells page version pages extents p h v c r =
     let it = sound page 49 (counts page) (first_format_end page) (first_format_extents page) p.size h in
-    let bounds = within 2 greatest_superblock_extents (number 12 14 page) (number 14 16 page) it.counted in
+    let bounds = within Two greatest_superblock_extents (number 12 14 page) (number 14 16 page) it.counted in
     let size = p.size in
     let bound : first_format_end page + 32 ≤ 4096 = omega (arith, bounds.most_extents) in
     let there = are_read page (number 14 16 page) 16 (first_format_end page) (number 12 14 page) p refl (omega arith) it.pointers in
@@ -84,7 +90,7 @@ module _ (version pages : ℕ) (extents : List (ℕ × ℕ)) (fits : FitsFirstFo
       let page : List ℕ = spelled_first_format version pages extents in
       let e = count_is_read in
       let n = pages_are_read in
-      let counted : counts page ≡ true = in_bounds-within 2 greatest_superblock_extents (number 12 14 page) (number 14 16 page) (record {
+      let counted : counts page ≡ true = in_bounds-within Two greatest_superblock_extents (number 12 14 page) (number 14 16 page) (record {
         fewest_extents = omega (arith, e, fits.fewest_extents);
         most_extents = omega (arith, e, fits.most_extents);
         fewest_pages = omega (arith, n, fits.fewest_pages);
@@ -111,24 +117,25 @@ count_of page version pages extents s = ap (number 12 14) s.spelled ∙ count_is
 pub fourth_is : (page : List ℕ) → first_format_fault page ≡ None → slice_index page 3 ≡ 49
 fourth_is page h = fourth_byte page 49 (counts page) (first_format_end page) (first_format_extents page) h
 
--- it is refused as a section of any format by its fourth byte
-pub first_as_section : (format : ℕ) (page : List ℕ) → IsKnown format → first_format_fault page ≡ None → superblock_fault format page ≡ Some BadVersion
-first_as_section format page known h =
-    other_digit page (48 + format) (section_counts format page) (superblock_end format page) (superblock_extents format page)
-    (first_bytes page 49 (counts page) (first_format_end page) (first_format_extents page) h)
-    (λ same. not_first format known (omega (arith, same, fourth_is page h)))
+-- a page with the first three bytes and another digit is refused for that
+pub first_refused : (page : List ℕ) → bytes_eq (field 0 3 page) (codes "CSS") ≡ true → slice_index page 3 ≢ 49 → first_format_fault page ≡ Some BadVersion
+first_refused page magic other = other_digit page 49 (counts page) (first_format_end page) (first_format_extents page) magic other
+
+-- so it is refused as a section of any format by its fourth byte
+pub first_as_section : (n : FormatNumber) (page : List ℕ) → first_format_fault page ≡ None → superblock_fault n page ≡ Some BadVersion
+first_as_section n page h =
+    refused_as n page (first_bytes page 49 (counts page) (first_format_end page) (first_format_extents page) h)
+    (λ same. not_first n (sym same ∙ fourth_is page h))
 
 -- and a section is refused in the first format
-pub section_as_first : (format : ℕ) (page : List ℕ) → IsKnown format → superblock_fault format page ≡ None → first_format_fault page ≡ Some BadVersion
-section_as_first format page known h =
-    other_digit page 49 (counts page) (first_format_end page) (first_format_extents page) (same_magic format page h)
-    (λ same. not_first format known (omega (arith, same, section_fourth format page h)))
+pub section_as_first : (n : FormatNumber) (page : List ℕ) → superblock_fault n page ≡ None → first_format_fault page ≡ Some BadVersion
+section_as_first n page h = first_refused page (same_magic n page h) (λ same. not_first n (sym (section_fourth n page h) ∙ same))
 
 -- ---- page 0
 
 -- so the first format has no page in common with another
-pub apart : (format : ℕ) (page : List ℕ) → IsKnown format → first_format_fault page ≡ None → superblock_fault format page ≡ None → ⊥
-apart format page known a b = not_first format known (omega (arith, fourth_is page a, section_fourth format page b))
+pub apart : (n : FormatNumber) (page : List ℕ) → first_format_fault page ≡ None → superblock_fault n page ≡ None → ⊥
+apart n page a b = not_first n (sym (section_fourth n page b) ∙ fourth_is page a)
 
 -- the fourth byte says which tests are made
 pub zero_first : (page : List ℕ) → slice_index page 3 ≡ 49 → first_format_fault page ≡ page_zero_fault page
@@ -145,27 +152,19 @@ pub zero_of_first : (page : List ℕ) → first_format_fault page ≡ None → p
 zero_of_first page h = sym (zero_first page (fourth_is page h)) ∙ h
 
 -- the tests that are made are those of the section's format
-pub zero_format-known : (page : List ℕ) → IsKnown (zero_format page)
-zero_format-known page = go (slice_index page 3 == 51)
-  where
-    go : (b : Bool) → IsKnown (if b then 3 else 2)
-    go true = inr refl
-    go false = inl refl
+pub zero_format-is : (n : FormatNumber) (page : List ℕ) → slice_index page 3 ≡ section_digit n → zero_format page ≡ n
+zero_format-is of_number.Two page two = ap (λ (b : Bool). if b then of_number.Four else of_number.Two) (ne_eqb (slice_index page 3) 52 (λ four. omega (arith, two, four)))
+zero_format-is of_number.Four page four = ap (λ (b : Bool). if b then of_number.Four else of_number.Two) (eq-eqb (slice_index page 3) 52 four)
 
-pub zero_format-is : (format : ℕ) (page : List ℕ) → IsKnown format → slice_index page 3 ≡ 48 + format → zero_format page ≡ format
-zero_format-is format page known fourth = for_known (λ f. slice_index page 3 ≡ 48 + f → zero_format page ≡ f)
-    (λ two. ap (λ (b : Bool). if b then 3 else 2) (ne_eqb (slice_index page 3) 51 (λ three. omega (arith, two, three))))
-    (λ three. ap (λ (b : Bool). if b then 3 else 2) (eq-eqb (slice_index page 3) 51 three)) format known fourth
-
-pub zero_spells : (page : List ℕ) (format version recorded extents pages sections section : ℕ) (written : List (ℕ × ℕ)) → SpellsSuperblock page format version recorded extents pages sections section written → zero_format page ≡ format
+pub zero_spells : (page : List ℕ) (format : Format) (version recorded extents pages sections section : ℕ) (written : List (ℕ × ℕ)) → SpellsSuperblock page format version recorded extents pages sections section written → zero_format page ≡ number_in format
 zero_spells page format version recorded extents pages sections section written s =
-    zero_format-is format page s.fits.geometry.known (section_fourth format page (section_has_none page format version recorded extents pages sections section written s))
+    zero_format-is (number_in format) page (section_fourth (number_in format) page (section_has_none page format version recorded extents pages sections section written s))
 
-pub zero_of_section : (format : ℕ) (page : List ℕ) → IsKnown format → superblock_fault format page ≡ None → page_zero_fault page ≡ None
-zero_of_section format page known h =
-    let fourth = section_fourth format page h in
-    sym (zero_second page (λ same. not_first format known (omega (arith, fourth, same))))
-    ∙ ap (λ (f : ℕ). superblock_fault f page) (zero_format-is format page known fourth) ∙ h
+pub zero_of_section : (n : FormatNumber) (page : List ℕ) → superblock_fault n page ≡ None → page_zero_fault page ≡ None
+zero_of_section n page h =
+    let fourth = section_fourth n page h in
+    sym (zero_second page (λ same. not_first n (sym fourth ∙ same)))
+    ∙ ap (λ (m : FormatNumber). superblock_fault m page) (zero_format-is n page fourth) ∙ h
 
 -- what page 0 spells, where it has no fault, it spells in the first format or in the one of its fourth byte
 pub zero_is_one : (page : List ℕ) → page_zero_fault page ≡ None → (first_format_fault page ≡ None) ⊎ (superblock_fault (zero_format page) page ≡ None)
@@ -177,13 +176,13 @@ zero_is_one page h = go (slice_index page 3 == 49) h
     go false h = inr h
 
 -- a superblock of the first format is one section, of all extents, of a store of format 2
-pub first_format_fits : (version pages : ℕ) (extents : List (ℕ × ℕ)) → FitsFirstFormat version pages extents → FitsSuperblock 2 version 0 (length extents) pages 1 0 extents
+pub first_format_fits : (version pages : ℕ) (extents : List (ℕ × ℕ)) → FitsFirstFormat version pages extents → FitsSuperblock Two version 0 (length extents) pages 1 0 extents
 first_format_fits version pages extents fits = record {
   first_version = fits.first_version;
   last_version = fits.last_version;
   recorded_fits = omega arith;
   geometry = record {
-    known = inl refl;
+    fits_format = tt;
     fewest_extents = fits.fewest_extents;
     most_extents = omega (arith, fits.most_extents);
     fewest_pages = fits.fewest_pages;
@@ -192,6 +191,7 @@ first_format_fits version pages extents fits = record {
     most_sections = omega arith;
     section_fits = omega (arith, fits.most_extents);
     none_empty = omega (arith, fits.fewest_extents);
+    fits_device = tt;
   };
   one_of_them = omega arith;
   count = whole (length extents);
@@ -202,14 +202,14 @@ first_format_fits version pages extents fits = record {
     whole n = omega arith
 
 -- a section that page 0 spells can be spelled
-pub page_zero_fits : (page : List ℕ) (format version recorded extents pages sections section : ℕ) (written : List (ℕ × ℕ))
+pub page_zero_fits : (page : List ℕ) (format : Format) (version recorded extents pages sections section : ℕ) (written : List (ℕ × ℕ))
     → SpellsPageZero page format version recorded extents pages sections section written → FitsSuperblock format version recorded extents pages sections section written
 page_zero_fits page format version recorded extents pages sections section written = ⊎_elim
     (λ (s : SpellsSuperblock page format version recorded extents pages sections section written). s.fits)
     (λ (s : IsOfFirstFormat page format version recorded extents pages sections section written).
-    subst (λ (n : ℕ). FitsSuperblock n version recorded extents pages sections section written) (sym s.written_in)
-    (subst (λ (n : ℕ). FitsSuperblock 2 version n extents pages sections section written) (sym s.no_record)
-    (subst (λ (n : ℕ). FitsSuperblock 2 version 0 n pages sections section written) (sym s.all_extents)
-    (subst (λ (n : ℕ). FitsSuperblock 2 version 0 (length written) pages n section written) (sym s.one_section)
-    (subst (λ (n : ℕ). FitsSuperblock 2 version 0 (length written) pages 1 n written) (sym s.first_section)
+    subst (λ (n : Format). FitsSuperblock n version recorded extents pages sections section written) (sym s.written_in)
+    (subst (λ (n : ℕ). FitsSuperblock Two version n extents pages sections section written) (sym s.no_record)
+    (subst (λ (n : ℕ). FitsSuperblock Two version 0 n pages sections section written) (sym s.all_extents)
+    (subst (λ (n : ℕ). FitsSuperblock Two version 0 (length written) pages n section written) (sym s.one_section)
+    (subst (λ (n : ℕ). FitsSuperblock Two version 0 (length written) pages 1 n written) (sym s.first_section)
     (first_format_fits version pages written s.spells.fits))))))

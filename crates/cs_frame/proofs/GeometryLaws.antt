@@ -1,5 +1,5 @@
 -- What the tests of a store's dimensions and of its sections say.
-use Rattle.std.proofs.Common.{◌≡◌, ⊎_elim, ℕ, zero, suc, ◌+◌, ◌-◌, ◌*◌, ◌/◌, ◌%◌, ◌<◌, ◌≤◌, min, true, arith, ◌&&◌, nat_le, nat_lt, sym, ap, subst, ◌∙◌}
+use Rattle.std.proofs.Common.{◌≡◌, refl, ℕ, zero, suc, ◌+◌, ◌-◌, ◌*◌, ◌/◌, ◌%◌, ◌<◌, ◌≤◌, min, true, arith, ◌&&◌, nat_le, nat_lt, sym, ap, ◌∙◌}
 use Rattle.std.specs.Prelude.{◌↔◌}
 use Rattle.std.proofs.Math.Nat.{mod-lt, mul_comm}
 use Rattle.std.proofs.lemmas.Nat.{div-add-mod', div-mul-add, div_below}
@@ -8,20 +8,17 @@ use Rattle.law_machine.specs.Geometry.{HasExtentsApart, IsGeometry as IsModelGeo
 use Rattle.law_machine.specs.Local.{LiesBelow}
 use Rattle.std.proofs.lemmas.Bool.Decides.{nat_tests}
 use Rattle.std.proofs.lemmas.Bool.{and_parts, and_from, leb-true, ltb-true, le-leb, lt-ltb}
-use Rattle.cs_frame.specs.Geometries.{IsGeometry, IsKnown, device_pages, greatest_extents, greatest_pages, greatest_section_extents, greatest_sections, in_bounds, is_divided, least_extents, least_pages, lengths_below, section_length, section_size, section_start}
-
--- what holds for one known format and for the other holds for each
-pub for_known : (P : ℕ → Type 0) → P 2 → P 3 → (format : ℕ) → IsKnown format → P format
-for_known P two three format = ⊎_elim (λ is. subst P (sym is) two) (λ is. subst P (sym is) three)
+use Rattle.law_machine.specs.Format.{Format, Four, Two}
+use Rattle.cs_frame.specs.Geometries.{FitsDevice, FitsFormat, IsGeometry, device_pages, greatest_extents, greatest_pages, greatest_section_extents, greatest_sections, has_device, in_bounds, is_divided, least_extents, least_pages, lengths_below, section_length, section_size, section_start}
 
 -- the dimensions are in bounds
-pub record IsWithin (format greatest extents pages : ℕ) : Type 0 where
+pub record IsWithin (format : Format) (greatest extents pages : ℕ) : Type 0 where
   pub fewest_extents : least_extents format ≤ extents
   pub most_extents : extents ≤ greatest
   pub fewest_pages : least_pages ≤ pages
   pub most_pages : pages ≤ greatest_pages format
 
-pub within : (format greatest extents pages : ℕ) → in_bounds format greatest extents pages ≡ true → IsWithin format greatest extents pages
+pub within : (format : Format) (greatest extents pages : ℕ) → in_bounds format greatest extents pages ≡ true → IsWithin format greatest extents pages
 within format greatest extents pages h =
     let three = and_parts (nat_le (least_extents format) extents && nat_le extents greatest && nat_le least_pages pages) (nat_le pages (greatest_pages format)) h in
     let two = and_parts (nat_le (least_extents format) extents && nat_le extents greatest) (nat_le least_pages pages) three.0 in
@@ -33,7 +30,7 @@ within format greatest extents pages h =
       most_pages = leb-true _ _ three.1;
     }
 
-pub in_bounds-within : (format greatest extents pages : ℕ) → IsWithin format greatest extents pages → in_bounds format greatest extents pages ≡ true
+pub in_bounds-within : (format : Format) (greatest extents pages : ℕ) → IsWithin format greatest extents pages → in_bounds format greatest extents pages ≡ true
 in_bounds-within format greatest extents pages w =
     and_from _ _ (and_from _ _ (and_from _ _ (le-leb (least_extents format) extents w.fewest_extents) (le-leb extents greatest w.most_extents)) (le-leb least_pages pages w.fewest_pages)) (le-leb pages (greatest_pages format) w.most_pages)
 
@@ -45,30 +42,35 @@ pub record Bounds (extents pages sections : ℕ) : Type 0 where
   pub most_pages : pages ≤ 65535
   pub most_sections : sections ≤ 15
 
-pub bounds : (format extents pages sections : ℕ) → IsGeometry format extents pages sections → Bounds extents pages sections
-bounds format extents pages sections g = record {
-  fewest_extents = omega (arith, g.fewest_extents, least format g.known);
-  most_extents = omega (arith, g.most_extents, most format g.known);
+pub bounds : (format : Format) (extents pages sections : ℕ) → IsGeometry format extents pages sections → Bounds extents pages sections
+bounds Two extents pages sections g = record {
+  fewest_extents = omega (arith, g.fewest_extents);
+  most_extents = omega (arith, g.most_extents);
   fewest_pages = g.fewest_pages;
-  most_pages = omega (arith, g.most_pages, longest format g.known);
-  most_sections = omega (arith, g.most_sections, divided format g.known);
+  most_pages = omega (arith, g.most_pages);
+  most_sections = omega (arith, g.most_sections);
 }
-  where
-    least : (format : ℕ) → IsKnown format → 4 ≤ least_extents format
-    least = for_known (λ f. 4 ≤ least_extents f) (omega arith) (omega arith)
+bounds (Four store device) extents pages sections g = record {
+  fewest_extents = omega (arith, g.fewest_extents);
+  most_extents = omega (arith, g.most_extents);
+  fewest_pages = g.fewest_pages;
+  most_pages = omega (arith, g.most_pages);
+  most_sections = omega (arith, g.most_sections);
+}
 
-    most : (format : ℕ) → IsKnown format → greatest_extents format ≤ 7680
-    most = for_known (λ f. greatest_extents f ≤ 7680) (omega arith) (omega arith)
+-- the device has room where the test says so, and where it has the test passes
+pub device_tested : (format : Format) (extents pages sections : ℕ) → has_device format extents pages sections ≡ true → FitsDevice format extents pages sections
+device_tested Two extents pages sections h = tt
+device_tested (Four store device) extents pages sections h = leb-true _ _ h
 
-    longest : (format : ℕ) → IsKnown format → greatest_pages format ≤ 65535
-    longest = for_known (λ f. greatest_pages f ≤ 65535) (omega arith) (omega arith)
-
-    divided : (format : ℕ) → IsKnown format → greatest_sections format ≤ 15
-    divided = for_known (λ f. greatest_sections f ≤ 15) (omega arith) (omega arith)
+pub has_device-fits : (format : Format) (extents pages sections : ℕ) → FitsDevice format extents pages sections → has_device format extents pages sections ≡ true
+has_device-fits Two extents pages sections h = refl
+has_device-fits (Four store device) extents pages sections h = le-leb _ _ h
 
 -- the tests of a geometry pass for it alone
-pub geometry_tested : (format extents pages sections : ℕ) → IsKnown format → in_bounds format (greatest_extents format) extents pages ≡ true → is_divided format extents sections ≡ true → IsGeometry format extents pages sections
-geometry_tested format extents pages sections known bounds h =
+pub geometry_tested : (format : Format) (extents pages sections : ℕ) → FitsFormat format → in_bounds format (greatest_extents format) extents pages ≡ true → is_divided format extents sections ≡ true
+    → has_device format extents pages sections ≡ true → IsGeometry format extents pages sections
+geometry_tested format extents pages sections known bounds h device =
     let w = within format (greatest_extents format) extents pages bounds in
     let size : ℕ = section_size extents sections in
     let last : ℕ = section_start extents sections (sections - 1) in
@@ -76,7 +78,7 @@ geometry_tested format extents pages sections known bounds h =
     let two = and_parts (nat_le 1 sections && nat_le sections (greatest_sections format)) (nat_le size greatest_section_extents) three.0 in
     let one = and_parts (nat_le 1 sections) (nat_le sections (greatest_sections format)) two.0 in
     record {
-      known = known;
+      fits_format = known;
       fewest_extents = w.fewest_extents;
       most_extents = w.most_extents;
       fewest_pages = w.fewest_pages;
@@ -85,13 +87,14 @@ geometry_tested format extents pages sections known bounds h =
       most_sections = leb-true _ _ one.1;
       section_fits = leb-true _ _ two.1;
       none_empty = ltb-true _ _ three.1;
+      fits_device = device_tested format extents pages sections device;
     }
 
-pub in_bounds-geometry : (format extents pages sections : ℕ) → IsGeometry format extents pages sections → in_bounds format (greatest_extents format) extents pages ≡ true
+pub in_bounds-geometry : (format : Format) (extents pages sections : ℕ) → IsGeometry format extents pages sections → in_bounds format (greatest_extents format) extents pages ≡ true
 in_bounds-geometry format extents pages sections s =
     in_bounds-within format (greatest_extents format) extents pages (record { fewest_extents = s.fewest_extents; most_extents = s.most_extents; fewest_pages = s.fewest_pages; most_pages = s.most_pages })
 
-pub is_divided-geometry : (format extents pages sections : ℕ) → IsGeometry format extents pages sections → is_divided format extents sections ≡ true
+pub is_divided-geometry : (format : Format) (extents pages sections : ℕ) → IsGeometry format extents pages sections → is_divided format extents sections ≡ true
 is_divided-geometry format extents pages sections s =
     and_from _ _ (and_from _ _ (and_from _ _ (le-leb 1 sections s.fewest_sections) (le-leb sections (greatest_sections format) s.most_sections)) (le-leb (section_size extents sections) greatest_section_extents s.section_fits)) (lt-ltb (section_start extents sections (sections - 1)) extents s.none_empty)
 
@@ -104,7 +107,7 @@ section_length-le extents sections section = at_most (section_size extents secti
 
 -- ---- which extents a section has
 
-module _ (format extents pages sections : ℕ) (g : IsGeometry format extents pages sections) where
+module _ (format : Format) (extents pages sections : ℕ) (g : IsGeometry format extents pages sections) where
   abbrev size : ℕ
   size = section_size extents sections
 
@@ -169,17 +172,23 @@ extents_left : (extents : ℕ) → 4 ≤ extents → most_run_extents extents + 
 extents_left extents many = grind (arith, nat_tests)
 
 -- where chunks and runs lie apart there are extents enough
-pub geometry_apart : (format extents pages sections : ℕ) → IsGeometry format extents pages sections → HasExtentsApart extents format
-geometry_apart format extents pages sections g on = extents_left extents
-    (let four = for_known (λ f. 4 ≤ least_extents f) (omega arith) (omega arith) format g.known in omega (arith, four, g.fewest_extents))
+pub geometry_apart : (format : Format) (extents pages sections : ℕ) → IsGeometry format extents pages sections → HasExtentsApart extents format
+geometry_apart format extents pages sections g on = extents_left extents (bounds format extents pages sections g).fewest_extents
+
+-- the pages of a store up to its sections, each once, are on its device
+pub pages_on_device : (format : Format) (extents pages sections : ℕ) → IsGeometry format extents pages sections
+    → 1 + extents * pages + sections ≤ device_pages format extents pages sections
+pages_on_device Two extents pages sections g = omega arith
+pages_on_device (Four store device) extents pages sections g = omega (arith, g.fits_device)
 
 -- all that a store looks at lies on its device
-pub lies_in_device : (format extents pages sections : ℕ) → IsGeometry format extents pages sections
+pub lies_in_device : (format : Format) (extents pages sections : ℕ) → IsGeometry format extents pages sections
     → LiesBelow (shape_of extents pages sections (section_size extents sections) format) (device_pages format extents pages sections)
 lies_in_device format extents pages sections g =
     let below = lies_below extents pages sections (section_size extents sections) format (model_geometry format extents pages sections g) in
+    let on = pages_on_device format extents pages sections g in
     record {
-      root = omega (arith, below.root);
-      sections = λ j lt. omega (arith, below.sections j lt);
-      frames = λ e i inside. omega (arith, below.frames e i inside);
+      root = omega (arith, below.root, on);
+      sections = λ j lt. omega (arith, below.sections j lt, on);
+      frames = λ e i inside. omega (arith, below.frames e i inside, on);
     }

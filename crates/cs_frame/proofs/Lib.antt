@@ -16,7 +16,9 @@ pub mod RunSizes
 pub mod RunWeights
 pub mod TellingLaws
 pub mod HeadLaws
+pub mod NamedRuns
 pub mod FormatLaws
 pub mod HeadTelling
 pub mod MarkLaws
 pub mod FittingLaws
+pub mod TornLaws

@@ -1,4 +1,5 @@
--- A payload without a fault as a run of packed entries is spelled, and what is spelled has no fault and is read as it was.
+-- A payload without a fault as a run of packed entries is spelled, and what is spelled has no fault and is read as it
+-- was.
 use Rattle.std.proofs.Common.{◌≡◌, ℕ, zero, suc, ◌+◌, ◌-◌, ◌*◌, ◌≤◌, ◌<◌, ◌^◌, true, false, Bool, List, [], ◌∷◌, ◌++◌, length, take, drop, slice_index, None, Some, Option, refl, sym, ap, subst, ◌∙◌, arith, append_assoc, append-nil, length-append, nat_le, ◌==◌, ◌&&◌}
 use Rattle.std.specs.List.{AllByRecursion, flat_map}
 use Rattle.std.proofs.lemmas.Bool.{and_parts, and_from, eqb-true, leb-true, eq-eqb, le-leb, ne_eqb}
@@ -14,8 +15,8 @@ use Rattle.cs_frame.specs.Runs.{Entry, FitsEntry, Rises, count_test, greatest_ch
 use Rattle.cs_frame.proofs.Fields.{IsBytes-drop, IsBytes-field, IsBytes-take, after_field, byte_at_front, field_1, field_4, field_at, length-field, number_at, number_below, take_more}
 use Rattle.cs_frame.proofs.FrameLaws.{first_of_more}
 use Rattle.cs_frame.proofs.LocatorLaws.{fit-locators_in, length-locators_in, length-spelled_locators, locators_in-spelled, spelled-locators_in}
-use Rattle.cs_frame.proofs.RunLaws.{no_memory, rest_of_more}
-use Rattle.cs_frame.proofs.TestLaws.{none_rest, passed}
+use Rattle.cs_frame.proofs.RunLaws.{rest_of_more}
+use Rattle.cs_frame.proofs.TestLaws.{none_rest, passed, no_memory}
 
 -- ---- the walk of the decoder
 

@@ -1,5 +1,5 @@
 -- A payload without a fault as a run is spelled, and what is spelled has no fault and is read as it was.
-use Rattle.std.proofs.Common.{◌≡◌, ℕ, zero, suc, ◌+◌, ◌-◌, ◌*◌, ◌/◌, ◌≤◌, ◌<◌, ◌^◌, true, false, Bool, List, [], ◌∷◌, ◌++◌, length, take, drop, map, get_or, slice_index, None, Some, Option, refl, sym, ap, subst, ◌∙◌, arith, append_assoc, length-append, add-one, nat_le, ◌==◌, ◌&&◌}
+use Rattle.std.proofs.Common.{◌≡◌, ℕ, zero, suc, ◌+◌, ◌-◌, ◌*◌, ◌/◌, ◌≤◌, ◌<◌, ◌^◌, true, false, List, [], ◌∷◌, ◌++◌, length, take, drop, map, get_or, slice_index, None, Some, Option, refl, sym, ap, subst, ◌∙◌, arith, append_assoc, length-append, add-one, nat_le, ◌==◌, ◌&&◌}
 use Rattle.std.specs.List.{AllByRecursion, flat_map}
 use Rattle.std.specs.Simd.{first_chunks}
 use Rattle.std.proofs.Math.Seq.{drop-cons}
@@ -9,14 +9,14 @@ use Rattle.byteorder.specs.Endian.{big_bytes}
 use Rattle.cs_frame.specs.declared.faults.FormatFault.{FormatFault}
 use Rattle.cs_frame.specs.declared.faults.FormatFault.TheVariants.{BadLength, BadPadding, OutOfMemory, OutOfOrder}
 use Rattle.cs_frame.specs.Bytes.{IsBytes, all_zero, field, number, zeros}
-use Rattle.cs_frame.specs.Faults.{first_fault, unless}
+use Rattle.cs_frame.specs.Faults.{first_fault}
 use Rattle.cs_frame.specs.Locators.{locators_in, spelled_locators}
 use Rattle.cs_frame.specs.Runs.{Entry, FitsEntry, Rises, SpellsPlain, count_test, entries_in, entries_tests, entry_end, entry_in, entry_tests, greatest_chunks, id_in, is_before, order_test, pieces_in, plain_fault, plain_tests, spelled_entry, plain_run, zeros_test}
 use Rattle.cs_frame.proofs.Fields.{IsBytes-drop, IsBytes-field, IsBytes-take, after_field, byte_at_front, field_1, field_4, field_at, length-field, number_at, number_below, take_more}
 use Rattle.cs_frame.proofs.FrameLaws.{first_of_more}
 use Rattle.cs_frame.proofs.LocatorLaws.{fit-locators_in, length-locators_in, length-spelled_locators, locators_in-spelled, spelled-locators_in}
 use Rattle.cs_frame.proofs.Pieces.{AllByRecursion-and, AllByRecursion-map, cut_spelled, each_piece, length-first_chunks, length-spelled_fit, spelled_pieces}
-use Rattle.cs_frame.proofs.TestLaws.{Passes, all_zeros, all_zero-zeros, and_passes, no_test, none_rest, passed}
+use Rattle.cs_frame.proofs.TestLaws.{Passes, all_zeros, all_zero-zeros, and_passes, no_test, none_rest, passed, no_memory}
 
 -- ---- the walk of the decoder
 
@@ -42,10 +42,6 @@ walk_goes_on previous pieces i id inside h e =
     ∙ ap (λ (n : ℕ). first_fault (entries_tests (Some id) (drop n pieces))) (sym (add-one i))
 
 -- no test answers that memory ran out
-pub no_memory : (b : Bool) (f : FormatFault) (tests : List (Option FormatFault)) → (f ≡ OutOfMemory → ⊥) → (first_fault tests ≡ Some OutOfMemory → ⊥) → first_fault (unless b f ∷ tests) ≡ Some OutOfMemory → ⊥
-no_memory true f tests other rest h = rest h
-no_memory false f tests other rest h = let same : f ≡ OutOfMemory = cc in other same
-
 not_of_entries : (previous : Option (List ℕ)) (pieces : List (List ℕ)) → first_fault (entries_tests previous pieces) ≡ Some OutOfMemory → ⊥
 not_of_entries previous [] h = cc
 not_of_entries None (p ∷ ps) h =

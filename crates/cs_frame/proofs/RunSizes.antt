@@ -1,17 +1,18 @@
 -- How many bytes runs have.
-use Rattle.std.proofs.Common.{◌≡◌, ℕ, zero, suc, ◌+◌, ◌*◌, ◌-◌, ◌<◌, ◌≤◌, Bool, true, false, List, [], ◌∷◌, ◌++◌, length, take, get_or, if◌then◌else◌, add-one, length-append, refl, sym, subst, ap, ◌∙◌, arith}
+use Rattle.std.proofs.Common.{◌≡◌, ℕ, zero, suc, ◌+◌, ◌*◌, ◌-◌, ◌<◌, ◌≤◌, Bool, true, false, List, [], ◌∷◌, ◌++◌, length, take, get_or, add-one, length-append, refl, sym, subst, ap, ◌∙◌, arith}
 use Rattle.std.specs.List.{AllByRecursion, flat_map}
-use Rattle.std.proofs.lemmas.List.{length-replicate}
+use Rattle.std.proofs.lemmas.List.{length-replicate, length-take-le}
 use Rattle.byteorder.specs.Endian.{big_bytes}
 use Rattle.cs_frame.specs.Bytes.{zeros}
 use Rattle.cs_frame.specs.FormatRuns.{SpellsRun, run_size, spelled_run}
-use Rattle.cs_frame.specs.Geometries.{run_bytes}
+use Rattle.cs_frame.specs.Geometries.{FitsFormat}
 use Rattle.cs_frame.specs.Locators.{spelled_locators}
 use Rattle.cs_frame.specs.PackedRuns.{packed_entry, packed_run, packed_size, packed_sizes}
 use Rattle.cs_frame.specs.Places.{Listed}
-use Rattle.cs_frame.specs.Runs.{Entry, FitsEntry, entries_of, greatest_chunks, plain_run, spelled_entry}
+use Rattle.cs_frame.specs.Runs.{Entry, FitsEntry, entries_of, greatest_chunks, spelled_entry}
 use Rattle.cs_frame.specs.declared.identifiers.ShardId.{ShardId}
 use Rattle.cs_frame.proofs.LocatorLaws.{length-spelled_locators}
+use Rattle.law_machine.specs.Format.{Format, Four, Two}
 use Rattle.law_machine.specs.Geometry.{marks_in}
 
 -- an identifier of 16 bytes, and not too many locators
@@ -51,21 +52,25 @@ packed_longs : (es : List Entry) → AllByRecursion HasSizes es → length (flat
 packed_longs [] all = refl
 packed_longs (e ∷ es) all = omega (arith, length-append (packed_entry e) (flat_map packed_entry es), packed_long e all.0, packed_longs es all.1)
 
-by : (marked : Bool) (es : List Entry) → AllByRecursion HasSizes es
-    → length (if marked then packed_run es else plain_run es) ≡ (if marked then 4 + packed_sizes es else run_bytes (length es))
-by true es all = length-append (big_bytes 4 (length es)) (flat_map packed_entry es) ∙ ap (λ (n : ℕ). 4 + n) (packed_longs es all)
-by false es all = length-append (big_bytes 4 (length es)) (flat_map spelled_entry es) ∙ ap (λ (n : ℕ). 4 + n) (plain_sizes es all)
+length-packed_run : (es : List Entry) → AllByRecursion HasSizes es → length (packed_run es) ≡ 4 + packed_sizes es
+length-packed_run es all = length-append (big_bytes 4 (length es)) (flat_map packed_entry es) ∙ ap (λ (n : ℕ). 4 + n) (packed_longs es all)
 
 -- how many bytes spell a run
-pub length-spelled_run : (format : ℕ) (es : List Entry) → AllByRecursion HasSizes es → length (spelled_run format es) ≡ run_size format es
-length-spelled_run format es all = by (marks_in format) es all
+pub length-spelled_run : (format : Format) (es : List Entry) → FitsFormat format → AllByRecursion HasSizes es → length (spelled_run format es) ≡ run_size format es
+length-spelled_run Two es fits all = length-append (big_bytes 4 (length es)) (flat_map spelled_entry es) ∙ ap (λ (n : ℕ). 4 + n) (plain_sizes es all)
+length-spelled_run (Four store device) es fits all = omega (
+  arith,
+  length-append (take 8 store) (packed_run es),
+  length-take-le 8 store (omega (arith, fits.0.size)),
+  length-packed_run es all,
+)
 
 have_sizes : (marked : Bool) (es : List Entry) → AllByRecursion (FitsEntry marked) es → AllByRecursion HasSizes es
 have_sizes marked [] all = tt
 have_sizes marked (e ∷ es) all = (record { id = all.0.size; few = all.0.count }, have_sizes marked es all.1)
 
-pub spelled_size : (payload : List ℕ) (format : ℕ) (es : List Entry) → SpellsRun payload format es → length payload ≡ run_size format es
-spelled_size payload format es s = ap length s.spelled ∙ length-spelled_run format es (have_sizes (marks_in format) es s.fits.each)
+pub spelled_size : (payload : List ℕ) (format : Format) (es : List Entry) → FitsFormat format → SpellsRun payload format es → length payload ≡ run_size format es
+spelled_size payload format es fits s = ap length s.spelled ∙ length-spelled_run format es fits (have_sizes (marks_in format) es s.fits.each)
 
 -- one entry more
 pub sizes_more : (es : List (ShardId × Listed)) (i : ℕ) (e : ShardId × Listed) → i < length es → e ≡ get_or es i e

@@ -1,5 +1,5 @@
 -- The page of a section tells the pointers of its extents.
-use Rattle.std.proofs.Common.{◌≡◌, ◌≢◌, inl, inr, ℕ, zero, suc, ◌+◌, ◌*◌, ◌≤◌, ◌<◌, ◌^◌, ◌==◌, ◌&&◌, Bool, true, false, List, [], ◌∷◌, ◌++◌, ◌-◌, length, length-append, take, drop, codes, slice_index, if◌then◌else◌, eq-eqb, refl, sym, ap, ◌∙◌, subst, arith, append_assoc}
+use Rattle.std.proofs.Common.{◌≡◌, inl, inr, ℕ, zero, suc, ◌+◌, ◌*◌, ◌≤◌, ◌<◌, ◌^◌, ◌==◌, Bool, true, false, List, [], ◌∷◌, ◌++◌, ◌-◌, length, length-append, take, drop, codes, slice_index, if◌then◌else◌, eq-eqb, refl, sym, ap, ◌∙◌, subst, arith, append_assoc}
 use Rattle.std.specs.List.{AllByRecursion}
 use Rattle.std.proofs.lemmas.Bool.{cases_eq, true≢false}
 use Rattle.std.proofs.lemmas.List.{drop_at, take_at}
@@ -9,13 +9,15 @@ use Rattle.law_machine.specs.Device.{Shape}
 use Rattle.law_machine.specs.Safe.{FitsExtent as IsInBounds}
 use Rattle.cs_frame.specs.Bytes.{zeros}
 use Rattle.cs_frame.specs.FirstFormat.{first_format_fields, spelled_first_format}
-use Rattle.cs_frame.specs.Formats.{extents_of, formats_of}
+use Rattle.cs_frame.specs.Formats.{extents_of, formats_of, is_first_format}
+use Rattle.cs_frame.specs.FormatNumbers.{number_in, section_digit}
+use Rattle.cs_frame.specs.Geometries.{FitsFormat}
 use Rattle.cs_frame.specs.Pages.{padded, sealed}
 use Rattle.cs_frame.specs.Pointers.{FitsExtent, extents_from, spelled_extents}
-use Rattle.cs_frame.specs.Superblocks.{spelled_record, spelled_superblock, superblock_fields, superblock_start}
+use Rattle.cs_frame.specs.Superblocks.{spelled_store, spelled_superblock, superblock_fields, superblock_start}
 use Rattle.cs_frame.proofs.ExtentPageLaws.{extents_from-spelled}
-use Rattle.cs_frame.proofs.FirstFormatLaws.{length-first_format_fields}
-use Rattle.cs_frame.proofs.SuperblockLaws.{length-spelled_record, length-superblock_fields}
+use Rattle.cs_frame.proofs.FirstFormatLaws.{length-first_format_fields, not_first}
+use Rattle.cs_frame.proofs.SuperblockLaws.{length-spelled_store, length-superblock_fields}
 
 -- two texts of one length that are sealed and padded to one page are one
 one_text : (a b : List ℕ) → length a ≡ length b → padded (sealed a) ≡ padded (sealed b) → a ≡ b
@@ -62,7 +64,7 @@ module _ (speaks : ℕ → ℕ) (j : ℕ) where
         | inr other ↦ rest (omega arith) more
       ]
 
-module _ (S : Shape) (known : S.format ≢ 1) (small : S.pages < 2 ^ 16) (few : S.greatest_generation < 2 ^ 32) (j : ℕ) where
+module _ (S : Shape) (known : FitsFormat S.format) (small : S.pages < 2 ^ 16) (few : S.greatest_generation < 2 ^ 32) (j : ℕ) where
   all_fit : (p g : ℕ → ℕ) → ((e : ℕ) → IsInBounds S (p e) (g e)) → (first count : ℕ)
       → AllByRecursion (FitsExtent S.pages) (extents_of S.section p g j first count)
   all_fit p g fits first zero = tt
@@ -99,16 +101,16 @@ module _ (S : Shape) (known : S.format ≢ 1) (small : S.pages < 2 ^ 16) (few : 
     second v w r s is =
         let texts = one_text (superblock_fields S.format v r S.extents S.pages S.sections j es)
         (superblock_fields S.format w s S.extents S.pages S.sections j ds)
-        (length-superblock_fields S.format v r S.extents S.pages S.sections j es ∙ ap (λ (n : ℕ). superblock_start S.format + 6 * n) lengths
-        ∙ sym (length-superblock_fields S.format w s S.extents S.pages S.sections j ds)) is in
-        one_list (sym (behind v r es) ∙ ap (drop (superblock_start S.format)) texts ∙ behind w s ds)
+        (length-superblock_fields S.format v r S.extents S.pages S.sections j es known ∙ ap (λ (n : ℕ). superblock_start (number_in S.format) + 6 * n) lengths
+        ∙ sym (length-superblock_fields S.format w s S.extents S.pages S.sections j ds known)) is in
+        one_list (sym (behind v r es) ∙ ap (drop (superblock_start (number_in S.format))) texts ∙ behind w s ds)
       where
-        behind : (u r : ℕ) (xs : List (ℕ × ℕ)) → drop (superblock_start S.format) (superblock_fields S.format u r S.extents S.pages S.sections j xs) ≡ spelled_extents xs
+        behind : (u r : ℕ) (xs : List (ℕ × ℕ)) → drop (superblock_start (number_in S.format)) (superblock_fields S.format u r S.extents S.pages S.sections j xs) ≡ spelled_extents xs
         behind u r xs =
-            let before : List ℕ = codes "CSS" ++ (48 + S.format) ∷ [] ++ big_bytes 8 u ++ big_bytes 2 S.extents ++ big_bytes 2 S.pages ++ S.sections ∷ [] ++ j ∷ [] in
+            let before : List ℕ = codes "CSS" ++ section_digit (number_in S.format) ∷ [] ++ big_bytes 8 u ++ big_bytes 2 S.extents ++ big_bytes 2 S.pages ++ S.sections ∷ [] ++ j ∷ [] in
             let size : length before ≡ 18 = refl in
-            drop_at (before ++ spelled_record S.format r) (spelled_extents xs) (superblock_start S.format)
-            (omega (arith, size, length-append before (spelled_record S.format r), length-spelled_record S.format r))
+            drop_at (before ++ spelled_store S.format r) (spelled_extents xs) (superblock_start (number_in S.format))
+            (omega (arith, size, length-append before (spelled_store S.format r), length-spelled_store S.format r known))
 
     first : (v w : ℕ) → spelled_first_format v S.pages es ≡ spelled_first_format w S.pages ds → es ≡ ds
     first v w is =
@@ -124,13 +126,13 @@ module _ (S : Shape) (known : S.format ≢ 1) (small : S.pages < 2 ^ 16) (few : 
     -- the two formats have no page in common
     mixed : (v w s : ℕ) (xs ys : List (ℕ × ℕ)) → spelled_first_format v S.pages xs
         ≡ spelled_superblock S.format w s S.extents S.pages S.sections j ys → ⊥
-    mixed v w s xs ys is = let digit : 49 ≡ 48 + S.format = ap (λ (bytes : List ℕ). slice_index bytes 3) is in
-        known (omega (arith, digit))
+    mixed v w s xs ys is = let digit : 49 ≡ section_digit (number_in S.format) = ap (λ (bytes : List ℕ). slice_index bytes 3) is in
+        not_first (number_in S.format) (sym digit)
 
     pub tells : (f k v w r s : ℕ) → (formats_of S).superblock f j v r p g ≡ (formats_of S).superblock k j w s q h
         → (e : ℕ) → e < S.extents → S.section e ≡ j → p e ≡ q e
     tells f k v w r s is e lt at = told S.section j p g q h 0 S.extents
-        (go ((f == 1) && (S.format == 2) && (S.sections == 1)) ((k == 1) && (S.format == 2) && (S.sections == 1)) is) e (omega arith) (omega arith) at
+        (go (is_first_format S.format f S.sections) (is_first_format S.format k S.sections) is) e (omega arith) (omega arith) at
       where
         go : (a b : Bool) → (if a then spelled_first_format v S.pages es else spelled_superblock S.format v r S.extents S.pages S.sections j es)
             ≡ (if b then spelled_first_format w S.pages ds else spelled_superblock S.format w s S.extents S.pages S.sections j ds)

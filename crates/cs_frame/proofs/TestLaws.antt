@@ -1,11 +1,12 @@
 -- Tests that pass and the facts that they test.
-use Rattle.std.proofs.Common.{◌≡◌, ℕ, zero, suc, Result, Err, ◌==◌, Bool, true, false, List, [], ◌∷◌, length, Option, Some, None, bytes_eq, refl, ap, ◌∙◌}
+use Rattle.std.proofs.Common.{◌≡◌, ℕ, zero, suc, Result, Err, ◌==◌, Bool, true, false, List, [], ◌∷◌, length, Option, Some, None, bytes_eq, refl, sym, ap, ◌∙◌}
 use Rattle.std.proofs.lemmas.Bool.{and_from, and_parts, eqb-true}
 use Rattle.std.specs.List.{AllByRecursion, list_all}
 use Rattle.std.proofs.lemmas.Slice.Eq.{bytes_eq-Decides}
 use Rattle.cs_frame.specs.declared.faults.FormatFault.{FormatFault}
+use Rattle.cs_frame.specs.declared.faults.FormatFault.TheVariants.{OutOfMemory}
 use Rattle.cs_frame.specs.Bytes.{all_zero, zeros}
-use Rattle.cs_frame.specs.Faults.{first_fault, unless}
+use Rattle.cs_frame.specs.Faults.{HasFault, first_fault, unless}
 
 -- where no test fails the first passes, and the others do
 pub passed : (b : Bool) (f : FormatFault) (tests : List (Option FormatFault)) → first_fault (unless b f ∷ tests) ≡ None → (b ≡ true) × (first_fault tests ≡ None)
@@ -68,3 +69,18 @@ none_rest (Some f) tests h = cc
 -- one result has one fault
 pub same_fault : {T : Type 0} {r : Result T FormatFault} {x y f : FormatFault} → r ≡ Err x → x ≡ y → r ≡ Err f → Some y ≡ Some f
 same_fault a b c = cc
+
+-- memory that ran out is no fault that a test finds
+pub no_memory : (b : Bool) (f : FormatFault) (tests : List (Option FormatFault)) → (f ≡ OutOfMemory → ⊥) → (first_fault tests ≡ Some OutOfMemory → ⊥) → first_fault (unless b f ∷ tests) ≡ Some OutOfMemory → ⊥
+no_memory true f tests other rest h = rest h
+no_memory false f tests other rest h = let same : f ≡ OutOfMemory = cc in other same
+
+-- a result that is refused has the fault that was found
+pub refused_has : {T : Type 0} (r : Result T FormatFault) (x y : FormatFault) (found : Option FormatFault) → r ≡ Err x → x ≡ y → found ≡ Some y → HasFault r found
+refused_has r x y found is same was fault other = ((λ h. of_result h), (λ h. of_found h))
+  where
+    of_result : r ≡ Err fault → found ≡ Some fault
+    of_result h = let one : x ≡ fault = cc in was ∙ ap (λ (f : FormatFault). Some f) (sym same ∙ one)
+
+    of_found : found ≡ Some fault → r ≡ Err fault
+    of_found h = let one : y ≡ fault = cc in is ∙ ap (λ (f : FormatFault). Err f) (same ∙ one)

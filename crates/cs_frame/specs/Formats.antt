@@ -1,7 +1,8 @@
 -- The machine's pages in these formats.
-use Rattle.std.specs.Prelude.{ℕ, ◌^◌, ◌==◌, ◌&&◌, zero, suc, Bool, true, List, [], ◌∷◌, length, map, nat_le, nat_lt, option_map, reverse, if◌then◌else◌}
+use Rattle.std.specs.Prelude.{ℕ, ◌^◌, ◌==◌, ◌&&◌, zero, suc, Bool, true, false, List, [], ◌∷◌, length, map, nat_le, nat_lt, option_map, reverse, if◌then◌else◌}
 use Rattle.std.specs.List.{list_all}
 use Rattle.law_machine.specs.Device.{Shape}
+use Rattle.law_machine.specs.Format.{Format, Four, Two}
 use Rattle.law_machine.specs.Element.{Entry as NamedEntry, Locator as Place}
 use Rattle.law_machine.specs.Formats.{Formats, FrameKind, ChunkFrame, RunFrame}
 use Rattle.law_machine.specs.Refusal.{Refusal, BadMagic, BadDigest, BadLength, BadPadding, BadVersion, Misplaced}
@@ -10,9 +11,10 @@ use Rattle.cs_frame.specs.declared.faults.FormatFault.TheVariants as fault
 use Rattle.cs_frame.specs.declared.locators.Locator.{Locator}
 use Rattle.cs_frame.specs.FirstFormat.{spelled_first_format}
 use Rattle.cs_frame.specs.Frames.{frame_fault, spelled_frame}
-use Rattle.cs_frame.specs.Heads.{body_in, head_in}
+use Rattle.cs_frame.specs.FormatNumbers.{greatest_runs, number_in}
+use Rattle.cs_frame.specs.Heads.{body_in, chunk_in, is_long_in}
 pub use Rattle.cs_frame.specs.Identifiers.{id_bytes}
-use Rattle.cs_frame.specs.Roots.{greatest_runs, spelled_root}
+use Rattle.cs_frame.specs.Roots.{identity_in, spelled_root}
 use Rattle.cs_frame.specs.FormatRuns.{spelled_run}
 use Rattle.cs_frame.specs.Locators.{most_mark}
 use Rattle.cs_frame.specs.Runs.{Entry}
@@ -62,9 +64,10 @@ fits_locator marked l =
     nat_lt l.extent (2 ^ 16) && nat_lt l.page (2 ^ 16) && nat_lt l.generation (2 ^ 32) && nat_le l.mark (most_mark marked)
 
 -- a root has a spelling
-abbrev pub fits_root : (format version commands : ℕ) → List Place → Bool
+abbrev pub fits_root : (format : Format) (version commands : ℕ) → List Place → Bool
 fits_root format version commands runs =
-    nat_le 1 version && nat_lt version (2 ^ 63) && nat_lt commands (2 ^ 63) && nat_le (length runs) (greatest_runs format) && list_all (fits_locator (marks_in format)) runs
+    nat_le 1 version && nat_lt version (2 ^ 63) && nat_lt commands (2 ^ 63) && nat_le (length runs) (greatest_runs (number_in format))
+    && list_all (fits_locator (marks_in format)) runs
 
 -- an entry has at most eight locators, which fit
 abbrev pub fits_entry : (marked : Bool) → NamedEntry → Bool
@@ -81,19 +84,25 @@ abbrev pub fits_run : (marked : Bool) → List NamedEntry → Bool
 fits_run marked entries =
     nat_le 1 (length entries) && nat_lt (length entries) (2 ^ 32) && list_all (fits_entry marked) entries && rises entries
 
--- the formats of a store of this shape: in a store of format 2 a superblock of one section may be one page for all extents, in format 1, and any
--- other is in sections as the store's format has them; a root lists its runs oldest first, which the machine has newest first
+-- in a store of format 2 a superblock of one section that is written in the first format is one page for all extents
+abbrev pub is_first_format : (format : Format) (number sections : ℕ) → Bool
+is_first_format Two number sections = (number == 1) && (sections == 1)
+is_first_format (Four store device) number sections = false
+
+-- The formats of a store of this shape. A superblock is in sections as the store's format has them, but where it is
+-- in the first format. A root lists its runs oldest first, which the machine has newest first.
 abbrev pub formats_of : Shape → Formats
 formats_of S = record {
-  superblock = λ format section version recorded pointers generations.
-      if (format == 1) && (S.format == 2) && (S.sections == 1)
+  superblock = λ number section version recorded pointers generations.
+      if is_first_format S.format number S.sections
       then spelled_first_format version S.pages (extents_of S.section pointers generations section 0 S.extents)
       else spelled_superblock S.format version recorded S.extents S.pages S.sections section
       (extents_of S.section pointers generations section 0 S.extents);
-  root = λ version commands runs. spelled_root S.format version commands (map as_locator (reverse runs));
-  frame = λ kind payload. spelled_frame (kind_number kind) payload;
-  fault = λ kind pages. option_map refusal_of (frame_fault (kind_number kind) pages);
-  head = head_in S.format;
+  root = λ version commands runs. spelled_root (identity_in S.format) version commands (map as_locator (reverse runs));
+  frame = λ kind payload. spelled_frame (number_in S.format) (kind_number kind) payload;
+  fault = λ kind pages. option_map refusal_of (frame_fault (number_in S.format) (kind_number kind) pages);
+  is_long = is_long_in S.format;
+  chunk = chunk_in S.format;
   body = body_in S.format;
   run = λ entries. spelled_run S.format (map as_entry entries);
   fits_root = fits_root S.format;

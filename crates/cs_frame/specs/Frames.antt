@@ -4,13 +4,14 @@ use Rattle.std.specs.Simd.{first_chunks}
 use Rattle.byteorder.specs.Endian.{big_bytes}
 use Rattle.sha2.specs.Sha256.{sha256}
 use Rattle.cs_frame.specs.declared.faults.FormatFault.{FormatFault}
-use Rattle.cs_frame.specs.declared.faults.FormatFault.TheVariants.{BadDigest, BadLength, BadPadding, BadVersion, Misplaced}
+use Rattle.cs_frame.specs.declared.faults.FormatFault.TheVariants.{BadDigest, BadLength, BadPadding, BadVersion}
 use Rattle.cs_frame.specs.declared.frames.FrameKind.{FrameKind}
 use Rattle.cs_frame.specs.declared.frames.FrameKind.TheVariants.{Chunk, Run}
 use Rattle.cs_frame.specs.Bytes.{all_zero, field, number, zeros}
 use Rattle.cs_frame.specs.Faults.{first_fault, unless}
-use Rattle.cs_frame.specs.Pages.{magic_test, version_test}
-use Rattle.law_machine.specs.Geometry.{mark_in}
+use Rattle.cs_frame.specs.declared.formats.FormatNumber.{FormatNumber}
+use Rattle.cs_frame.specs.FormatNumbers.{page_digit}
+use Rattle.cs_frame.specs.Pages.{digit_test, magic_test}
 
 -- the byte of a kind
 abbrev pub kind_byte : FrameKind → ℕ
@@ -21,26 +22,29 @@ kind_byte Run = 1
 abbrev pub page_count : (payload_length : ℕ) → ℕ
 page_count payload_length = (41 + payload_length + 4095) / 4096
 
--- |  0 | 4  | CSF1                  |
--- |  4 | 1  | kind                  |
--- |  5 | 4  | n, the payload length |
--- |  9 | 32 | digest of the payload |
--- | 41 | n  | payload               |
-abbrev pub frame_fields : (kind : ℕ) → (payload : List ℕ) → List ℕ
-frame_fields kind payload = codes "CSF1" ++ kind ∷ [] ++ big_bytes 4 (length payload) ++ sha256 payload ++ payload
+-- |  0 | 3  | CSF                                |
+-- |  3 | 1  | the digit 1 in format 2, and else 4 |
+-- |  4 | 1  | kind                               |
+-- |  5 | 4  | n, the payload length              |
+-- |  9 | 32 | digest of the payload              |
+-- | 41 | n  | payload                            |
+abbrev pub frame_fields : FormatNumber → (kind : ℕ) → (payload : List ℕ) → List ℕ
+frame_fields number kind payload =
+    codes "CSF" ++ page_digit number ∷ [] ++ kind ∷ [] ++ big_bytes 4 (length payload) ++ sha256 payload ++ payload
 
 -- the fields, then zeros up to the end of the last page
-abbrev pub frame_bytes : (kind : ℕ) → (payload : List ℕ) → List ℕ
-frame_bytes kind payload = frame_fields kind payload ++ zeros (4096 * page_count (length payload) - (41 + length payload))
+abbrev pub frame_bytes : FormatNumber → (kind : ℕ) → (payload : List ℕ) → List ℕ
+frame_bytes number kind payload =
+    frame_fields number kind payload ++ zeros (4096 * page_count (length payload) - (41 + length payload))
 
 -- these bytes page by page
-abbrev pub spelled_frame : (kind : ℕ) → (payload : List ℕ) → List (List ℕ)
-spelled_frame kind payload = first_chunks 4096 (page_count (length payload)) (frame_bytes kind payload)
+abbrev pub spelled_frame : FormatNumber → (kind : ℕ) → (payload : List ℕ) → List (List ℕ)
+spelled_frame number kind payload = first_chunks 4096 (page_count (length payload)) (frame_bytes number kind payload)
 
 -- the pages begin with the spelling of a frame of this kind with this payload
-pub record SpellsFrame (kind : ℕ) (pages : List (List ℕ)) (payload : List ℕ) : Type 0 where
+pub record SpellsFrame (number : FormatNumber) (kind : ℕ) (pages : List (List ℕ)) (payload : List ℕ) : Type 0 where
   pub fits : length payload < 2 ^ 32
-  pub spelled : take (page_count (length payload)) pages ≡ spelled_frame kind payload
+  pub spelled : take (page_count (length payload)) pages ≡ spelled_frame number kind payload
 
 -- the first of these pages
 abbrev pub first_page : List (List ℕ) → List ℕ
@@ -71,17 +75,17 @@ abbrev pub room_test : (first : List ℕ) → (there : ℕ) → Option FormatFau
 room_test first there = unless (nat_le (page_count (payload_length first)) there) BadLength
 
 -- the tests of a frame's first page, in order, where so many pages lie from it as far as it may reach
-abbrev pub header_tests : (kind : ℕ) → (first : List ℕ) → (there : ℕ) → List (Option FormatFault)
-header_tests kind first there =
+abbrev pub header_tests : FormatNumber → (kind : ℕ) → (first : List ℕ) → (there : ℕ) → List (Option FormatFault)
+header_tests number kind first there =
     magic_test (codes "CSF") first
-    ∷ version_test first
+    ∷ digit_test (page_digit number) first
     ∷ kind_test kind first
     ∷ room_test first there
     ∷ []
 
 -- the first test of a frame's header that fails
-abbrev pub header_fault : (kind : ℕ) → (first : List ℕ) → (there : ℕ) → Option FormatFault
-header_fault kind first there = first_fault (header_tests kind first there)
+abbrev pub header_fault : FormatNumber → (kind : ℕ) → (first : List ℕ) → (there : ℕ) → Option FormatFault
+header_fault number kind first there = first_fault (header_tests number kind first there)
 
 -- the digest is that of the payload
 abbrev pub payload_test : List (List ℕ) → Option FormatFault
@@ -92,25 +96,13 @@ abbrev pub rest_test : List (List ℕ) → Option FormatFault
 rest_test pages = unless (all_zero (drop (41 + payload_length (first_page pages)) (bytes_in pages))) BadPadding
 
 -- the tests of a frame in order
-abbrev pub frame_tests : (kind : ℕ) → List (List ℕ) → List (Option FormatFault)
-frame_tests kind pages = header_tests kind (first_page pages) (length pages) ++ payload_test pages ∷ rest_test pages ∷ []
+abbrev pub frame_tests : FormatNumber → (kind : ℕ) → List (List ℕ) → List (Option FormatFault)
+frame_tests number kind pages =
+    header_tests number kind (first_page pages) (length pages) ++ payload_test pages ∷ rest_test pages ∷ []
 
 -- what is wrong with these pages, which lie from the first as far as it may reach, as a frame of this kind
-abbrev pub frame_fault : (kind : ℕ) → List (List ℕ) → Option FormatFault
-frame_fault kind pages = first_fault (frame_tests kind pages)
-
--- the frame that begins with this page has the mark, where the format has marks
-abbrev pub mark_test : (format mark : ℕ) → (first : List ℕ) → Option FormatFault
-mark_test format mark first = unless (mark_in format first == mark) Misplaced
-
--- what is wrong with a first page as that of the frame that a locator of this mark means: what is wrong with the header, else that
--- it is another frame's
-abbrev pub meant_header_fault : (format kind mark : ℕ) → (first : List ℕ) → (there : ℕ) → Option FormatFault
-meant_header_fault format kind mark first there = first_fault (header_fault kind first there ∷ mark_test format mark first ∷ [])
-
--- so with all its pages
-abbrev pub meant_fault : (format kind mark : ℕ) → List (List ℕ) → Option FormatFault
-meant_fault format kind mark pages = first_fault (frame_fault kind pages ∷ mark_test format mark (first_page pages) ∷ [])
+abbrev pub frame_fault : FormatNumber → (kind : ℕ) → List (List ℕ) → Option FormatFault
+frame_fault number kind pages = first_fault (frame_tests number kind pages)
 
 -- the first eight bytes of a payload's digest
 abbrev pub digest_front : (payload : List ℕ) → List ℕ

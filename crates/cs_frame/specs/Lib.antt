@@ -15,6 +15,7 @@ pub mod FormatRuns
 pub mod Geometries
 pub mod Identifiers
 pub mod Heads
+pub mod MeantFrames
 pub mod Formats
 pub mod Refusals
 pub mod FormatNumbers

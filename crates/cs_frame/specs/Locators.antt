@@ -5,6 +5,7 @@ use Rattle.std.specs.Simd.{first_chunks}
 use Rattle.byteorder.specs.Endian.{big_bytes}
 use Rattle.cs_frame.specs.Bytes.{number}
 use Rattle.cs_frame.specs.declared.locators.Locator.{Locator}
+use Rattle.law_machine.specs.Format.{Format}
 use Rattle.law_machine.specs.Geometry.{marks_in}
 
 -- how many bytes it takes
@@ -51,6 +52,10 @@ locators_in marked bytes =
 abbrev pub AreUnmarked : List Locator → Type 0
 AreUnmarked locators = AllByRecursion (λ l. l.mark ≡ 0) locators
 
--- up to format 2 none has a mark
-abbrev pub KeepFormat : (format : ℕ) → List Locator → Type 0
-KeepFormat format locators = marks_in format ≡ false → AreUnmarked locators
+-- none has a mark where they have none to spell
+abbrev pub KeepMarks : (marked : Bool) → List Locator → Type 0
+KeepMarks marked locators = marked ≡ false → AreUnmarked locators
+
+-- in format 2 none has a mark
+abbrev pub KeepFormat : Format → List Locator → Type 0
+KeepFormat format locators = KeepMarks (marks_in format) locators

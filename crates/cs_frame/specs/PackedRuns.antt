@@ -1,4 +1,5 @@
--- The payload of a run whose entries stand one behind the other, each in the bytes that it needs, and the tests of its decoder in order.
+-- The payload of a run whose entries stand one behind the other, each in the bytes that it needs, and the tests of
+-- its decoder in order.
 use Rattle.std.specs.Prelude.{◌≡◌, ℕ, zero, suc, ◌+◌, ◌*◌, ◌≤◌, ◌&&◌, ◌==◌, true, List, [], ◌∷◌, ◌++◌, length, drop, flat_map, Option, Some, None, nat_le, slice_index, ⊤}
 use Rattle.byteorder.specs.Endian.{big_bytes}
 use Rattle.cs_frame.specs.declared.faults.FormatFault.{FormatFault}

@@ -1,4 +1,5 @@
--- Pointers and generations of extents, as a page of a superblock spells them in any format, and the tests that the formats share.
+-- Pointers and generations of extents, as a page of a superblock spells them in any format, and the tests that the
+-- formats share.
 use Rattle.std.specs.Prelude.{ℕ, ◌/◌, ◌^◌, ◌<◌, ◌≤◌, ◌&&◌, List, ◌++◌, length, map, flat_map, Option, nat_le, nat_lt}
 use Rattle.std.specs.List.{list_all}
 use Rattle.std.specs.Simd.{first_chunks}

@@ -13,8 +13,10 @@ use Rattle.cs_frame.specs.declared.run_frames.Run.{Run}
 use Rattle.cs_frame.specs.Bytes.{IsBytes, all_zero, field, number, zeros}
 use Rattle.cs_frame.specs.Faults.{first_fault, unless}
 use Rattle.cs_frame.specs.Geometries.{run_bytes}
-use Rattle.cs_frame.specs.Locators.{FitsLocator, KeepFormat, locators_in, spelled_locators}
+use Rattle.cs_frame.specs.Locators.{FitsLocator, KeepMarks, locators_in, spelled_locators}
 use Rattle.cs_frame.specs.Places.{Listed}
+use Rattle.law_machine.specs.Format.{Format}
+use Rattle.law_machine.specs.Geometry.{marks_in}
 
 -- the greatest number of chunks of a shard
 abbrev pub greatest_chunks : ℕ
@@ -75,13 +77,17 @@ pub record SpellsPlain (bytes : List ℕ) (entries : List Entry) : Type 0 where
   pub fits : FitsRun false entries
   pub spelled : bytes ≡ plain_run entries
 
--- a run that can be spelled in this format: what its type doesn't say of its entries
-pub record IsRun (format : ℕ) (run : Run) : Type 0 where
+-- a run that can be spelled, with marks or without: what its type doesn't say of its entries
+pub record IsMarkedRun (marked : Bool) (run : Run) : Type 0 where
   pub some : 1 ≤ length run.entries.items
   pub most : length run.entries.items < 2 ^ 32
   pub counts : AllByRecursion (λ entry. length entry.1.items ≤ greatest_chunks) run.entries.items
   pub rising : Rises (entries_of run.entries.items)
-  pub marks : AllByRecursion (λ entry. KeepFormat format entry.1.items) run.entries.items
+  pub marks : AllByRecursion (λ entry. KeepMarks marked entry.1.items) run.entries.items
+
+-- a run that can be spelled in this format
+abbrev pub IsRun : Format → Run → Type 0
+IsRun format run = IsMarkedRun (marks_in format) run
 
 -- the pieces of 81 bytes, one for each entry
 abbrev pub pieces_in : List ℕ → List (List ℕ)

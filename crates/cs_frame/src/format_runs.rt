@@ -1,17 +1,15 @@
 //! Runs of the index, as a format has them: their entries are packed where locators have marks.
-ghost use Rattle.std.specs.Prelude.{◌≡◌, ◌^◌, ◌<◌, ◌≤◌, List, None, Err, IfOk, length, ◌+◌, ◌*◌, ◌++◌, ℕ, Ok, OnOk, drop, option_map, slice_index, true};
+ghost use Rattle.std.specs.Prelude.{◌≡◌, ◌^◌, ◌<◌, ◌≤◌, List, None, Err, IfOk, length, ◌+◌, ◌*◌, ◌++◌, ℕ, Ok, OnOk, drop, option_map, slice_index, true, ◌∷◌, []};
 ghost use Rattle.std.specs.List.{AllByRecursion};
 ghost use Rattle.cs_frame.specs.Faults.{HasFault, OkUnlessMemory, fault_in, first_fault};
-ghost use Rattle.cs_frame.specs.FormatRuns.{SpellsRun, run_fault, run_size};
-ghost use Rattle.cs_frame.specs.Geometries.{weight_bytes};
-ghost use Rattle.cs_frame.specs.Runs.{Entry, IsRun, entries_of, greatest_chunks, FitsEntry, entry_of, id_in};
-ghost use Rattle.law_machine.specs.Geometry.{weigh_in};
+ghost use Rattle.cs_frame.specs.FormatRuns.{SpellsRun, SpellsStored, front_length_test, front_test, run_fault, run_size, stored_fault};
+ghost use Rattle.cs_frame.specs.Runs.{Entry, IsMarkedRun, IsRun, entries_of, greatest_chunks, FitsEntry, entry_of, id_in};
 ghost use Rattle.cs_frame.specs.Bytes.{IsBytes, number};
 ghost use Rattle.cs_frame.specs.Locators.{FitsLocator, spelled_locators};
 ghost use Rattle.cs_frame.specs.PackedRuns.{AreThere, SpellsPacked, packed_count_test, packed_end, packed_entry, packed_entry_in, packed_entry_tests, packed_fault, packed_in, packed_size, packed_sizes, packed_tests};
 
 use crate::faults::FormatFault;
-use crate::formats::Format;
+use crate::formats::{Format, Known};
 use crate::identifiers::ShardId;
 use crate::locators::{Locator, Places, marked_places_from};
 use crate::run_frames::{
@@ -20,42 +18,15 @@ use crate::run_frames::{
 use byteorder::{BigEndian, ByteOrder};
 use std::alloc::{AllocError, Global};
 
-/// What an entry of so many chunks weighs in a format, a deletion of none: as many bytes as it takes where the format has marks, else one.
-pub fn entry_weight(format: Format, chunks: usize) -> usize
-    requires { chunks ≤ greatest_chunks }
-    ensures value { result ≡ weigh_in format chunks }
-    ensures some { 1 ≤ result }
-    ensures small { result ≤ 145 }
-{
-    if format.has_marks() {
-        17 + 16 * chunks
-    } else {
-        1
-    }
-}
-
-/// How many bytes the payload has of a run whose entries weigh so much.
-pub fn weight_bytes(format: Format, weight: usize) -> usize
-    requires { weight < 2 ^ 32 }
-    ensures { result ≡ weight_bytes format weight }
-{
-    if format.has_marks() {
-        4 + weight
-    } else {
-        run_bytes(weight)
-    }
-}
-
 /// How many bytes the payload has that spells a run in a format.
 pub fn run_size(format: Format, run: &Run) -> usize
     requires few { AllByRecursion (λ entry. length entry.1.items ≤ greatest_chunks) run.now.entries.items }
     requires most { length run.now.entries.items < 2 ^ 32 }
     ensures { result ≡ run_size format (entries_of run.now.entries.items) }
 {
-    if format.has_marks() {
-        4 + packed_sizes(&run.entries)
-    } else {
-        run_bytes(run.entries.len())
+    match format.known() {
+        Known::Two => run_bytes(run.entries.len()),
+        Known::Four { .. } => 12 + packed_sizes(&run.entries),
     }
 }
 
@@ -64,16 +35,21 @@ pub fn encode_run(alloc: Global, format: Format, run: &Run) -> Result<Vec<u8>, A
     requires { IsRun format run.now }
     ensures { IfOk result (λ payload. SpellsRun payload.items format (entries_of run.now.entries.items)) }
 {
-    if format.has_marks() {
-        encode_packed_run(alloc, run)
-    } else {
-        encode_plain_run(alloc, run)
+    match format.known() {
+        Known::Two => encode_plain_run(alloc, run),
+        Known::Four { store, .. } => encode_stored_run(alloc, store.front(), run),
     }
 }
 
-/// The run that a payload spells in a format. The first test that fails is answered: up to format 2 22 BadLength, then of each entry 25
-/// OutOfOrder, 22 and 23 BadPadding; in a format that has marks 22, then of each entry 22, 25 and 22, and 22 for what follows; 9
-/// OutOfMemory only for a payload that spells a run.
+/// The run that a payload spells in a format. The first test that fails gives the fault. The tests in order:
+///
+/// - 22 BadLength, 26 Misplaced: the first eight bytes, which are those of the store's identity
+/// - 22 BadLength: the count
+/// - 22 BadLength, 25 OutOfOrder, 22 BadLength: each entry
+/// - 22 BadLength: nothing follows the entries
+///
+/// In format 2 they are 22 for the count, then 25, 22 and 23 BadPadding for each entry. 9 OutOfMemory comes only for a
+/// payload that spells a run.
 pub fn decode_run(alloc: Global, format: Format, payload: &[u8]) -> Result<Run, FormatFault>
     // What is read is spelled by the payload.
     ensures spelled { IfOk result (λ run. SpellsRun payload.now format (entries_of run.entries.items)) }
@@ -84,10 +60,9 @@ pub fn decode_run(alloc: Global, format: Format, payload: &[u8]) -> Result<Run, 
     ensures fault { HasFault result (run_fault format payload.now) }
     ensures memory { result ≡ Err FormatFault.OutOfMemory → run_fault format payload.now ≡ None }
 {
-    if format.has_marks() {
-        decode_packed_run(alloc, payload)
-    } else {
-        decode_plain_run(alloc, payload)
+    match format.known() {
+        Known::Two => decode_plain_run(alloc, payload),
+        Known::Four { store, .. } => decode_stored_run(alloc, store.front(), payload),
     }
 }
 
@@ -117,7 +92,8 @@ fn first_end(bytes: &[u8]) -> usize
     17 + 16 * usize::from(bytes[16])
 }
 
-/// Makes the tests of the entry with which these bytes begin, after one with this identifier, and gives its identifier and where it ends.
+/// Makes the tests of the entry with which these bytes begin, after one with this identifier, and gives its
+/// identifier and where it ends.
 fn check_entry(previous: Option<ShardId>, bytes: &[u8]) -> Result<(ShardId, usize), FormatFault>
     ensures fault { fault_in result ≡ first_fault (packed_entry_tests (option_map (λ id. id.0) previous) bytes.now) }
     ensures id { IfOk result (λ found. found.0.0 ≡ id_in bytes.now) }
@@ -248,12 +224,17 @@ fn append_entry(payload: &mut Vec<u8>, entry: &(ShardId, Places)) -> Result<(), 
     append_locators(payload, locators)
 }
 
-/// The payload that spells a run in this way.
-pub(crate) fn encode_packed_run(alloc: Global, run: &Run) -> Result<Vec<u8>, AllocError>
-    requires { IsRun 3 run.now }
-    ensures { IfOk result (λ payload. SpellsPacked payload.items (entries_of run.now.entries.items)) }
+/// The payload that spells a run in the store whose identity begins with these bytes.
+pub(crate) fn encode_stored_run(
+    alloc: Global,
+    front: [u8; 8],
+    run: &Run,
+) -> Result<Vec<u8>, AllocError>
+    requires { IsMarkedRun true run.now }
+    ensures { IfOk result (λ payload. SpellsStored front payload.items (entries_of run.now.entries.items)) }
 {
     let mut payload = Vec::new(alloc);
+    payload.extend_from_slice(&front)?;
     payload.extend_from_slice(&(run.entries.len() as u32).to_be_bytes())?;
     for entry in &run.entries {
         append_entry(&mut payload, entry)?;
@@ -261,8 +242,9 @@ pub(crate) fn encode_packed_run(alloc: Global, run: &Run) -> Result<Vec<u8>, All
     Ok(payload)
 }
 
-/// The run that a payload spells in this way. The first test that fails is answered: 22 BadLength, then of each entry 22, 25 OutOfOrder
-/// and 22, and 22 for what follows; 9 OutOfMemory only for a payload that spells a run.
+/// The run that a payload spells in this way. The first test that fails gives the fault: 22 BadLength for the count,
+/// then for each entry 22, 25 OutOfOrder and 22, and 22 if bytes follow. 9 OutOfMemory comes only for a payload that
+/// spells a run.
 pub(crate) fn decode_packed_run(alloc: Global, payload: &[u8]) -> Result<Run, FormatFault>
     // What is read is spelled by the payload.
     ensures spelled { IfOk result (λ run. SpellsPacked payload.now (entries_of run.entries.items)) }
@@ -276,4 +258,40 @@ pub(crate) fn decode_packed_run(alloc: Global, payload: &[u8]) -> Result<Run, Fo
     let count = check_run(payload)?;
     let entries = entries_from(alloc, count, behind(payload, 4))?;
     Ok(Run { entries })
+}
+
+/// The payload begins with these bytes: else it is another store's, 26 Misplaced.
+fn check_front(front: [u8; 8], payload: &[u8]) -> Result<(), FormatFault>
+    ensures fault { fault_in result ≡ first_fault (front_length_test payload.now ∷ front_test front payload.now ∷ []) }
+    ensures size { IfOk result (λ _. 8 ≤ length payload.now) }
+    ensures front { length front ≡ 8 }
+    ensures bytes { IsBytes payload.now }
+{
+    if payload.len() < 8 {
+        return Err(FormatFault::BadLength);
+    }
+    if payload[..8] == front[..] {
+        Ok(())
+    } else {
+        Err(FormatFault::Misplaced)
+    }
+}
+
+/// The run that a payload spells in the store whose identity begins with these bytes.
+pub(crate) fn decode_stored_run(
+    alloc: Global,
+    front: [u8; 8],
+    payload: &[u8],
+) -> Result<Run, FormatFault>
+    // What is read is spelled by the payload.
+    ensures spelled { IfOk result (λ run. SpellsStored front payload.now (entries_of run.entries.items)) }
+    // What the payload spells is read, unless memory runs out.
+    ensures read { (entries : List Entry) → SpellsStored front payload.now entries
+        → OkUnlessMemory result (λ run. entries_of run.entries.items ≡ entries) }
+    // Each other fault is that of the first test that fails.
+    ensures fault { HasFault result (stored_fault front payload.now) }
+    ensures memory { result ≡ Err FormatFault.OutOfMemory → stored_fault front payload.now ≡ None }
+{
+    check_front(front, payload)?;
+    decode_packed_run(alloc, behind(payload, 8))
 }

@@ -1,91 +1,208 @@
 //! The formats in which stores are written, and the rules of each: the one place that asks which format a store has.
 
-ghost use Rattle.std.specs.Prelude.{◌≡◌, ◌↔◌, IsTrue, MatchOption};
-ghost use Rattle.cs_frame.specs.Geometries.{IsKnown, greatest_extents, greatest_pages, greatest_sections, kept_pages, least_extents};
-ghost use Rattle.cs_frame.specs.Roots.{greatest_runs, root_digit};
-ghost use Rattle.law_machine.specs.Geometry.{apart_in, by_size_in, fills_in, heads_in, marks_in, pages_first_in, records_in};
+ghost use Rattle.std.specs.Prelude.{◌≡◌, ◌≢◌, ◌^◌, ◌<◌, ◌≤◌, MatchOption, option_map};
+ghost use Rattle.cs_frame.specs.FormatNumbers.{counted_as, format_known, greatest_runs, is_marked, number_in, page_digit, section_digit};
+ghost use Rattle.cs_frame.specs.Geometries.{FitsFormat, device_pages, greatest_extents, greatest_pages, greatest_sections, has_device, least_extents, weight_bytes};
+ghost use Rattle.cs_frame.specs.Roots.{identity_in};
+ghost use Rattle.cs_frame.specs.Runs.{greatest_chunks};
+ghost use Rattle.cs_frame.specs.Superblocks.{FitsRecord, record_in};
+ghost use Rattle.law_machine.specs.Format.{Four, Two};
+ghost use Rattle.law_machine.specs.Geometry.{apart_in, by_size_in, fills_in, head_bytes_in, heads_in, marks_in, pages_first_in, records_in, twins_in, weigh_in};
 
+use crate::geometries::file_pages;
+use crate::identities::StoreId;
+use crate::run_frames::run_bytes;
 use std::marker::Model;
 
-/// The formats that are known.
+/// The number of a format: what is known of a page whose store isn't known yet.
 #[derive(Clone, Copy, Debug, PartialEq, Eq)]
-enum Known {
+pub enum FormatNumber {
     Two,
-    Three,
+    Four,
 }
 
-/// A format in which stores are written, with the rules that they go by: where frames go, what is staged before what, and what is
-/// spelled. There is one value a format, made from page 0 or from the options.
+impl FormatNumber {
+    /// The format of this number, 2 or 4.
+    pub fn of(number: u64) -> Option<FormatNumber>
+        ensures { MatchOption result ((number ≢ 2) × (number ≢ 4)) (λ found. counted_as found ≡ number) }
+    {
+        match number {
+            2 => Some(FormatNumber::Two),
+            4 => Some(FormatNumber::Four),
+            _ => None,
+        }
+    }
+
+    /// The number, 2 or 4.
+    pub fn value(self) -> u8
+        ensures { result ≡ counted_as self }
+    {
+        match self {
+            FormatNumber::Two => 2,
+            FormatNumber::Four => 4,
+        }
+    }
+
+    /// Whether locators have marks.
+    pub fn has_marks(self) -> bool
+        ensures { result ≡ is_marked self }
+    {
+        match self {
+            FormatNumber::Two => false,
+            FormatNumber::Four => true,
+        }
+    }
+
+    /// The greatest number of runs of a root.
+    pub fn greatest_runs(self) -> usize
+        ensures { result ≡ greatest_runs self }
+    {
+        match self {
+            FormatNumber::Two => 4,
+            FormatNumber::Four => 24,
+        }
+    }
+
+    /// The fourth byte of a section of the superblock.
+    pub(crate) fn section_digit(self) -> u8
+        ensures { result ≡ section_digit self }
+    {
+        match self {
+            FormatNumber::Two => b'2',
+            FormatNumber::Four => b'4',
+        }
+    }
+
+    /// The fourth byte of a root and of a frame.
+    pub(crate) fn page_digit(self) -> u8
+        ensures { result ≡ page_digit self }
+    {
+        match self {
+            FormatNumber::Two => b'1',
+            FormatNumber::Four => b'4',
+        }
+    }
+}
+
+/// The formats, and what each says of its store.
+#[derive(Clone, Copy, Debug, PartialEq, Eq)]
+pub(crate) enum Known {
+    Two,
+    Four {
+        store: StoreId,
+        /// The pages that the device had when the store was made.
+        device_pages: u64,
+    },
+}
+
+/// A format in which stores are written, with the rules that they go by. The rules say where frames go, what is staged
+/// before what, and what is spelled. A format is made from page 0 or from the options.
 ///
-/// In format 2 chunks and runs may lie on one extent, and a section of the superblock needs the pages that it counts. In format 3 they lie
-/// apart, places have marks, chunks have heads, and the pages of superblock and root lie twice.
+/// In format 2 chunks and runs may lie on one extent, and a section of the superblock needs the pages that it counts.
+/// In format 4 they lie apart, places have marks, chunks have heads, and the pages of superblock and root lie twice.
+/// A store of format 4 has an identity, and says how many pages its device had when it was made.
 #[derive(Clone, Copy, Debug, PartialEq, Eq)]
 pub struct Format {
     known: Known,
 }
 
 impl Model for Format {
-    ghost use Rattle.std.specs.Prelude.{ℕ};
-    ghost use Rattle.cs_frame.specs.FormatNumbers.{known_again, known_by, number_of};
+    ghost use Rattle.law_machine.specs.Format.{Format as Written};
+    ghost use Rattle.cs_frame.specs.FormatNumbers.{format_known, known_again, known_as};
+    ghost use Rattle.cs_frame.specs.Geometries.{FitsFormat};
 
-    ghost Value = { ℕ };
+    ghost Value = { Written };
 
-    ghost view = { λ f. number_of f.known };
+    ghost view = { λ f. format_known f.known };
 
-    ghost inverse = { λ n. record { known = known_by n } };
+    ghost invariant = { λ f. FitsFormat (format_known f.known) };
+
+    ghost inverse = { λ written. record { known = known_as written } };
 
     ghost inverse_ok = { λ f h i. record { known = known_again f.known i } };
 }
 
 impl Format {
-    /// The format of this number, 2 or 3.
-    pub fn numbered(number: u64) -> Option<Format>
-        ensures { MatchOption result (¬ IsKnown number) (λ format. format ≡ number) }
-    {
-        match number {
-            2 => Some(Format { known: Known::Two }),
-            3 => Some(Format {
-                known: Known::Three,
-            }),
-            _ => None,
-        }
-    }
-
-    /// Format 2, in which stores are made where none is asked for.
+    /// Format 2.
     pub fn two() -> Format
-        ensures { result ≡ 2 }
+        ensures { result ≡ Two }
     {
         Format { known: Known::Two }
     }
 
-    /// Format 3.
-    pub fn three() -> Format
-        ensures { result ≡ 3 }
+    /// Format 4, of the store with this identity, whose device had so many pages when it was made.
+    pub fn four(store: StoreId, device_pages: u64) -> Format
+        ensures { result ≡ Four store.0 device_pages }
     {
         Format {
-            known: Known::Three,
+            known: Known::Four {
+                store,
+                device_pages,
+            },
         }
     }
 
     /// Its number.
-    pub fn number(self) -> u8
-        ensures number { result ≡ self }
-        ensures known { IsKnown self }
+    pub fn number(self) -> FormatNumber
+        ensures number { result ≡ number_in self }
+        ensures fits { FitsFormat self }
     {
         match self.known {
-            Known::Two => 2,
-            Known::Three => 3,
+            Known::Two => FormatNumber::Two,
+            Known::Four { .. } => FormatNumber::Four,
         }
     }
 
-    /// Whether a root needs all that was staged before it, and a section the pages that it counts, as it does up to format 2. Else a root needs
-    /// all plain writes that were staged before it.
+    /// Which it is, and what it says of its store.
+    pub(crate) fn known(self) -> Known
+        ensures view { format_known result ≡ self }
+        ensures fits { FitsFormat self }
+    {
+        self.known
+    }
+
+    /// The identity of the store, which it has in format 4.
+    pub fn store(self) -> Option<StoreId>
+        ensures store { option_map (λ id. id.0) result ≡ identity_in self }
+        ensures fits { FitsFormat self }
+    {
+        match self.known {
+            Known::Two => None,
+            Known::Four { store, .. } => Some(store),
+        }
+    }
+
+    /// The pages of the device. In format 4 these are as many as it had when the store was made. In format 2 they are
+    /// those of so many extents of so many pages, and so many sections.
+    pub fn device_pages(self, extents: u16, pages: u16, sections: u8) -> u64
+        ensures { result ≡ device_pages self extents pages sections }
+    {
+        match self.known {
+            Known::Two => 1 + u64::from(extents) * u64::from(pages) + u64::from(sections),
+            Known::Four { device_pages, .. } => device_pages,
+        }
+    }
+
+    /// The device has room for so many extents of so many pages and so many sections, each of which lies twice with
+    /// the root. In format 2 nothing is said of the device.
+    pub(crate) fn has_device(self, extents: u16, pages: u16, sections: u8) -> bool
+        ensures { result ≡ has_device self extents pages sections }
+    {
+        match self.known {
+            Known::Two => true,
+            Known::Four { device_pages, .. } => file_pages(extents, pages, sections)
+                <= device_pages,
+        }
+    }
+
+    /// Whether a root needs all that was staged before it, and a section the pages that it counts, as it does in
+    /// format 2. Else a root needs all plain writes that were staged before it.
     pub fn pages_first(self) -> bool
         ensures { result ≡ pages_first_in self }
     {
         match self.known {
             Known::Two => true,
-            Known::Three => false,
+            Known::Four { .. } => false,
         }
     }
 
@@ -95,17 +212,17 @@ impl Format {
     {
         match self.known {
             Known::Two => false,
-            Known::Three => true,
+            Known::Four { .. } => true,
         }
     }
 
-    /// Whether an extent that was found with pages is filled up behind them.
+    /// Whether an extent that was found with pages is filled up after them.
     pub fn fills_up(self) -> bool
         ensures { result ≡ fills_in self }
     {
         match self.known {
             Known::Two => false,
-            Known::Three => true,
+            Known::Four { .. } => true,
         }
     }
 
@@ -115,7 +232,7 @@ impl Format {
     {
         match self.known {
             Known::Two => false,
-            Known::Three => true,
+            Known::Four { .. } => true,
         }
     }
 
@@ -125,27 +242,37 @@ impl Format {
     {
         match self.known {
             Known::Two => false,
-            Known::Three => true,
+            Known::Four { .. } => true,
         }
     }
 
-    /// Whether the payload of a chunk begins with a head.
+    /// Whether the payload of a chunk has a head.
     pub fn has_heads(self) -> bool
         ensures { result ≡ heads_in self }
     {
         match self.known {
             Known::Two => false,
-            Known::Three => true,
+            Known::Four { .. } => true,
         }
     }
 
-    /// Whether a section records the version of the root that was persistent as it was staged.
+    /// Whether a section records the version of the root that was persistent when it was staged.
     pub fn has_records(self) -> bool
         ensures { result ≡ records_in self }
     {
         match self.known {
             Known::Two => false,
-            Known::Three => true,
+            Known::Four { .. } => true,
+        }
+    }
+
+    /// Whether the root and each section of the superblock lie on two pages.
+    pub fn has_twins(self) -> bool
+        ensures { result ≡ twins_in self }
+    {
+        match self.known {
+            Known::Two => false,
+            Known::Four { .. } => true,
         }
     }
 
@@ -155,7 +282,7 @@ impl Format {
     {
         match self.known {
             Known::Two => 4,
-            Known::Three => 5,
+            Known::Four { .. } => 5,
         }
     }
 
@@ -165,18 +292,18 @@ impl Format {
     {
         match self.known {
             Known::Two => 2048,
-            Known::Three => 7680,
+            Known::Four { .. } => 7680,
         }
     }
 
     /// The greatest number of sections of a superblock.
     pub fn greatest_sections(self) -> u8
         ensures number { result ≡ greatest_sections self }
-        ensures known { IsKnown self }
+        ensures fits { FitsFormat self }
     {
         match self.known {
             Known::Two => 8,
-            Known::Three => 15,
+            Known::Four { .. } => 15,
         }
     }
 
@@ -186,48 +313,61 @@ impl Format {
     {
         match self.known {
             Known::Two => 256,
-            Known::Three => 65535,
-        }
-    }
-
-    /// The last pages of the device, kept for a second copy of the root and of each section.
-    pub fn kept_pages(self, sections: u8) -> u64
-        ensures { result ≡ kept_pages self sections }
-    {
-        match self.known {
-            Known::Two => 0,
-            Known::Three => 1 + u64::from(sections),
+            Known::Four { .. } => 65535,
         }
     }
 
     /// The greatest number of runs of a root.
     pub fn greatest_runs(self) -> usize
-        ensures { result ≡ greatest_runs self }
+        ensures { result ≡ greatest_runs (number_in self) }
     {
-        match self.known {
-            Known::Two => 4,
-            Known::Three => 24,
-        }
+        self.number().greatest_runs()
     }
+}
 
-    /// The fourth byte of a root.
-    pub(crate) fn root_digit(self) -> u8
-        ensures digit { result ≡ root_digit self }
-        ensures known { IsKnown self }
-    {
-        match self.known {
-            Known::Two => b'1',
-            Known::Three => b'3',
-        }
+/// What a section records in a format where this version of the root is persistent: 0 where it has no bytes for it.
+pub fn record_in(format: Format, root: u64) -> u64
+    ensures record { result ≡ record_in format root }
+    ensures fits { FitsRecord format result }
+{
+    match format.known {
+        Known::Two => 0,
+        Known::Four { .. } => root,
     }
+}
 
-    /// Whether the root and each section of the superblock lie on two pages.
-    pub fn has_twins(self) -> bool
-        ensures { IsTrue result ↔ (self ≡ 3) }
-    {
-        match self.known {
-            Known::Two => false,
-            Known::Three => true,
-        }
+/// How many bytes a head has: 34, and none in a format that has no heads.
+pub fn head_bytes(format: Format) -> usize
+    ensures bytes { result ≡ head_bytes_in format }
+    ensures small { result ≤ 34 }
+{
+    match format.known {
+        Known::Two => 0,
+        Known::Four { .. } => 34,
+    }
+}
+
+/// What an entry of so many chunks weighs in a format. A deletion has none. In format 4 an entry weighs as many bytes
+/// as it takes, and in format 2 one.
+pub fn entry_weight(format: Format, chunks: usize) -> usize
+    requires { chunks ≤ greatest_chunks }
+    ensures value { result ≡ weigh_in format chunks }
+    ensures some { 1 ≤ result }
+    ensures small { result ≤ 145 }
+{
+    match format.known {
+        Known::Two => 1,
+        Known::Four { .. } => 17 + 16 * chunks,
+    }
+}
+
+/// How many bytes the payload has of a run whose entries weigh so much.
+pub fn weight_bytes(format: Format, weight: usize) -> usize
+    requires { weight < 2 ^ 32 }
+    ensures { result ≡ weight_bytes format weight }
+{
+    match format.known {
+        Known::Two => run_bytes(weight),
+        Known::Four { .. } => 12 + weight,
     }
 }

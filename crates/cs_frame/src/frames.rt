@@ -1,17 +1,17 @@
-//! Frames: a payload with its digest, in whole pages; the head of a chunk, and a frame as it was read.
-ghost use Rattle.std.specs.Prelude.{◌≡◌, ◌+◌, ◌++◌, ◌^◌, ◌<◌, ◌≤◌, ℕ, List, None, Ok, Err, IfOk, length, vec_len, MatchOption, take};
+//! Frames: a payload with its digest, in whole pages, and a frame as it was read.
+ghost use Rattle.std.specs.Prelude.{◌≡◌, ◌+◌, ◌++◌, ◌^◌, ◌<◌, ◌≤◌, ℕ, List, None, Ok, Err, IfOk, length, vec_len};
 ghost use Rattle.cs_frame.specs.Bytes.{EachHas, IsBytes};
 ghost use Rattle.cs_frame.specs.Faults.{HasFault, OkUnlessMemory, fault_in};
-ghost use Rattle.law_machine.specs.Geometry.{digest_number, mark_in, head_bytes_in, heads_in};
+ghost use Rattle.law_machine.specs.Geometry.{digest_number, mark_in};
 ghost use Rattle.sha2.specs.Sha256.{sha256};
-ghost use Rattle.cs_frame.specs.Frames.{SpellsFrame, bytes_in, first_page, frame_count, frame_fault, header_fault, kind_byte, mark_test, meant_header_fault, page_count, payload_in, payload_length, spelled_frame, meant_fault};
-ghost use Rattle.cs_frame.specs.Heads.{body_in, head_in, spelled_head};
-ghost use Rattle.cs_frame.specs.Identifiers.{id_number};
+ghost use Rattle.cs_frame.specs.FormatNumbers.{number_in};
+ghost use Rattle.cs_frame.specs.Frames.{SpellsFrame, bytes_in, first_page, frame_count, frame_fault, header_fault, kind_byte, page_count, payload_in, payload_length, spelled_frame};
+ghost use Rattle.cs_frame.specs.Heads.{is_long_in};
+ghost use Rattle.cs_frame.specs.MeantFrames.{long_test, mark_test, meant_fault, meant_header_fault};
 
 use crate::faults::FormatFault;
-use crate::formats::Format;
-use crate::identifiers::ShardId;
-use crate::pages::{check_magic, check_version, is_zero};
+use crate::formats::{Format, FormatNumber, Known, head_bytes};
+use crate::pages::{check_digit, check_magic, is_zero};
 use byteorder::{BigEndian, ByteOrder};
 use sha2::{Digest, Sha256};
 use std::alloc::{AllocError, Global};
@@ -74,18 +74,20 @@ fn digest_of(front: &[u8], behind: &[u8]) -> [u8; 32]
 /// The pages that spell the frame whose payload is two parts, one behind the other, which aren't joined before.
 pub(crate) fn encode_parts(
     alloc: Global,
+    number: FormatNumber,
     kind: FrameKind,
     front: &[u8],
     behind: &[u8],
 ) -> Result<Vec<[u8; 4096]>, AllocError>
     requires { length front.now + length behind.now < 2 ^ 32 }
-    ensures spelled { IfOk result (λ pages. pages.items ≡ spelled_frame (kind_byte kind) (front.now ++ behind.now)) }
+    ensures spelled { IfOk result (λ pages. pages.items ≡ spelled_frame number (kind_byte kind) (front.now ++ behind.now)) }
     ensures count { IfOk result (λ pages. vec_len pages ≡ page_count (length front.now + length behind.now)) }
 {
     let payload_len = front.len() + behind.len();
     let size = 4096 * frame_pages(payload_len);
     let mut bytes = Vec::with_capacity(alloc, size)?;
-    bytes.extend_from_slice(b"CSF1")?;
+    bytes.extend_from_slice(b"CSF")?;
+    bytes.push(number.page_digit())?;
     bytes.push(kind.byte())?;
     bytes.extend_from_slice(&(payload_len as u32).to_be_bytes())?;
     bytes.extend_from_slice(&digest_of(front, behind))?;
@@ -99,34 +101,43 @@ pub(crate) fn encode_parts(
 /// The pages that spell a frame.
 pub fn encode_frame(
     alloc: Global,
+    number: FormatNumber,
     kind: FrameKind,
     payload: &[u8],
 ) -> Result<Vec<[u8; 4096]>, AllocError>
     requires { length payload.now < 2 ^ 32 }
-    ensures spelled { IfOk result (λ pages. pages.items ≡ spelled_frame (kind_byte kind) payload.now) }
+    ensures spelled { IfOk result (λ pages. pages.items ≡ spelled_frame number (kind_byte kind) payload.now) }
     ensures count { IfOk result (λ pages. vec_len pages ≡ page_count (length payload.now)) }
 {
-    encode_parts(alloc, kind, &[], payload)
+    encode_parts(alloc, number, kind, &[], payload)
+}
+
+/// The length of the payload, by a frame's first page.
+fn payload_len(first: &[u8; 4096]) -> u32
+    ensures { result ≡ payload_length first.now }
+{
+    BigEndian::read_u32(&first[5..9])
 }
 
 /// The header in a frame's first page. A reader calls it before it reads further pages: `there` pages
 /// lie from the first as far as the frame may reach, and the frame's pages are among them.
 pub fn decode_frame_header(
+    number: FormatNumber,
     kind: FrameKind,
     first: &[u8; 4096],
     there: usize,
 ) -> Result<FrameHeader, FormatFault>
-    ensures fault { fault_in result ≡ header_fault (kind_byte kind) first.now there }
+    ensures fault { fault_in result ≡ header_fault number (kind_byte kind) first.now there }
     ensures length { IfOk result (λ header. header.payload_len ≡ payload_length first.now) }
     ensures room { IfOk result (λ header. page_count header.payload_len ≤ there) }
 {
     check_magic(first, b"CSF")?;
-    check_version(first)?;
+    check_digit(first, number.page_digit())?;
     if first[4] != kind.byte() {
         return Err(FormatFault::BadVersion);
     }
     let header = FrameHeader {
-        payload_len: BigEndian::read_u32(&first[5..9]),
+        payload_len: payload_len(first),
     };
     if header.pages() > there {
         return Err(FormatFault::BadLength);
@@ -145,10 +156,9 @@ fn digest_front(first: &[u8; 4096]) -> u64
 pub fn frame_mark(format: Format, first: &[u8; 4096]) -> u64
     ensures { result ≡ mark_in format first.now }
 {
-    if format.has_marks() {
-        digest_front(first)
-    } else {
-        0
+    match format.known() {
+        Known::Two => 0,
+        Known::Four { .. } => digest_front(first),
     }
 }
 
@@ -160,6 +170,28 @@ pub(crate) fn check_mark(format: Format, mark: u64, first: &[u8; 4096]) -> Resul
         Ok(())
     } else {
         Err(FormatFault::Misplaced)
+    }
+}
+
+/// Whether the frame that begins with this page is long enough: a chunk's payload has room for a head.
+fn is_long(format: Format, first: &[u8; 4096]) -> bool
+    ensures { result ≡ is_long_in format first.now }
+{
+    if first[4] == FrameKind::Chunk.byte() {
+        head_bytes(format) <= payload_len(first) as usize
+    } else {
+        true
+    }
+}
+
+/// The frame that begins with this page is long enough for what it holds, else 22 BadLength.
+fn check_long(format: Format, first: &[u8; 4096]) -> Result<(), FormatFault>
+    ensures { fault_in result ≡ long_test format first.now }
+{
+    if is_long(format, first) {
+        Ok(())
+    } else {
+        Err(FormatFault::BadLength)
     }
 }
 
@@ -175,15 +207,19 @@ pub fn decode_meant_header(
     ensures length { IfOk result (λ header. header.payload_len ≡ payload_length first.now) }
     ensures room { IfOk result (λ header. page_count header.payload_len ≤ there) }
 {
-    let header = decode_frame_header(kind, first, there)?;
+    let header = decode_frame_header(format.number(), kind, first, there)?;
     check_mark(format, mark, first)?;
     Ok(header)
 }
 
 /// The payload in the pages of a frame. Makes the tests in order.
-pub(crate) fn payload_of(kind: FrameKind, pages: &[[u8; 4096]]) -> Result<&[u8], FormatFault>
+pub(crate) fn payload_of(
+    number: FormatNumber,
+    kind: FrameKind,
+    pages: &[[u8; 4096]],
+) -> Result<&[u8], FormatFault>
     requires { 0 < length pages.now }
-    ensures fault { fault_in result ≡ frame_fault (kind_byte kind) pages.now }
+    ensures fault { fault_in result ≡ frame_fault number (kind_byte kind) pages.now }
     ensures payload { IfOk result (λ payload. payload.now ≡ payload_in pages.now) }
     ensures size { IfOk result (λ payload. length payload.now ≡ payload_length (first_page pages.now)) }
     ensures short { IfOk result (λ payload. length payload.now < 2 ^ 32) }
@@ -191,7 +227,7 @@ pub(crate) fn payload_of(kind: FrameKind, pages: &[[u8; 4096]]) -> Result<&[u8],
     ensures pages { EachHas 4096 pages.now }
     ensures bytes { IfOk result (λ _. IsBytes (bytes_in pages.now)) }
 {
-    let header = decode_frame_header(kind, &pages[0], pages.len())?;
+    let header = decode_frame_header(number, kind, &pages[0], pages.len())?;
     let bytes = pages[..header.pages()].as_flattened();
     let end = 41 + header.payload_len as usize;
     if bytes[9..41] != Sha256::digest(&bytes[41..end])[..] {
@@ -203,102 +239,35 @@ pub(crate) fn payload_of(kind: FrameKind, pages: &[[u8; 4096]]) -> Result<&[u8],
     Ok(&bytes[41..end])
 }
 
-/// The payload of the frame that begins in the first of these pages, which lie from it to the end of
-/// its extent; those after the frame's own, as the header counts them, are not read and may be left
-/// out. The first test that fails is answered: 20 BadMagic, 24 BadVersion, 22 BadLength, 21 BadDigest, 23 BadPadding; 9 OutOfMemory
-/// only where the pages begin with a frame.
+/// The payload of the frame that begins in the first of these pages, which lie from it to the end of its extent. Pages
+/// after the frame's own, as the header counts them, are not read and may be left out. The first test that fails gives
+/// the fault. The tests in order:
+///
+/// - 20 BadMagic: the first three bytes
+/// - 24 BadVersion: the fourth byte, which is the format's digit, and the kind
+/// - 22 BadLength: the frame's pages are there
+/// - 21 BadDigest: the digest of the payload
+/// - 23 BadPadding: the zeros at the end
+///
+/// 9 OutOfMemory comes only for pages that begin with a frame.
 pub fn decode_frame(
     alloc: Global,
+    number: FormatNumber,
     kind: FrameKind,
     pages: &[[u8; 4096]],
 ) -> Result<Vec<u8>, FormatFault>
     requires { 0 < length pages.now }
     // What is read is spelled by the pages.
-    ensures spelled { IfOk result (λ payload. SpellsFrame (kind_byte kind) pages.now payload.items) }
+    ensures spelled { IfOk result (λ payload. SpellsFrame number (kind_byte kind) pages.now payload.items) }
     // What the pages spell is read, unless memory runs out.
-    ensures read { (payload : List ℕ) → SpellsFrame (kind_byte kind) pages.now payload
+    ensures read { (payload : List ℕ) → SpellsFrame number (kind_byte kind) pages.now payload
         → OkUnlessMemory result (λ found. found.items ≡ payload) }
     // Each other fault is that of the first test that fails.
-    ensures fault { HasFault result (frame_fault (kind_byte kind) pages.now) }
-    ensures memory { result ≡ Err FormatFault.OutOfMemory → frame_fault (kind_byte kind) pages.now ≡ None }
+    ensures fault { HasFault result (frame_fault number (kind_byte kind) pages.now) }
+    ensures memory { result ≡ Err FormatFault.OutOfMemory → frame_fault number (kind_byte kind) pages.now ≡ None }
 {
-    let payload = payload_of(kind, pages)?;
+    let payload = payload_of(number, kind, pages)?;
     Ok(Vec::from_slice(alloc, payload)?)
-}
-
-/// How many bytes a head has: 26, and none in a format that has no heads.
-pub fn head_bytes(format: Format) -> usize
-    ensures bytes { result ≡ head_bytes_in format }
-    ensures small { result ≤ 26 }
-{
-    if format.has_heads() { 26 } else { 0 }
-}
-
-/// What the head of a chunk says.
-#[derive(Clone, Copy, Debug, PartialEq, Eq)]
-pub struct ChunkHead {
-    /// The identifier of the shard.
-    pub id: ShardId,
-    /// The chunk's number in the shard, from 0 on.
-    pub number: u8,
-    /// How many chunks the shard has.
-    pub count: u8,
-    /// The number of the command that put the shard.
-    pub command: u64,
-}
-
-/// The bytes that spell a head.
-pub fn encode_head(head: ChunkHead) -> [u8; 26]
-    ensures { result ≡ spelled_head (id_number head.id) head.number head.count head.command }
-{
-    let mut bytes = [0; 26];
-    bytes[..16].copy_from_slice(&head.id.bytes());
-    bytes[16] = head.number;
-    bytes[17] = head.count;
-    BigEndian::write_u64(&mut bytes[18..26], head.command);
-    bytes
-}
-
-/// The head that a payload begins with; there is none where it is shorter than a head. What the head says isn't tested.
-pub fn decode_head(payload: &[u8]) -> Option<ChunkHead>
-    ensures { MatchOption result (length payload.now < 26)
-        (λ head. take 26 payload.now ≡ spelled_head (id_number head.id) head.number head.count head.command) }
-{
-    if payload.len() < 26 {
-        return None;
-    }
-    let mut id = [0; 16];
-    id.copy_from_slice(&payload[..16]);
-    Some(ChunkHead {
-        id: ShardId(id),
-        number: payload[16],
-        count: payload[17],
-        command: BigEndian::read_u64(&payload[18..26]),
-    })
-}
-
-/// The piece of a shard's bytes in the payload of a chunk: what is behind its head, where the format has heads.
-pub fn chunk_body(format: Format, payload: &[u8]) -> &[u8]
-    ensures { result.now ≡ body_in format payload.now }
-{
-    let start = head_bytes(format).min(payload.len());
-    &payload[start..]
-}
-
-/// The pages of a chunk's frame, whose payload is a piece of the shard's bytes behind the head, where the format has heads.
-pub fn encode_chunk(
-    alloc: Global,
-    format: Format,
-    head: ChunkHead,
-    piece: &[u8],
-) -> Result<Vec<[u8; 4096]>, AllocError>
-    requires { head_bytes_in format + length piece.now < 2 ^ 32 }
-    ensures spelled { IfOk result (λ pages. pages.items
-        ≡ spelled_frame 0 (head_in format (id_number head.id) head.number head.count head.command ++ piece.now)) }
-    ensures count { IfOk result (λ pages. vec_len pages ≡ page_count (head_bytes_in format + length piece.now)) }
-{
-    let bytes = encode_head(head);
-    encode_parts(alloc, FrameKind::Chunk, &bytes[..head_bytes(format)], piece)
 }
 
 /// The payload of a frame, in the pages that were read of it: it isn't copied.
@@ -331,20 +300,25 @@ impl ReadFrame {
 }
 
 /// As `decode_frame`, but the payload stays in these pages, so that no memory is asked for.
-fn whole_frame_in(kind: FrameKind, pages: Vec<[u8; 4096]>) -> Result<ReadFrame, FormatFault>
+fn whole_frame_in(
+    number: FormatNumber,
+    kind: FrameKind,
+    pages: Vec<[u8; 4096]>,
+) -> Result<ReadFrame, FormatFault>
     requires { 0 < length pages.items }
-    ensures spelled { IfOk result (λ payload. SpellsFrame (kind_byte kind) pages.items payload) }
-    ensures fault { fault_in result ≡ frame_fault (kind_byte kind) pages.items }
+    ensures spelled { IfOk result (λ payload. SpellsFrame number (kind_byte kind) pages.items payload) }
+    ensures fault { fault_in result ≡ frame_fault number (kind_byte kind) pages.items }
 {
-    let size = match payload_of(kind, &pages) {
+    let size = match payload_of(number, kind, &pages) {
         Ok(payload) => payload.len(),
         Err(fault) => return Err(fault),
     };
     Ok(ReadFrame { pages, size })
 }
 
-/// The frame of a mark in these pages, which the payload stays in. Tested as by `decode_frame`, and then its mark, 26 Misplaced where it
-/// is another frame's; no memory is asked for.
+/// The frame of a mark in these pages, which the payload stays in. No memory is asked for. It is tested as by
+/// `decode_frame`. Then come 26 Misplaced if it has another mark, and 22 BadLength if a chunk's payload has no room for
+/// a head.
 pub fn read_frame_in(
     format: Format,
     kind: FrameKind,
@@ -352,11 +326,13 @@ pub fn read_frame_in(
     pages: Vec<[u8; 4096]>,
 ) -> Result<ReadFrame, FormatFault>
     requires { 0 < length pages.items }
-    ensures spelled { IfOk result (λ payload. SpellsFrame (kind_byte kind) pages.items payload) }
+    ensures spelled { IfOk result (λ payload. SpellsFrame (number_in format) (kind_byte kind) pages.items payload) }
     ensures fault { fault_in result ≡ meant_fault format (kind_byte kind) mark pages.items }
 {
     let meant = check_mark(format, mark, &pages[0]);
-    let frame = whole_frame_in(kind, pages)?;
+    let long = check_long(format, &pages[0]);
+    let frame = whole_frame_in(format.number(), kind, pages)?;
     meant?;
+    long?;
     Ok(frame)
 }

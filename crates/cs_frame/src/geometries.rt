@@ -1,12 +1,14 @@
-//! How many extents a store has, of how many pages, which of them each section of its superblock has, and where all of it lies.
+//! How many extents a store has, of how many pages, which of them each section of its superblock has, and where all
+//! of it lies.
 
 ghost use Rattle.std.specs.Prelude.{◌≡◌, ◌↔◌, ◌+◌, ◌-◌, ◌*◌, ◌/◌, ◌^◌, ◌<◌, ◌≤◌, ◌==◌, if◌then◌else◌, IfOk, IfErr, IsOk, IsTrue, unwrap_or};
+ghost use Rattle.law_machine.specs.Format.{Two};
 ghost use Rattle.law_machine.specs.Geometry.{chunk_bytes_in, most_weight_in};
-ghost use Rattle.cs_frame.specs.Geometries.{Dimensions, IsGeometry, device_pages, in_bounds, is_divided, section_length, section_size, section_start, sections_needed};
+ghost use Rattle.cs_frame.specs.Geometries.{Dimensions, IsGeometry, device_pages, file_format, file_pages, in_bounds, is_divided, section_length, section_size, section_start, sections_needed};
 
 use crate::faults::FormatFault;
-use crate::formats::Format;
-use crate::frames::head_bytes;
+use crate::formats::{Format, head_bytes};
+use crate::identities::StoreId;
 use std::marker::Model;
 
 /// The greatest number of extents of a section, so that what it spells and its digest have room on a page.
@@ -18,11 +20,12 @@ pub const GREATEST_SUPERBLOCK_EXTENTS: u16 = 512;
 /// The least number of pages of an extent.
 pub const LEAST_PAGES: u16 = 2;
 
-/// The pages of the device of a store of this format, and of so many extents, pages and sections.
-pub fn device_pages(format: Format, extents: u16, pages: u16, sections: u8) -> u64
-    ensures { result ≡ device_pages format extents pages sections }
+/// The pages of a file that is made for a store of format 4: one for each page of an extent, and two for the root and
+/// for each section.
+pub fn file_pages(extents: u16, pages: u16, sections: u8) -> u64
+    ensures { result ≡ file_pages extents pages sections }
 {
-    1 + u64::from(extents) * u64::from(pages) + u64::from(sections) + format.kept_pages(sections)
+    2 + u64::from(extents) * u64::from(pages) + 2 * u64::from(sections)
 }
 
 /// So many extents of so many pages are in the bounds of a format, where `greatest` is the greatest number of extents.
@@ -84,10 +87,12 @@ fn is_geometry(format: Format, extents: u64, pages: u64, sections: u64) -> bool
         return false;
     }
     can_be_divided(format, extents as u16, sections as u8)
+        && format.has_device(extents as u16, pages as u16, sections as u8)
 }
 
-/// The geometry of a store. Section 0 of the superblock is on page 0 of the device and the root on page 1. The pages of the
-/// extents follow, one extent after another, behind them the superblock's other sections, and in format 3 pages that are kept.
+/// The geometry of a store. Section 0 of the superblock is on page 0 of the device and the root on page 1. The pages
+/// of the extents follow, one extent after another, and after them the superblock's other sections. In format 4 the
+/// last pages of the device are kept for a second copy of the root and of each section.
 #[derive(Clone, Copy, Debug, PartialEq, Eq)]
 pub struct Geometry {
     format: Format,
@@ -107,8 +112,9 @@ impl Model for Geometry {
 }
 
 impl Geometry {
-    /// A store of a format of `extents` extents of `pages` pages each, whose superblock has `sections` sections, or as few as it
-    /// may. All sections but the last have as many extents, at most 512, and the last has what is left, which is at least one.
+    /// A store of a format of `extents` extents of `pages` pages each. Its superblock has `sections` sections,
+    /// default as few as it may. All but the last have as many extents, at most 512. The last has what is left, at
+    /// least one.
     pub fn of_format(
         format: Format,
         extents: u64,
@@ -135,10 +141,35 @@ impl Geometry {
         }
     }
 
-    /// A store of format 2 of `extents` extents, 4 to 2,048, of `pages` pages, 2 to 256, whose superblock has as few sections as it may.
+    /// A store of format 4 with this identity, in a file as large as the store needs.
+    pub fn for_file(
+        store: StoreId,
+        extents: u64,
+        pages: u64,
+        sections: Option<u64>,
+    ) -> Result<Geometry, FormatFault>
+        ensures valid { IsOk result ↔ (let count = unwrap_or sections (sections_needed extents) in
+            IsGeometry (file_format store.0 extents pages count) extents pages count) }
+        ensures format { IfOk result (λ geometry.
+            geometry.format ≡ file_format store.0 extents pages (unwrap_or sections (sections_needed extents))) }
+        ensures extents { IfOk result (λ geometry. geometry.extents ≡ extents) }
+        ensures pages { IfOk result (λ geometry. geometry.pages ≡ pages) }
+        ensures sections { IfOk result (λ geometry. geometry.sections ≡ unwrap_or sections (sections_needed extents)) }
+        ensures fault { IfErr result (λ fault. fault ≡ FormatFault.BadGeometry) }
+    {
+        let sections = sections.unwrap_or(sections_needed(extents));
+        if extents > 65535 || pages > 65535 || sections > 255 {
+            return Err(FormatFault::BadGeometry);
+        }
+        let size = file_pages(extents as u16, pages as u16, sections as u8);
+        Geometry::of_format(Format::four(store, size), extents, pages, Some(sections))
+    }
+
+    /// A store of format 2 of `extents` extents, 4 to 2,048, of `pages` pages, 2 to 256. Its superblock has as few
+    /// sections as it may.
     pub fn new(extents: u64, pages: u64) -> Result<Geometry, FormatFault>
-        ensures valid { IsOk result ↔ IsGeometry 2 extents pages (sections_needed extents) }
-        ensures format { IfOk result (λ geometry. geometry.format ≡ 2) }
+        ensures valid { IsOk result ↔ IsGeometry Two extents pages (sections_needed extents) }
+        ensures format { IfOk result (λ geometry. geometry.format ≡ Two) }
         ensures extents { IfOk result (λ geometry. geometry.extents ≡ extents) }
         ensures pages { IfOk result (λ geometry. geometry.pages ≡ pages) }
         ensures sections { IfOk result (λ geometry. geometry.sections ≡ sections_needed extents) }
@@ -147,11 +178,11 @@ impl Geometry {
         Geometry::of_format(Format::two(), extents, pages, None)
     }
 
-    /// A store of format 2 of `extents` extents, 4 to 2,048, of `pages` pages, 2 to 256, whose superblock has `sections` sections, 1 to 8:
-    /// all but the last have as many extents, at most 512, and the last has what is left, which is at least one.
+    /// A store of format 2 of `extents` extents, 4 to 2,048, of `pages` pages, 2 to 256. Its superblock has `sections`
+    /// sections, 1 to 8. All but the last have as many extents, at most 512. The last has what is left, at least one.
     pub fn with_sections(extents: u64, pages: u64, sections: u64) -> Result<Geometry, FormatFault>
-        ensures valid { IsOk result ↔ IsGeometry 2 extents pages sections }
-        ensures format { IfOk result (λ geometry. geometry.format ≡ 2) }
+        ensures valid { IsOk result ↔ IsGeometry Two extents pages sections }
+        ensures format { IfOk result (λ geometry. geometry.format ≡ Two) }
         ensures extents { IfOk result (λ geometry. geometry.extents ≡ extents) }
         ensures pages { IfOk result (λ geometry. geometry.pages ≡ pages) }
         ensures sections { IfOk result (λ geometry. geometry.sections ≡ sections) }
@@ -196,7 +227,8 @@ impl Geometry {
     pub fn device_pages(self) -> u64
         ensures { result ≡ device_pages self.format self.extents self.pages self.sections }
     {
-        device_pages(self.format, self.extents, self.pages, self.sections)
+        self.format
+            .device_pages(self.extents, self.pages, self.sections)
     }
 
     /// The page of the device that is a page of an extent.
@@ -249,22 +281,23 @@ impl Geometry {
         4096 * usize::from(self.pages) - 41
     }
 
-    /// The greatest piece of a shard in one chunk, in bytes: what the payload of a frame of one whole extent has behind its head, where
-    /// the format has heads.
+    /// The greatest piece of a shard in one chunk, in bytes. It is the payload of a frame of one whole extent,
+    /// without the head in a format that has heads.
     pub fn chunk_bytes(self) -> usize
         ensures { result ≡ chunk_bytes_in self.format self.pages }
     {
         self.payload_bytes() - head_bytes(self.format)
     }
 
-    /// What the newest entries of all identifiers may weigh: those of a run that takes one whole extent. A frame's header has 41 bytes
-    /// and a run's count 4. In a format that has marks an entry weighs its bytes, and else it has 81 and weighs one.
+    /// What the newest entries of all identifiers may weigh: those of a run that takes one whole extent. A frame's
+    /// header has 41 bytes, a run's count 4, and in format 4 the front of the identity 8. There an entry weighs its
+    /// bytes. In format 2 it has 81 and weighs one.
     pub fn most_weight(self) -> usize
         ensures { result ≡ most_weight_in self.format self.pages }
     {
         let bytes = 4096 * usize::from(self.pages) - 45;
         if self.format.has_marks() {
-            bytes
+            bytes - 8
         } else {
             bytes / 81
         }

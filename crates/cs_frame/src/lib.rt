@@ -10,7 +10,9 @@ mod format_runs;
 mod formats;
 mod frames;
 mod geometries;
+mod heads;
 mod identifiers;
+mod identities;
 mod locators;
 mod page_zero;
 mod pages;
@@ -24,21 +26,22 @@ pub use format_laws::{
     frame_is_read_by_its_header, frames_fit_on_an_extent, heads_tell_chunks, marks_tell_digests,
     page_zero_has_one_spelling, records_fit, root_has_one_spelling, run_has_one_spelling,
     runs_have_sizes, runs_take_what_they_weigh, sections_have_all_extents, sections_tell_pointers,
-    superblock_has_one_spelling, these_formats_are_formats,
+    superblock_has_one_spelling, these_formats_are_formats, torn_pages_are_apart,
 };
-pub use format_runs::{decode_run, encode_run, entry_weight, run_size, weight_bytes};
-pub use formats::Format;
+pub use format_runs::{decode_run, encode_run, run_size};
+pub use formats::{Format, FormatNumber, entry_weight, head_bytes, record_in, weight_bytes};
 pub use frames::{
-    ChunkHead, FrameHeader, FrameKind, ReadFrame, chunk_body, decode_frame, decode_frame_header,
-    decode_head, decode_meant_header, encode_chunk, encode_frame, encode_head, frame_mark,
-    frame_pages, head_bytes, read_frame_in,
+    FrameHeader, FrameKind, ReadFrame, decode_frame, decode_frame_header, decode_meant_header,
+    encode_frame, frame_mark, frame_pages, read_frame_in,
 };
 pub use geometries::{
-    GREATEST_SECTION_EXTENTS, GREATEST_SUPERBLOCK_EXTENTS, Geometry, LEAST_PAGES, device_pages,
+    GREATEST_SECTION_EXTENTS, GREATEST_SUPERBLOCK_EXTENTS, Geometry, LEAST_PAGES, file_pages,
 };
+pub use heads::{ChunkHead, FoundHead, chunk_body, decode_head, encode_chunk, encode_head};
 pub use identifiers::ShardId;
+pub use identities::StoreId;
 pub use locators::{Locator, Places};
 pub use page_zero::decode_superblock;
 pub use roots::{Root, decode_root, encode_root};
 pub use run_frames::{GREATEST_CHUNKS, Run, run_bytes};
-pub use superblocks::{Superblock, decode_section, encode_section, encode_superblock, record_in};
+pub use superblocks::{Superblock, decode_section, encode_section, encode_superblock};

@@ -1,12 +1,12 @@
 //! Where a frame lies, and where those of a shard lie.
 ghost use Rattle.std.specs.Prelude.{◌≡◌, ◌+◌, ◌*◌, ◌≤◌, ◌++◌, false, length, true, IfOk, ◌<◌, ◌∷◌, [], IsOk, slice_set};
-ghost use Rattle.cs_frame.specs.Locators.{AreUnmarked, FitsLocator, KeepFormat, locator_in, locator_size, locators_in, spelled_locators};
-ghost use Rattle.law_machine.specs.Geometry.{marks_in};
+ghost use Rattle.cs_frame.specs.Locators.{AreUnmarked, FitsLocator, KeepMarks, locator_in, locator_size, locators_in, spelled_locators};
+ghost use Rattle.cs_frame.specs.FormatNumbers.{is_marked};
 ghost use Rattle.std.specs.List.{AllByRecursion};
 ghost use Rattle.cs_frame.specs.Buffers.{text_of};
 ghost use Rattle.cs_frame.specs.Places.{HasPlaceFor};
 
-use crate::formats::Format;
+use crate::formats::FormatNumber;
 use crate::pages::PageBuffer;
 use byteorder::{BigEndian, ByteOrder};
 use std::alloc::{AllocError, Global};
@@ -72,15 +72,15 @@ fn all_marked_from(alloc: Global, bytes: &[u8]) -> Result<Vec<Locator>, AllocErr
     Ok(locators)
 }
 
-/// The locators that these bytes spell in a format.
+/// The locators that these bytes spell in the format of this number.
 pub(crate) fn locators_from(
     alloc: Global,
-    format: Format,
+    number: FormatNumber,
     bytes: &[u8],
 ) -> Result<Vec<Locator>, AllocError>
-    ensures { IfOk result (λ v. v.items ≡ locators_in (marks_in format) bytes.now) }
+    ensures { IfOk result (λ v. v.items ≡ locators_in (is_marked number) bytes.now) }
 {
-    if format.has_marks() {
+    if number.has_marks() {
         all_marked_from(alloc, bytes)
     } else {
         unmarked_from(alloc, bytes)
@@ -140,14 +140,14 @@ fn append_marked(page: &mut PageBuffer, locators: &[Locator])
     }
 }
 
-/// Writes locators as a format has them.
-pub(crate) fn append_locators(page: &mut PageBuffer, format: Format, locators: &[Locator])
-    requires room { length (text_of page.old) + locator_size (marks_in format) * length locators.now ≤ 4096 }
-    requires marks { KeepFormat format locators.now }
-    ensures text { text_of page.new ≡ text_of page.old ++ spelled_locators (marks_in format) locators.now }
-    ensures fit { AllByRecursion (FitsLocator (marks_in format)) locators.now }
+/// Writes locators as the format of this number has them.
+pub(crate) fn append_locators(page: &mut PageBuffer, number: FormatNumber, locators: &[Locator])
+    requires room { length (text_of page.old) + locator_size (is_marked number) * length locators.now ≤ 4096 }
+    requires marks { KeepMarks (is_marked number) locators.now }
+    ensures text { text_of page.new ≡ text_of page.old ++ spelled_locators (is_marked number) locators.now }
+    ensures fit { AllByRecursion (FitsLocator (is_marked number)) locators.now }
 {
-    if format.has_marks() {
+    if number.has_marks() {
         append_marked(page, locators);
     } else {
         append_unmarked(page, locators);
@@ -162,8 +162,8 @@ pub enum Held {
     Many(Box<Vec<Locator>>),
 }
 
-/// The locators of a shard's chunks, in order. Most shards have one chunk, and an index has an entry for each shard: none and one take
-/// no memory beside these two words.
+/// The locators of a shard's chunks, in order. Most shards have one chunk, and an index has an entry for each shard:
+/// none and one take no memory beside these two words.
 #[derive(Drop)]
 pub struct Places {
     held: Held,

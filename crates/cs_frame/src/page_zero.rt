@@ -1,14 +1,15 @@
-//! What page 0 spells: section 0 of the superblock, or a superblock of the first format, which is one page for all extents and is no
-//! longer written.
+//! What page 0 spells: section 0 of the superblock, or a superblock of the first format. That one is one page for all
+//! extents, and is no longer written.
 
 ghost use Rattle.std.specs.Prelude.{◌≡◌, ◌+◌, ◌*◌, ◌≤◌, ℕ, List, None, Ok, Err, IfOk, length, slice_index};
+ghost use Rattle.law_machine.specs.Format.{Format as Written, Two};
 ghost use Rattle.cs_frame.specs.Bytes.{IsPage, number};
 ghost use Rattle.cs_frame.specs.Faults.{HasFault, OkUnlessMemory, fault_in};
 ghost use Rattle.cs_frame.specs.FirstFormat.{IsOfFirstFormat, SpellsFirstFormat, SpellsPageZero, first_format_bounds_test, first_format_end, first_format_extents, first_format_fault, first_format_pointer_test, page_zero_fault, zero_format};
 ghost use Rattle.cs_frame.specs.Superblocks.{SpellsSuperblock};
 
 use crate::faults::FormatFault;
-use crate::formats::Format;
+use crate::formats::{Format, FormatNumber};
 use crate::geometries::{GREATEST_SUPERBLOCK_EXTENTS, are_in_bounds};
 use crate::pages::{check_digest, check_magic, check_padding, check_version};
 use crate::superblocks::{Superblock, check_pointers_in, check_range, decode_section, extents_of};
@@ -69,7 +70,7 @@ fn check_first_format(page: &[u8; 4096]) -> Result<(), FormatFault>
 /// The superblock that a page without a fault spells, as the one section that it is.
 fn first_format_from(alloc: Global, page: &[u8; 4096]) -> Result<Superblock, AllocError>
     requires { first_format_end page.now ≤ 3088 }
-    ensures format { IfOk result (λ it. it.format ≡ 2) }
+    ensures format { IfOk result (λ it. it.format ≡ Two) }
     ensures version { IfOk result (λ it. it.version ≡ number 4 12 page.now) }
     ensures record { IfOk result (λ it. it.recorded ≡ 0) }
     ensures extent_count { IfOk result (λ it. it.extent_count ≡ number 12 14 page.now) }
@@ -96,7 +97,7 @@ fn decode_first_format(alloc: Global, page: &[u8; 4096]) -> Result<Superblock, F
     ensures spelled { IfOk result (λ it.
         IsOfFirstFormat page.now it.format it.version it.recorded it.extent_count it.pages it.sections it.section it.extents.items) }
     ensures read { (version pages : ℕ) (extents : List (ℕ × ℕ)) → SpellsFirstFormat page.now version pages extents
-        → OkUnlessMemory result (λ it. (it.format ≡ 2) × (it.version ≡ version) × (it.recorded ≡ 0) × (it.extent_count ≡ length extents)
+        → OkUnlessMemory result (λ it. (it.format ≡ Two) × (it.version ≡ version) × (it.recorded ≡ 0) × (it.extent_count ≡ length extents)
         × (it.pages ≡ pages) × (it.sections ≡ 1) × (it.section ≡ 0) × (it.extents.items ≡ extents)) }
     ensures fault { HasFault result (first_format_fault page.now) }
     ensures memory { result ≡ Err FormatFault.OutOfMemory → first_format_fault page.now ≡ None }
@@ -106,32 +107,41 @@ fn decode_first_format(alloc: Global, page: &[u8; 4096]) -> Result<Superblock, F
 }
 
 /// The format whose tests of a section are made on page 0, by the digit that is its fourth byte.
-fn section_format(page: &[u8; 4096]) -> Format
+fn section_number(page: &[u8; 4096]) -> FormatNumber
     ensures { result ≡ zero_format page.now }
 {
-    if page[3] == b'3' {
-        Format::three()
+    if page[3] == b'4' {
+        FormatNumber::Four
     } else {
-        Format::two()
+        FormatNumber::Two
     }
 }
 
-/// What page 0 spells: a section of the superblock in the format of the store, or all of a superblock of the first format, which is one
-/// section. The first test that fails is answered: 20 BadMagic, 24 BadVersion where the fourth byte is no format's digit, and then the tests of the format that
-/// the fourth byte names: 22 BadLength for the numbers of extents, pages and sections, 21 BadDigest, 24 for the version's range, 22 for
-/// a pointer, and 23 BadPadding; 9 OutOfMemory only for a page that has a spelling.
+/// What page 0 spells: a section of the superblock in the format of the store, or a superblock of the first format,
+/// which is one section. The fourth byte names the format whose tests are made. The first test that fails gives the
+/// fault. The tests in order:
+///
+/// - 20 BadMagic: the first three bytes
+/// - 24 BadVersion: the fourth byte, which is the digit of a format
+/// - 22 BadLength: the numbers of extents, pages and sections, and in format 4 the device's pages
+/// - 21 BadDigest
+/// - 24 BadVersion: the range of the version
+/// - 22 BadLength: the pointers
+/// - 23 BadPadding: the zeros at the end
+///
+/// 9 OutOfMemory comes only for a page that has a spelling.
 pub fn decode_superblock(alloc: Global, page: &[u8; 4096]) -> Result<Superblock, FormatFault>
     // What is read is spelled by the page, in the store's format or in the first.
     ensures spelled { IfOk result (λ it.
         SpellsPageZero page.now it.format it.version it.recorded it.extent_count it.pages it.sections it.section it.extents.items) }
     // What the page spells is read, unless memory runs out.
-    ensures read { (format version recorded extents pages sections section : ℕ) (written : List (ℕ × ℕ))
+    ensures read { (format : Written) (version recorded extents pages sections section : ℕ) (written : List (ℕ × ℕ))
         → SpellsSuperblock page.now format version recorded extents pages sections section written
         → OkUnlessMemory result (λ it. (it.format ≡ format) × (it.version ≡ version) × (it.recorded ≡ recorded) × (it.extent_count ≡ extents)
         × (it.pages ≡ pages) × (it.sections ≡ sections) × (it.section ≡ section) × (it.extents.items ≡ written)) }
     // So is what it spells in the first format.
     ensures read_first { (version pages : ℕ) (extents : List (ℕ × ℕ)) → SpellsFirstFormat page.now version pages extents
-        → OkUnlessMemory result (λ it. (it.format ≡ 2) × (it.version ≡ version) × (it.recorded ≡ 0) × (it.extent_count ≡ length extents)
+        → OkUnlessMemory result (λ it. (it.format ≡ Two) × (it.version ≡ version) × (it.recorded ≡ 0) × (it.extent_count ≡ length extents)
         × (it.pages ≡ pages) × (it.sections ≡ 1) × (it.section ≡ 0) × (it.extents.items ≡ extents)) }
     // Each other fault is that of the first test that fails.
     ensures fault { HasFault result (page_zero_fault page.now) }
@@ -140,6 +150,6 @@ pub fn decode_superblock(alloc: Global, page: &[u8; 4096]) -> Result<Superblock,
     if page[3] == b'1' {
         decode_first_format(alloc, page)
     } else {
-        decode_section(alloc, page, section_format(page))
+        decode_section(alloc, page, section_number(page))
     }
 }

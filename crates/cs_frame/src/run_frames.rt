@@ -6,6 +6,7 @@ ghost use Rattle.cs_frame.specs.Locators.{AreUnmarked, FitsLocator, spelled_loca
 ghost use Rattle.std.specs.List.{AllByRecursion};
 ghost use Rattle.cs_frame.specs.Faults.{HasFault, OkUnlessMemory, fault_in, first_fault};
 ghost use Rattle.cs_frame.specs.Geometries.{run_bytes};
+ghost use Rattle.law_machine.specs.Format.{Two};
 ghost use Rattle.cs_frame.specs.Runs.{Entry, FitsEntry, IsRun, SpellsPlain, entries_of, entries_tests, entry_in, entry_of, entry_tests, greatest_chunks, id_in, order_test, pieces_in, plain_fault, run_length_test, spelled_entry};
 
 use crate::faults::FormatFault;
@@ -170,7 +171,7 @@ fn append_entry(payload: &mut Vec<u8>, entry: &(ShardId, Places)) -> Result<(), 
 
 /// The payload that spells a run.
 pub(crate) fn encode_plain_run(alloc: Global, run: &Run) -> Result<Vec<u8>, AllocError>
-    requires { IsRun 2 run.now }
+    requires { IsRun Two run.now }
     ensures { IfOk result (λ payload. SpellsPlain payload.items (entries_of run.now.entries.items)) }
 {
     let mut payload = Vec::new(alloc);
@@ -181,8 +182,8 @@ pub(crate) fn encode_plain_run(alloc: Global, run: &Run) -> Result<Vec<u8>, Allo
     Ok(payload)
 }
 
-/// The run that a payload spells. The first test that fails is answered: 22 BadLength, then of each entry 25 OutOfOrder, 22 and
-/// 23 BadPadding; 9 OutOfMemory only for a payload that spells a run.
+/// The run that a payload spells. The first test that fails gives the fault: 22 BadLength for the count, then for each
+/// entry 25 OutOfOrder, 22 and 23 BadPadding. 9 OutOfMemory comes only for a payload that spells a run.
 pub(crate) fn decode_plain_run(alloc: Global, payload: &[u8]) -> Result<Run, FormatFault>
     // What is read is spelled by the payload.
     ensures spelled { IfOk result (λ run. SpellsPlain payload.now (entries_of run.entries.items)) }

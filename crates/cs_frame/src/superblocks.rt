@@ -1,18 +1,20 @@
 //! The superblock in sections, a page for each, in the format of the store, with pointer and generation of each extent.
 ghost use Rattle.std.specs.Prelude.{◌≡◌, ◌+◌, ◌*◌, ◌^◌, ◌<◌, ◌≤◌, ℕ, List, None, Ok, Err, IfOk, length, slice_index, ◌/◌, ◌++◌, nat_le};
-ghost use Rattle.law_machine.specs.Geometry.{records_in};
-ghost use Rattle.cs_frame.specs.Geometries.{IsKnown, section_length};
+ghost use Rattle.law_machine.specs.Format.{Format as Written};
+ghost use Rattle.cs_frame.specs.FormatNumbers.{number_in};
+ghost use Rattle.cs_frame.specs.Geometries.{FitsFormat, section_length};
 ghost use Rattle.std.specs.List.{AllByRecursion, list_all};
 ghost use Rattle.cs_frame.specs.Buffers.{text_of};
 ghost use Rattle.cs_frame.specs.Bytes.{IsPage, number};
 ghost use Rattle.cs_frame.specs.Faults.{HasFault, OkUnlessMemory, fault_in};
-ghost use Rattle.cs_frame.specs.Superblocks.{FitsRecord, IsSection, IsSuperblock, SpellsSuperblock, record_bytes, record_in, section_test, superblock_end, superblock_extents, superblock_fault, superblock_fields, superblock_pointer_test, superblock_record, superblock_start};
+ghost use Rattle.cs_frame.specs.Superblocks.{FitsRecord, IsSection, IsSuperblock, SpellsSuperblock, extents_said, format_in, pages_said, section_passes, section_test, spelled_store, superblock_end, superblock_extents, superblock_fault, superblock_fields, superblock_pointer_test, superblock_record, superblock_start, superblock_version};
 ghost use Rattle.cs_frame.specs.Pointers.{FitsGeneration, extent_in, extents_from, pointers_test, spelled_extent, spelled_extents, superblock_range_test};
 ghost use Rattle.std.specs.Simd.{first_chunks};
 
 use crate::faults::FormatFault;
-use crate::formats::Format;
+use crate::formats::{Format, FormatNumber, Known};
 use crate::geometries::{Geometry, are_in_bounds, can_be_divided, extents_in_section};
+use crate::identities::StoreId;
 use crate::pages::{PageBuffer, check_digest, check_digit, check_magic, check_padding};
 use byteorder::{BigEndian, ByteOrder};
 use std::alloc::{AllocError, Global};
@@ -20,48 +22,26 @@ use std::alloc::{AllocError, Global};
 /// One section of a superblock as of one version.
 #[derive(Debug, Drop)]
 pub struct Superblock {
-    /// The format of the store, 2 or 3.
+    /// The format of the store. In format 4 it has the store's identity and the pages that its device had when it was
+    /// made.
     pub format: Format,
     /// From 1 to 2^63 - 1.
     pub version: u64,
-    /// The version of the root that was persistent as the section was staged; 0 up to format 2, whose sections don't record it.
+    /// The version of the root that was persistent when the section was staged. In format 2, whose sections don't
+    /// record it, 0.
     pub recorded: u64,
-    /// The extents of the store, all sections together, from 4 to 2,048, in format 3 from 5 to 7,680.
+    /// The extents of the store, all sections together, from 5 to 7,680, in format 2 from 4 to 2,048.
     pub extent_count: u16,
-    /// The pages of an extent, from 2 to 256, in format 3 to 65,535.
+    /// The pages of an extent, from 2 to 65,535, in format 2 to 256.
     pub pages: u16,
-    /// How many sections the superblock has, from 1 to 8, in format 3 to 15. All but the last have as many extents, at most 512,
-    /// and the last has what is left.
+    /// How many sections the superblock has, from 1 to 15, in format 2 to 8. All but the last have as many extents,
+    /// at most 512, and the last has what is left.
     pub sections: u8,
     /// Which of them this is, from 0.
     pub section: u8,
     /// Of each extent of the section, the pointer and the generation: how many of its pages are given, and how often
     /// it was reset.
     pub extents: Vec<(u16, u32)>,
-}
-
-/// What a section records in a format where this version of the root is persistent: 0 where it has no bytes for it.
-pub fn record_in(format: Format, root: u64) -> u64
-    ensures record { result ≡ record_in format root }
-    ensures fits { FitsRecord format result }
-{
-    if format.has_records() { root } else { 0 }
-}
-
-/// How many bytes a section has for what it records.
-fn record_bytes(format: Format) -> usize
-    ensures bytes { result ≡ record_bytes format }
-    ensures small { result ≤ 8 }
-{
-    if format.has_records() { 8 } else { 0 }
-}
-
-/// The digit of a format, its fourth byte.
-fn digit_of(format: Format) -> u8
-    ensures digit { result ≡ 48 + format }
-    ensures known { IsKnown format }
-{
-    b'0' + format.number()
 }
 
 /// What a page of a section says before its extents.
@@ -76,21 +56,39 @@ struct SectionHead {
     section: u8,
 }
 
+/// Writes what a section says of the store and the root.
+fn append_store(page: &mut PageBuffer, format: Format, recorded: u64)
+    requires { length (text_of page.old) + 32 ≤ 4096 }
+    ensures { text_of page.new ≡ text_of page.old ++ spelled_store format recorded }
+{
+    match format.known() {
+        Known::Two => {}
+        Known::Four {
+            store,
+            device_pages,
+        } => {
+            page.append(&device_pages.to_be_bytes());
+            page.append(&store.bytes());
+            page.append(&recorded.to_be_bytes());
+        }
+    }
+}
+
 /// The page of a section up to its digest.
 fn unsealed(head: SectionHead, extents: &[(u16, u32)]) -> PageBuffer
-    requires { 6 * length extents.now ≤ 4038 }
+    requires { 6 * length extents.now ≤ 3072 }
     ensures text { text_of result ≡ superblock_fields head.format head.version head.recorded head.extent_count head.pages head.sections head.section extents.now }
     ensures generations { AllByRecursion FitsGeneration extents.now }
 {
     let mut page = PageBuffer::new();
     page.append(b"CSS");
-    page.append(&[digit_of(head.format)]);
+    page.append(&[head.format.number().section_digit()]);
     page.append(&head.version.to_be_bytes());
     page.append(&head.extent_count.to_be_bytes());
     page.append(&head.pages.to_be_bytes());
     page.append(&[head.sections]);
     page.append(&[head.section]);
-    page.append(&head.recorded.to_be_bytes()[..record_bytes(head.format)]);
+    append_store(&mut page, head.format, head.recorded);
     append_extents(&mut page, extents);
     page
 }
@@ -123,8 +121,8 @@ pub fn encode_superblock(superblock: &Superblock) -> [u8; 4096]
     spelled_page(head, &superblock.extents)
 }
 
-/// The page that spells a section of a store's superblock, which records this version of the root and whose extents have these pointers and
-/// generations.
+/// The page that spells a section of a store's superblock, which records this version of the root and whose extents
+/// have these pointers and generations.
 pub fn encode_section(
     version: u64,
     recorded: u64,
@@ -151,50 +149,87 @@ pub fn encode_section(
     spelled_page(head, extents)
 }
 
-/// What a page of a section records.
-fn recorded_of(page: &[u8; 4096], format: Format) -> u64
-    ensures { result ≡ superblock_record format page.now }
+/// The format that a page of a section names, where its number is this.
+fn format_of(page: &[u8; 4096], number: FormatNumber) -> Format
+    ensures { result ≡ format_in number page.now }
 {
-    if format.has_records() {
-        BigEndian::read_u64(&page[18..26])
-    } else {
-        0
+    match number {
+        FormatNumber::Two => Format::two(),
+        FormatNumber::Four => {
+            let mut id = [0; 16];
+            id.copy_from_slice(&page[26..42]);
+            Format::four(StoreId(id), BigEndian::read_u64(&page[18..26]))
+        }
+    }
+}
+
+/// What a page of a section records.
+fn recorded_of(page: &[u8; 4096], number: FormatNumber) -> u64
+    ensures { result ≡ superblock_record number page.now }
+{
+    match number {
+        FormatNumber::Two => 0,
+        FormatNumber::Four => BigEndian::read_u64(&page[42..50]),
     }
 }
 
 /// Where the extents begin in a page of a section.
-fn start_of(format: Format) -> usize
-    ensures start { result ≡ superblock_start format }
-    ensures small { result ≤ 26 }
+fn start_of(number: FormatNumber) -> usize
+    ensures start { result ≡ superblock_start number }
+    ensures small { result ≤ 50 }
 {
-    18 + record_bytes(format)
+    match number {
+        FormatNumber::Two => 18,
+        FormatNumber::Four => 50,
+    }
 }
 
 /// Where the digest begins in a page of a section.
-fn end_of(page: &[u8; 4096], format: Format) -> usize
+fn end_of(page: &[u8; 4096], number: FormatNumber) -> usize
     requires { 1 ≤ slice_index page.now 16 }
-    ensures { result ≡ superblock_end format page.now }
+    ensures { result ≡ superblock_end number page.now }
 {
-    start_of(format)
+    start_of(number)
         + 6 * extents_in_section(BigEndian::read_u16(&page[12..14]), page[16], page[17])
 }
 
-/// So many extents of so many pages have a superblock of so many sections, and this is one of them.
-fn check_section(page: &[u8; 4096], format: Format) -> Result<(), FormatFault>
-    ensures fault { fault_in result ≡ section_test format page.now }
-    ensures sections { IfOk result (λ _. 1 ≤ slice_index page.now 16) }
-    ensures end { IfOk result (λ _. superblock_end format page.now + 32 ≤ 4096) }
+/// What a page says of the dimensions of a store, and which section it is.
+#[derive(Clone, Copy)]
+struct Said {
+    extents: u16,
+    pages: u16,
+    sections: u8,
+    section: u8,
+}
+
+/// So many extents of so many pages have a superblock of so many sections in this format, and this is one of them.
+/// The device has room.
+fn is_section(format: Format, said: Said) -> bool
+    ensures { result ≡ section_passes format said.extents said.pages said.sections said.section }
 {
-    let extents = BigEndian::read_u16(&page[12..14]);
-    let pages = BigEndian::read_u16(&page[14..16]);
-    if are_in_bounds(
+    are_in_bounds(
         format,
         format.greatest_extents(),
-        u64::from(extents),
-        u64::from(pages),
-    ) && can_be_divided(format, extents, page[16])
-        && page[17] < page[16]
-    {
+        u64::from(said.extents),
+        u64::from(said.pages),
+    ) && can_be_divided(format, said.extents, said.sections)
+        && said.section < said.sections
+        && format.has_device(said.extents, said.pages, said.sections)
+}
+
+/// The dimensions that a page says are those of a store.
+fn check_section(page: &[u8; 4096], number: FormatNumber) -> Result<(), FormatFault>
+    ensures fault { fault_in result ≡ section_test number page.now }
+    ensures sections { IfOk result (λ _. 1 ≤ slice_index page.now 16) }
+    ensures end { IfOk result (λ _. superblock_end number page.now + 32 ≤ 4096) }
+{
+    let said = Said {
+        extents: BigEndian::read_u16(&page[12..14]),
+        pages: BigEndian::read_u16(&page[14..16]),
+        sections: page[16],
+        section: page[17],
+    };
+    if is_section(format_of(page, number), said) {
         Ok(())
     } else {
         Err(FormatFault::BadLength)
@@ -202,51 +237,54 @@ fn check_section(page: &[u8; 4096], format: Format) -> Result<(), FormatFault>
 }
 
 /// No pointer is past the extent's pages.
-fn check_pointers(page: &[u8; 4096], format: Format) -> Result<(), FormatFault>
+fn check_pointers(page: &[u8; 4096], number: FormatNumber) -> Result<(), FormatFault>
     requires sections { 1 ≤ slice_index page.now 16 }
-    requires end { superblock_end format page.now + 32 ≤ 4096 }
-    ensures { fault_in result ≡ superblock_pointer_test format page.now }
+    requires end { superblock_end number page.now + 32 ≤ 4096 }
+    ensures { fault_in result ≡ superblock_pointer_test number page.now }
 {
     let pages = BigEndian::read_u16(&page[14..16]);
-    check_pointers_in(&page[start_of(format)..end_of(page, format)], pages)
+    check_pointers_in(&page[start_of(number)..end_of(page, number)], pages)
 }
 
 /// Makes the tests of a section's page in order.
-fn check_page(page: &[u8; 4096], format: Format) -> Result<(), FormatFault>
-    ensures fault { fault_in result ≡ superblock_fault format page.now }
-    ensures known { IfOk result (λ _. IsKnown format) }
+fn check_page(page: &[u8; 4096], number: FormatNumber) -> Result<(), FormatFault>
+    ensures fault { fault_in result ≡ superblock_fault number page.now }
     ensures sections { IfOk result (λ _. 1 ≤ slice_index page.now 16) }
-    ensures end { IfOk result (λ _. superblock_end format page.now + 32 ≤ 4096) }
+    ensures end { IfOk result (λ _. superblock_end number page.now + 32 ≤ 4096) }
     ensures page { IsPage page.now }
 {
     check_magic(page, b"CSS")?;
-    check_digit(page, digit_of(format))?;
-    check_section(page, format)?;
-    let end = end_of(page, format);
+    check_digit(page, number.section_digit())?;
+    check_section(page, number)?;
+    let end = end_of(page, number);
     check_digest(page, end)?;
     check_range(page)?;
-    check_pointers(page, format)?;
+    check_pointers(page, number)?;
     check_padding(page, end + 32)
 }
 
 /// The section that a page without a fault spells.
-fn section_from(alloc: Global, page: &[u8; 4096], format: Format) -> Result<Superblock, AllocError>
+fn section_from(
+    alloc: Global,
+    page: &[u8; 4096],
+    number: FormatNumber,
+) -> Result<Superblock, AllocError>
     requires sections { 1 ≤ slice_index page.now 16 }
-    requires end { superblock_end format page.now + 32 ≤ 4096 }
-    ensures format { IfOk result (λ it. it.format ≡ format) }
-    ensures version { IfOk result (λ it. it.version ≡ number 4 12 page.now) }
-    ensures record { IfOk result (λ it. it.recorded ≡ superblock_record format page.now) }
-    ensures extent_count { IfOk result (λ it. it.extent_count ≡ number 12 14 page.now) }
-    ensures pages { IfOk result (λ it. it.pages ≡ number 14 16 page.now) }
+    requires end { superblock_end number page.now + 32 ≤ 4096 }
+    ensures format { IfOk result (λ it. it.format ≡ format_in number page.now) }
+    ensures version { IfOk result (λ it. it.version ≡ superblock_version page.now) }
+    ensures record { IfOk result (λ it. it.recorded ≡ superblock_record number page.now) }
+    ensures extent_count { IfOk result (λ it. it.extent_count ≡ extents_said page.now) }
+    ensures pages { IfOk result (λ it. it.pages ≡ pages_said page.now) }
     ensures counts { IfOk result (λ it. it.sections ≡ slice_index page.now 16) }
     ensures section { IfOk result (λ it. it.section ≡ slice_index page.now 17) }
-    ensures extents { IfOk result (λ it. it.extents.items ≡ superblock_extents format page.now) }
+    ensures extents { IfOk result (λ it. it.extents.items ≡ superblock_extents number page.now) }
 {
-    let extents = extents_of(alloc, &page[start_of(format)..end_of(page, format)])?;
+    let extents = extents_of(alloc, &page[start_of(number)..end_of(page, number)])?;
     Ok(Superblock {
-        format,
+        format: format_of(page, number),
         version: BigEndian::read_u64(&page[4..12]),
-        recorded: recorded_of(page, format),
+        recorded: recorded_of(page, number),
         extent_count: BigEndian::read_u16(&page[12..14]),
         pages: BigEndian::read_u16(&page[14..16]),
         sections: page[16],
@@ -255,29 +293,38 @@ fn section_from(alloc: Global, page: &[u8; 4096], format: Format) -> Result<Supe
     })
 }
 
-/// The section that a page spells in this format, that of the store. The first test that fails is answered: 20 BadMagic, 24 BadVersion
-/// where the fourth byte is another digit than the format's, 22 BadLength for the numbers of extents, pages and sections, 21 BadDigest,
-/// then 24 for the version's range, 22 for a pointer, and 23 BadPadding; 9 OutOfMemory only for a page that spells a section.
+/// The section that a page spells in the format of this number, which is the store's. The first test that fails gives
+/// the fault. The tests in order:
+///
+/// - 20 BadMagic: the first three bytes
+/// - 24 BadVersion: the fourth byte, which is the format's digit
+/// - 22 BadLength: the numbers of extents, pages and sections, and in format 4 the device's pages
+/// - 21 BadDigest
+/// - 24 BadVersion: the range of the version
+/// - 22 BadLength: the pointers
+/// - 23 BadPadding: the zeros at the end
+///
+/// 9 OutOfMemory comes only for a page that spells a section.
 pub fn decode_section(
     alloc: Global,
     page: &[u8; 4096],
-    format: Format,
+    number: FormatNumber,
 ) -> Result<Superblock, FormatFault>
-    // What is read has this format, and is spelled by the page.
-    ensures format { IfOk result (λ it. it.format ≡ format) }
+    // What is read has a format of this number, and is spelled by the page.
+    ensures number { IfOk result (λ it. number_in it.format ≡ number) }
     ensures spelled { IfOk result (λ it.
         SpellsSuperblock page.now it.format it.version it.recorded it.extent_count it.pages it.sections it.section it.extents.items) }
     // What the page spells is read, unless memory runs out.
-    ensures read { (version recorded extents pages sections section : ℕ) (written : List (ℕ × ℕ))
+    ensures read { (format : Written) (version recorded extents pages sections section : ℕ) (written : List (ℕ × ℕ)) → number_in format ≡ number
         → SpellsSuperblock page.now format version recorded extents pages sections section written
         → OkUnlessMemory result (λ it. (it.format ≡ format) × (it.version ≡ version) × (it.recorded ≡ recorded) × (it.extent_count ≡ extents)
         × (it.pages ≡ pages) × (it.sections ≡ sections) × (it.section ≡ section) × (it.extents.items ≡ written)) }
     // Each other fault is that of the first test that fails.
-    ensures fault { HasFault result (superblock_fault format page.now) }
-    ensures memory { result ≡ Err FormatFault.OutOfMemory → superblock_fault format page.now ≡ None }
+    ensures fault { HasFault result (superblock_fault number page.now) }
+    ensures memory { result ≡ Err FormatFault.OutOfMemory → superblock_fault number page.now ≡ None }
 {
-    check_page(page, format)?;
-    Ok(section_from(alloc, page, format)?)
+    check_page(page, number)?;
+    Ok(section_from(alloc, page, number)?)
 }
 
 fn append_extent(page: &mut PageBuffer, extent: (u16, u32))

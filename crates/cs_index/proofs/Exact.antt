@@ -50,7 +50,7 @@ exact_unwritten apart Writes x reason s none r h =
     (λ worn. ⊎_elim (λ (root : IsRootWorn s). root) (λ (run : IsRunWornBy apart Writes x reason s). absurd (none run.0 run.1)) worn)
     h
 
--- in the older formats, where the run has no entry or goes somewhere
+-- in format 2, where the run has no entry or goes somewhere
 module _ (Writes : List Entry → Type 0) (x : ExtentsState) (reason : Reason) (E : List Entry) (one : (es : List Entry) → Writes es → (es ≡ E) × (es ≢ [])) where
   abbrev GoesBy : (apart : Bool) → Type 0
   GoesBy apart = (e : ℕ) × Goes (shape x) apart (extents_of x) reason (length (run_frame x E)) e

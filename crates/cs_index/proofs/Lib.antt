@@ -5,6 +5,7 @@ pub mod Newest
 pub mod Merging
 pub mod Whole
 pub mod Spelled
+pub mod OfFormat
 pub mod Rooted
 pub mod Merged
 pub mod Marks

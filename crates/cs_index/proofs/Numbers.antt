@@ -11,7 +11,7 @@ use Rattle.std.specs.Ordering.{is_lt, nat_cmp, ordering_then}
 use Rattle.byteorder.specs.Endian.{big_from}
 use Rattle.byteorder.specs.Numbers.{big_from-cons, big_from-lt}
 use Rattle.cs_frame.specs.Bytes.{IsBytes}
-use Rattle.cs_frame.proofs.FormatLaws.{id_of_16}
+use Rattle.cs_frame.proofs.NamedRuns.{id_of_16}
 use Rattle.cs_frame.specs.Formats.{id_bytes}
 use Rattle.cs_frame.specs.Runs.{is_before}
 use Rattle.cs_frame.specs.declared.identifiers.ShardId.{ShardId}

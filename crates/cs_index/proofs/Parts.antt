@@ -9,6 +9,7 @@ use Rattle.cs_extent.specs.State.{State as ExtentsState}
 use Rattle.cs_frame.specs.Formats.{place_of}
 use Rattle.cs_frame.specs.Locators.{KeepFormat}
 use Rattle.cs_index.specs.declared.stored_runs.StoredRun.{StoredRun}
+use Rattle.law_machine.specs.Format.{Format}
 use Rattle.law_machine.proofs.Counting.{ascending_names, lookup_here}
 use Rattle.law_machine.proofs.Gives.{lookup_append}
 use Rattle.law_machine.specs.Element.{Entry, Locator as Place, Run}
@@ -79,7 +80,7 @@ module _ (runs : List StoredRun) (n k : ℕ) (split : n + k ≡ length runs) whe
       let same : length (newest_first (take n runs)) ≡ length (drop k (newest_first runs)) = ap length newest_left in
       omega (arith, e, same, few)
 
-  pub left_places : (format : ℕ) → RunsKeepTo format (newest_first runs) → KeepFormat format (map (λ run. run.place) (take n runs))
+  pub left_places : (format : Format) → RunsKeepTo format (newest_first runs) → KeepFormat format (map (λ run. run.place) (take n runs))
   left_places format keep = places_keep format (take n runs) (subst (RunsKeepTo format) (sym newest_left) (left_keep format k (newest_first runs) keep))
 
   pub stored_newest : AllByRecursion IsStored (newest_first runs) → AllByRecursion IsStored (newest_first (drop n runs))
@@ -172,16 +173,16 @@ module _ (xs empty : Entries) (runs kept news : List StoredRun) (r : StoredRun) 
   pub parted_runs : newest_first news ≡ record { place = place_of r.place; entries = map named_entry r.entries.items } ∷ drop k (newest_first runs)
   parted_runs = ap newest_first (is ∙ ap (λ (rs : List StoredRun). rs ++ r ∷ []) same) ∙ newest_push (take n runs) r ∙ ap (λ (rs : List Run). run_of r ∷ rs) (newest_left runs n k split)
 
-  pub parted_state : (format limit : ℕ)
+  pub parted_state : (format : Format) (limit : ℕ)
       → state_of empty news format limit 0 ≡ record { table = []; runs = record { place = place_of r.place; entries = map named_entry r.entries.items } ∷ drop k (newest_first runs); format = format; limit = limit; room = 0 }
   parted_state format limit =
       let table : map named_entry empty ≡ [] = ap (map named_entry) none in
       λ i. record { table = table i; runs = parted_runs i; format = format; limit = limit; room = 0 }
 
-  parted_index : (format limit : ℕ) → index_of (state_of empty news format limit 0) ≡ map named_entry r.entries.items ++ entries_of (drop k (newest_first runs))
+  parted_index : (format : Format) (limit : ℕ) → index_of (state_of empty news format limit 0) ≡ map named_entry r.entries.items ++ entries_of (drop k (newest_first runs))
   parted_index format limit = ap (λ (es : Entries). map named_entry es ++ entries_of (newest_first news)) none ∙ ap entries_of parted_runs
 
-  module _ (format limit room : ℕ) (go : Bool) (run : IsRunOf go (part (state_of xs runs format limit room) k) (map named_entry r.entries.items)) (all : go ≡ true → drop k (newest_first runs) ≡ []) where
+  module _ (format : Format) (limit room : ℕ) (go : Bool) (run : IsRunOf go (part (state_of xs runs format limit room) k) (map named_entry r.entries.items)) (all : go ≡ true → drop k (newest_first runs) ≡ []) where
     parted_lookup : (id : ℕ) → lookup id (index_of (state_of empty news format limit 0)) ≡ left go (lookup id (index_of (state_of xs runs format limit room)))
     parted_lookup id = ap (lookup id) (parted_index format limit) ∙ part_lookup go (state_of xs runs format limit room) k (map named_entry r.entries.items) all run id
 

@@ -1,6 +1,7 @@
 -- The next version of the root.
-use Rattle.std.proofs.Common.{◌≡◌, ℕ, ◌+◌, ◌<◌, ◌≤◌, List, [], ◌∷◌, ◌++◌, length, map, get_or, set, get_or-set_same, le_trans, refl, sym, ap, subst, ◌∙◌, arith}
+use Rattle.std.proofs.Common.{◌≡◌, ℕ, ◌+◌, ◌<◌, ◌≤◌, List, [], ◌∷◌, ◌++◌, length, map, get_or, set, get_or-set_same, le_trans, inl, inr, refl, sym, ap, subst, ◌∙◌, arith, ◌^◌}
 use Rattle.std.specs.Prelude.{◌↔◌, Bool, true, false, reverse}
+use Rattle.std.proofs.lemmas.Bool.{cases_lt}
 use Rattle.std.proofs.lemmas.List.{length-set, map-append, reverse-append}
 use Rattle.cs_deps.specs.declared.elements.Element.{Element}
 use Rattle.cs_deps.specs.declared.elements.Element.TheVariants.{Plain, Version}
@@ -15,6 +16,7 @@ use Rattle.cs_extent.specs.State.{State as ExtentsState}
 use Rattle.cs_frame.specs.Formats.{as_locator, place_of}
 use Rattle.cs_frame.specs.declared.locators.Locator.{Locator}
 use Rattle.cs_index.specs.declared.stored_runs.StoredRun.{StoredRun}
+use Rattle.law_machine.specs.Format.{Format}
 use Rattle.law_machine.specs.Element.{Entry, Locator as Place, Run}
 use Rattle.law_machine.specs.Extents.{Purpose as Reason}
 use Rattle.law_machine.specs.Formats.{places}
@@ -47,6 +49,13 @@ module _ (old new : Staging) (v : ℕ) (d : Named) (staged : IsVersionStaged old
   root_rises lt =
       let e : get_or new.latest root_family 0 ≡ v = ap (λ l. get_or l root_family 0) root_latest ∙ get_or-set_same old.latest root_family v 0 lt in
       omega (arith, root_number, e)
+
+-- the next version of the root is below its greatest
+pub below_worn : (s : Staging) (v : ℕ) → v ≡ get_or s.latest root_family 0 → (IsRootWorn s → ⊥) → v + 1 < 2 ^ 63
+below_worn s v is below = elim (cases_lt (v + 1) (2 ^ 63)) [
+  | inl lt ↦ lt
+  | inr le ↦ absurd (below (omega (arith, is, le)))
+]
 
 -- a frame that is staged leaves the root's number as it is
 pub frame_below : (old new : Staging) (first : Bool) (sections j count root need : ℕ) → IsFrameStaged old new first sections j count root need → (IsRootWorn old → ⊥) → IsRootWorn new → ⊥
@@ -85,7 +94,7 @@ run_staged_by apart x g k reason entries older place v commands y h frame oldest
 )
 
 -- a root over a graph that differs in room alone
-root_room : (format : ℕ) (first : Bool) (g h : GraphState) (room v commands : ℕ) (ls : List Locator) → IsRootOver format first (record g { room = room }) h v commands ls → IsRootOver format first g h v commands ls
+root_room : (format : Format) (first : Bool) (g h : GraphState) (room v commands : ℕ) (ls : List Locator) → IsRootOver format first (record g { room = room }) h v commands ls → IsRootOver format first g h v commands ls
 root_room format first g h room v commands ls root = record {
   needs = root.needs;
   names = root.names;
@@ -95,11 +104,11 @@ root_room format first g h room v commands ls root = record {
   round = root.round;
 }
 
-pub root_over : (format : ℕ) (first : Bool) (g k h : GraphState) (v commands : ℕ) (ls : List Locator) → k ≡ record g { room = k.room } → IsRootOver format first k h v commands ls → IsRootOver format first g h v commands ls
+pub root_over : (format : Format) (first : Bool) (g k h : GraphState) (v commands : ℕ) (ls : List Locator) → k ≡ record g { room = k.room } → IsRootOver format first k h v commands ls → IsRootOver format first g h v commands ls
 root_over format first g k h v commands ls same root = root_room format first g h k.room v commands ls (subst (λ (s : GraphState). IsRootOver format first s h v commands ls) same root)
 
 -- the root over the runs as they are
-pub root_same : (format : ℕ) (first : Bool) (g k h : GraphState) (v commands : ℕ) (runs : List StoredRun) (rs : List Run) (ls : List Locator) → k ≡ record g { room = k.room } → ls ≡ map (λ run. run.place) runs → newest_first runs ≡ rs
+pub root_same : (format : Format) (first : Bool) (g k h : GraphState) (v commands : ℕ) (runs : List StoredRun) (rs : List Run) (ls : List Locator) → k ≡ record g { room = k.room } → ls ≡ map (λ run. run.place) runs → newest_first runs ≡ rs
     → IsRootOver format first k h v commands ls → IsRootOver format first g h v commands (map as_locator (reverse (places rs)))
 root_same format first g k h v commands runs rs ls same are is root =
     subst (λ (ms : List Locator). IsRootOver format first g h v commands ms) (are ∙ sym (oldest_places runs) ∙ ap (λ (ms : List Run). map as_locator (reverse (places ms))) is)

@@ -11,6 +11,7 @@ use Rattle.cs_index.proofs.Weights.{as_many_weigh}
 use Rattle.cs_index.proofs.Whole.{Entries}
 use Rattle.cs_index.specs.Copies.{IsSettled, copy_of, newest_copies, settle_in, settle_table}
 use Rattle.cs_index.specs.State.{IsSet, IsShort, IsStored, IsWhole, KeepTo, RunsKeepTo, State, index_of, named_entry, newest_first, state_of}
+use Rattle.law_machine.specs.Format.{Format}
 use Rattle.law_machine.proofs.Gives.{lookup_append}
 use Rattle.law_machine.specs.Apart.{is_place, same_place}
 use Rattle.law_machine.specs.Element.{Copy, Entry, Locator as Place, Run}
@@ -155,7 +156,7 @@ one_place a b = last_first (a.extent == b.extent) (a.page == b.page) (a.generati
 
 -- ---- an index with another table of the same entries
 
-module _ (xs ys : Entries) (runs rs : List StoredRun) (format limit room : ℕ) (same : map named_entry ys ≡ map named_entry xs) (are : newest_first rs ≡ newest_first runs) where
+module _ (xs ys : Entries) (runs rs : List StoredRun) (format : Format) (limit room : ℕ) (same : map named_entry ys ≡ map named_entry xs) (are : newest_first rs ≡ newest_first runs) where
   pub table_is : index_of (state_of ys rs format limit 0) ≡ index_of (state_of xs runs format limit room)
   table_is = ap (λ (es : List Entry). es ++ entries_of (newest_first rs)) same ∙ ap (λ (ns : List Run). map named_entry xs ++ entries_of ns) are
 

@@ -7,6 +7,7 @@ use Rattle.std.specs.Prelude.{is_some}
 use Rattle.std.specs.List.{AllByRecursion}
 use Rattle.std.proofs.lemmas.List.{length-map, length-take-le}
 use Rattle.cs_index.specs.declared.stored_runs.StoredRun.{StoredRun}
+use Rattle.law_machine.specs.Format.{Format}
 use Rattle.law_machine.proofs.Counting.{ascending_names, names_le}
 use Rattle.law_machine.specs.Device.{Shape}
 use Rattle.law_machine.specs.Element.{Entry, Locator as Place, Run}
@@ -95,7 +96,7 @@ smaller (run ∷ runs) limit small all = (
   smaller runs limit small all.1,
 )
 
-pub runs_small : (xs : Entries) (runs : List StoredRun) (format limit room : ℕ) → limit < 2 ^ 32 → IsWhole (state_of xs runs format limit room) → AllByRecursion (λ (run : StoredRun). length run.entries.items < 2 ^ 32) runs
+pub runs_small : (xs : Entries) (runs : List StoredRun) (format : Format) (limit room : ℕ) → limit < 2 ^ 32 → IsWhole (state_of xs runs format limit room) → AllByRecursion (λ (run : StoredRun). length run.entries.items < 2 ^ 32) runs
 runs_small xs runs format limit room small whole =
     smaller runs limit small (all_oldest (λ (run : Run). length run.entries ≤ limit) runs (lengths_in (map named_entry xs) (newest_first runs) limit whole.runs (names_few (state_of xs runs format limit room) whole)))
 

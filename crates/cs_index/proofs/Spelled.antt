@@ -1,7 +1,7 @@
 -- How a run is spelled.
-use Rattle.std.proofs.Common.{◌≡◌, ◌≤◌, ℕ, ◌+◌, ◌-◌, ◌*◌, ◌/◌, Bool, true, false, List, [], ◌∷◌, ◌++◌, length, length-append, map, le_of_eq, le_trans, refl, sym, ap, ap₂, ◌∙◌, arith, if◌then◌else◌}
+use Rattle.std.proofs.Common.{◌≡◌, ◌≤◌, ℕ, ◌+◌, ◌-◌, ◌*◌, Bool, true, false, List, [], ◌∷◌, ◌++◌, length, length-append, map, le_of_eq, le_trans, refl, sym, ap, ap₂, ◌∙◌, arith, take}
 use Rattle.std.specs.List.{AllByRecursion, flat_map}
-use Rattle.std.proofs.lemmas.List.{length-map, length-replicate}
+use Rattle.std.proofs.lemmas.List.{length-map, length-replicate, length-take-le}
 use Rattle.byteorder.specs.Endian.{big_bytes}
 use Rattle.byteorder.specs.Numbers.{length-bytes_high_first}
 use Rattle.cs_extent.specs.State.{State as ExtentsState}
@@ -9,10 +9,12 @@ use Rattle.cs_frame.proofs.LocatorLaws.{length-spelled_locators}
 use Rattle.cs_frame.proofs.Pieces.{length-first_chunks}
 use Rattle.cs_frame.proofs.RunWeights.{size_weighs}
 use Rattle.cs_frame.specs.Bytes.{zeros}
+use Rattle.cs_frame.specs.declared.formats.FormatNumber.{FormatNumber}
+use Rattle.cs_frame.specs.FormatNumbers.{number_in}
 use Rattle.cs_frame.specs.FormatRuns.{SpellsRun, run_size, spelled_run}
 use Rattle.cs_frame.specs.Formats.{as_entry, as_locator, id_bytes, place_of}
 use Rattle.cs_frame.specs.Frames.{frame_bytes, page_count, spelled_frame}
-use Rattle.cs_frame.specs.Geometries.{run_bytes, weight_bytes}
+use Rattle.cs_frame.specs.Geometries.{FitsFormat, run_bytes, weight_bytes}
 use Rattle.cs_frame.specs.Locators.{spelled_locators}
 use Rattle.cs_frame.specs.PackedRuns.{packed_entry, packed_run, packed_size, packed_sizes}
 use Rattle.cs_frame.specs.Runs.{FitsEntry, entries_of as spelled_entries, entry_of, plain_run, spelled_entry}
@@ -20,6 +22,7 @@ use Rattle.cs_frame.specs.declared.identifiers.ShardId.{ShardId}
 use Rattle.cs_frame.specs.declared.locators.Locator.{Locator}
 use Rattle.cs_frame.specs.Places.{Listed}
 use Rattle.cs_index.specs.Staged.{run_frame}
+use Rattle.law_machine.specs.Format.{Format, Four, Two}
 use Rattle.law_machine.specs.Element.{Entry}
 use Rattle.law_machine.specs.Geometry.{marks_in, most_weight_in, weigh_in}
 use Rattle.law_machine.specs.Index.{run_weight}
@@ -88,38 +91,37 @@ same_sizes : (xs : List (ShardId × Listed)) → packed_sizes (map as_entry (map
 same_sizes [] = refl
 same_sizes (x ∷ xs) = omega (arith, length-map (map place_of x.1.items) as_locator, length-map x.1.items place_of, same_sizes xs)
 
-long_run : (format : ℕ) (xs : List (ShardId × Listed)) → AllByRecursion IsShort (map named_entry xs) → length (spelled_run format (map as_entry (map named_entry xs))) ≡ run_size format (spelled_entries xs)
-long_run format xs all = by (marks_in format)
-  where
-    by : (b : Bool) → length (if b then packed_run (map as_entry (map named_entry xs)) else plain_run (map as_entry (map named_entry xs))) ≡ (if b then 4 + packed_sizes (spelled_entries xs) else run_bytes (length (spelled_entries xs)))
-    by true = omega (arith, long_packed (map named_entry xs), same_sizes xs)
-    by false = omega (arith, long_plain (map named_entry xs) all, length-map xs named_entry, length-map xs entry_of)
+long_run : (format : Format) (xs : List (ShardId × Listed)) → FitsFormat format → AllByRecursion IsShort (map named_entry xs)
+    → length (spelled_run format (map as_entry (map named_entry xs))) ≡ run_size format (spelled_entries xs)
+long_run Two xs fits all = omega (arith, long_plain (map named_entry xs) all, length-map xs named_entry, length-map xs entry_of)
+long_run (Four store device) xs fits all =
+    let size : length store ≡ 16 = fits.0.size in
+    let front : length (take 8 store) ≡ 8 = length-take-le 8 store (omega (arith, size)) in
+    omega (arith, front, length-append (take 8 store) (packed_run (map as_entry (map named_entry xs))), long_packed (map named_entry xs), same_sizes xs)
 
 -- how many pages the frame of a run has
-pub run_pages : (x : ExtentsState) (xs : List (ShardId × Listed)) → AllByRecursion IsShort (map named_entry xs) → length (run_frame x (map named_entry xs)) ≡ page_count (run_size x.format (spelled_entries xs))
+pub run_pages : (x : ExtentsState) (xs : List (ShardId × Listed)) → FitsFormat x.format → AllByRecursion IsShort (map named_entry xs)
+    → length (run_frame x (map named_entry xs)) ≡ page_count (run_size x.format (spelled_entries xs))
 unfolding run_frame
-run_pages x xs all =
+run_pages x xs fits all =
     let payload : List ℕ = spelled_run x.format (map as_entry (map named_entry xs)) in
-    length-first_chunks 4096 (page_count (length payload)) (frame_bytes 1 payload) ∙ ap page_count (long_run x.format xs all)
+    length-first_chunks 4096 (page_count (length payload)) (frame_bytes (number_in x.format) 1 payload) ∙ ap page_count (long_run x.format xs fits all)
 
 -- it takes what its entries weigh, and no more than an extent where they weigh no more than they may
-same_size : (format : ℕ) (xs : List (ShardId × Listed)) → run_size format (map as_entry (map named_entry xs)) ≡ run_size format (spelled_entries xs)
-same_size format xs = by (marks_in format)
-  where
-    by : (b : Bool) → (if b then 4 + packed_sizes (map as_entry (map named_entry xs)) else run_bytes (length (map as_entry (map named_entry xs)))) ≡ (if b then 4 + packed_sizes (spelled_entries xs) else run_bytes (length (spelled_entries xs)))
-    by true = ap (λ (n : ℕ). 4 + n) (same_sizes xs)
-    by false = ap run_bytes (length-map (map named_entry xs) as_entry ∙ length-map xs named_entry ∙ sym (length-map xs entry_of))
+same_size : (format : Format) (xs : List (ShardId × Listed)) → run_size format (map as_entry (map named_entry xs)) ≡ run_size format (spelled_entries xs)
+same_size Two xs = ap run_bytes (length-map (map named_entry xs) as_entry ∙ length-map xs named_entry ∙ sym (length-map xs entry_of))
+same_size (Four store device) xs = ap (λ (n : ℕ). 12 + n) (same_sizes xs)
 
-pub size_most : (format pages : ℕ) (xs : List (ShardId × Listed)) → 2 ≤ pages → run_weight (weigh_in format) (map named_entry xs) ≤ most_weight_in format pages → run_size format (spelled_entries xs) ≤ 4096 * pages - 41
+bytes_most : (format : Format) (pages weight : ℕ) → 2 ≤ pages → weight ≤ most_weight_in format pages → weight_bytes format weight ≤ 4096 * pages - 41
+bytes_most Two pages weight two light = omega (arith, light, two)
+bytes_most (Four store device) pages weight two light = omega (arith, light, two)
+
+pub size_most : (format : Format) (pages : ℕ) (xs : List (ShardId × Listed)) → 2 ≤ pages → run_weight (weigh_in format) (map named_entry xs) ≤ most_weight_in format pages → run_size format (spelled_entries xs) ≤ 4096 * pages - 41
 size_most format pages xs two light =
     let size : run_size format (spelled_entries xs) ≡ weight_bytes format (run_weight (weigh_in format) (map named_entry xs)) = sym (same_size format xs) ∙ size_weighs format (map named_entry xs) in
-    le_trans (le_of_eq size) (by (marks_in format) (run_weight (weigh_in format) (map named_entry xs)) light)
-  where
-    by : (b : Bool) (weight : ℕ) → weight ≤ (if b then 4096 * pages - 45 else (4096 * pages - 45) / 81) → (if b then 4 + weight else run_bytes weight) ≤ 4096 * pages - 41
-    by true weight light = omega (arith, light, two)
-    by false weight light = omega (arith, light, two)
+    le_trans (le_of_eq size) (bytes_most format pages (run_weight (weigh_in format) (map named_entry xs)) two light)
 
-pub pages_most : (format pages : ℕ) (xs : List (ShardId × Listed)) → 2 ≤ pages → run_weight (weigh_in format) (map named_entry xs) ≤ most_weight_in format pages
+pub pages_most : (format : Format) (pages : ℕ) (xs : List (ShardId × Listed)) → 2 ≤ pages → run_weight (weigh_in format) (map named_entry xs) ≤ most_weight_in format pages
     → (1 ≤ page_count (run_size format (spelled_entries xs))) × (page_count (run_size format (spelled_entries xs)) ≤ pages)
 pages_most format pages xs two light =
     let most : run_size format (spelled_entries xs) ≤ 4096 * pages - 41 = size_most format pages xs two light in
@@ -146,13 +148,17 @@ short_entries marked [] all = tt
 short_entries marked (x ∷ xs) all = ((let few : length x.1.items ≤ 8 = all.0.count in omega (arith, few, length-map x.1.items place_of)), short_entries marked xs all.1)
 
 -- a payload that spells these entries, and the pages of its frame
-module _ (format : ℕ) (xs : List (ShardId × Listed)) (payload bytes : List ℕ) (same : payload ≡ bytes) (spells : SpellsRun bytes format (spelled_entries xs)) where
+module _ (format : Format) (fits : FitsFormat format) (xs : List (ShardId × Listed)) (payload bytes : List ℕ) (same : payload ≡ bytes) (spells : SpellsRun bytes format (spelled_entries xs)) where
   payload_is : payload ≡ spelled_run format (map as_entry (map named_entry xs))
   payload_is = same ∙ spells.spelled ∙ ap (spelled_run format) (sym (same_entries (marks_in format) xs spells.fits.each))
 
   pub payload_length : length payload ≡ run_size format (spelled_entries xs)
-  payload_length = ap length payload_is ∙ long_run format xs (short_entries (marks_in format) xs spells.fits.each)
+  payload_length = ap length payload_is ∙ long_run format xs fits (short_entries (marks_in format) xs spells.fits.each)
 
-  pub payload_frame : (x : ExtentsState) → x.format ≡ format → spelled_frame 1 payload ≡ run_frame x (map named_entry xs)
+  pub payload_frame : (number : FormatNumber) → number ≡ number_in format → (x : ExtentsState) → x.format ≡ format
+      → spelled_frame number 1 payload ≡ run_frame x (map named_entry xs)
   unfolding run_frame
-  payload_frame x is = ap (spelled_frame 1) (payload_is ∙ ap (λ (f : ℕ). spelled_run f (map as_entry (map named_entry xs))) (sym is))
+  payload_frame number counted x is =
+      ap (λ (n : FormatNumber). spelled_frame n 1 payload) counted
+      ∙ ap (spelled_frame (number_in format) 1) payload_is
+      ∙ ap (λ (f : Format). spelled_frame (number_in f) 1 (spelled_run f (map as_entry (map named_entry xs)))) (sym is)

@@ -1,4 +1,4 @@
--- What a Stage of the older formats comes to.
+-- What a Stage of format 2 comes to.
 use Rattle.std.proofs.Common.{◌≡◌, ℕ, Bool, false, true, [], ap, drop}
 use Rattle.std.specs.Prelude.{IfOk, OnErr, Result}
 use Rattle.std.proofs.lemmas.Result.{IfOk-weaker}

@@ -7,6 +7,7 @@ use Rattle.std.proofs.lemmas.List.{length-map}
 use Rattle.cs_frame.specs.declared.run_frames.Run.{Run as SpelledRun}
 use Rattle.cs_frame.specs.Runs.{IsRun, Rises, entries_of as spelled_entries}
 use Rattle.cs_index.specs.declared.stored_runs.StoredRun.{StoredRun}
+use Rattle.law_machine.specs.Format.{Format}
 use Rattle.law_machine.proofs.Counting.{ascending_names, names_le}
 use Rattle.law_machine.specs.Element.{Entry, Locator as Place}
 use Rattle.law_machine.proofs.Weights.{ascending_weight, weight_some}
@@ -36,7 +37,7 @@ some_of : (xs : Entries) → map named_entry xs ≢ [] → 1 ≤ length xs
 some_of [] some = absurd (some refl)
 some_of (x ∷ xs) some = omega arith
 
-pub is_run : (run : SpelledRun) (format pages : ℕ) → AllByRecursion (λ entry. IsId entry.0) run.entries.items → Ascending (map named_entry run.entries.items) → AllByRecursion IsShort (map named_entry run.entries.items)
+pub is_run : (run : SpelledRun) (format : Format) (pages : ℕ) → AllByRecursion (λ entry. IsId entry.0) run.entries.items → Ascending (map named_entry run.entries.items) → AllByRecursion IsShort (map named_entry run.entries.items)
     → map named_entry run.entries.items ≢ [] → pages ≤ 65535 → run_weight (weigh_in format) (map named_entry run.entries.items) ≤ most_weight_in format pages → AllByRecursion (λ x. KeepTo format x.locators) (map named_entry run.entries.items) → IsRun format run
 is_run run format pages ids order short some most light keep = record {
   some = some_of run.entries.items some;
@@ -51,7 +52,7 @@ has_more id xs ys None is some = absurd (let e : false ≡ true = some in cc)
 has_more id xs ys (Some ls) is some = ap (λ (o : Option (List Place)). is_some o) (lookup_first id xs ys ls is)
 
 -- a table has no more entries than identifiers are named
-pub table_few : (xs : Entries) (runs : List StoredRun) (format limit room : ℕ) → IsWhole (state_of xs runs format limit room) → length xs ≤ limit
+pub table_few : (xs : Entries) (runs : List StoredRun) (format : Format) (limit room : ℕ) → IsWhole (state_of xs runs format limit room) → length xs ≤ limit
 table_few xs runs format limit room whole =
     let rest : List Entry = entries_of (newest_first runs) in
     let le : names (map named_entry xs) ≤ names (map named_entry xs ++ rest) = names_le (map named_entry xs) (map named_entry xs ++ rest) (λ id is. has_more id (map named_entry xs) rest _ refl is) in
@@ -61,7 +62,7 @@ table_few xs runs format limit room whole =
     omega arith
 
 -- nor do its entries weigh more than may be
-pub table_light : (xs : Entries) (runs : List StoredRun) (format limit room : ℕ) → IsWhole (state_of xs runs format limit room) → run_weight (weigh_in format) (map named_entry xs) ≤ limit
+pub table_light : (xs : Entries) (runs : List StoredRun) (format : Format) (limit room : ℕ) → IsWhole (state_of xs runs format limit room) → run_weight (weigh_in format) (map named_entry xs) ≤ limit
 table_light xs runs format limit room whole =
     let rest : List Entry = entries_of (newest_first runs) in
     let same : named_weight (weigh_in format) (map named_entry xs) ≡ run_weight (weigh_in format) (map named_entry xs) = ascending_weight (weigh_in format) (map named_entry xs) whole.ascending in
@@ -71,7 +72,7 @@ table_light xs runs format limit room whole =
     omega (arith, same, le, most)
 
 -- the table's entries keep to the format
-pub table_keeps : (xs : Entries) (runs : List StoredRun) (format limit room : ℕ) → IsWhole (state_of xs runs format limit room) → AllByRecursion (λ x. KeepTo format x.locators) (map named_entry xs)
+pub table_keeps : (xs : Entries) (runs : List StoredRun) (format : Format) (limit room : ℕ) → IsWhole (state_of xs runs format limit room) → AllByRecursion (λ x. KeepTo format x.locators) (map named_entry xs)
 table_keeps xs runs format limit room whole = run_keeps format false (map named_entry xs) (entries_of (newest_first runs)) (map named_entry xs) (whole.ascending, λ id. refl) whole.marks
 
 -- ---- a run more
@@ -86,11 +87,11 @@ module _ (xs empty : Entries) (runs before news : List StoredRun) (r : StoredRun
       ap newest_first (is ∙ ap (λ rs. rs ++ r ∷ []) same) ∙ newest_push runs r
       ∙ ap (λ (es : Entries). record { place = place_of r.place; entries = map named_entry es } ∷ newest_first runs) its
 
-  pub pushed_index : (format limit room : ℕ) → index_of (state_of empty news format limit 0) ≡ index_of (state_of xs runs format limit room)
+  pub pushed_index : (format : Format) (limit room : ℕ) → index_of (state_of empty news format limit 0) ≡ index_of (state_of xs runs format limit room)
   pushed_index format limit room =
       ap (λ (es : Entries). map named_entry es ++ entries_of (newest_first news)) none ∙ ap entries_of pushed_runs
 
-  pub pushed_whole : (format limit room : ℕ) → map named_entry xs ≢ [] → length (newest_first runs) < 24 → KeepTo format (place_of r.place ∷ []) → IsWhole (state_of xs runs format limit room) → IsWhole (state_of empty news format limit 0)
+  pub pushed_whole : (format : Format) (limit room : ℕ) → map named_entry xs ≢ [] → length (newest_first runs) < 24 → KeepTo format (place_of r.place ∷ []) → IsWhole (state_of xs runs format limit room) → IsWhole (state_of empty news format limit 0)
   pushed_whole format limit room some few keep whole = record {
     ascending = subst (λ (es : Entries). Ascending (map named_entry es)) (sym none) tt;
     short = subst (λ (es : Entries). AllByRecursion IsShort (map named_entry es)) (sym none) tt;

@@ -16,6 +16,7 @@ use Rattle.cs_index.proofs.Merged.{live_left, merged_live, merged_step, run_few}
 use Rattle.cs_index.proofs.Parts.{part_lookup}
 use Rattle.cs_index.proofs.Sorted.{all_append, take_at_get}
 use Rattle.cs_index.proofs.Whole.{Entries, short_in, short_runs}
+use Rattle.law_machine.specs.Format.{Format}
 use Rattle.law_machine.proofs.Counting.{ascending_lookup, ascending_tail, lookup_here, lookup_there, none_below}
 use Rattle.law_machine.proofs.Sorted.{sorted_live}
 use Rattle.law_machine.proofs.Tallies.{counts, counts_alike}
@@ -278,7 +279,7 @@ none_lives go s k E none goes alone run id =
     ∙ sym (ap live (part_lookup go s k [] (λ g. alone) (subst (λ (es : List Entry). IsRunOf go (part s k) es) none run) id))
     ∙ ap (λ (rs : List Run). live_at (entries_of rs) id) alone
 
-pub nothing_counts : (on : List ℕ) (old : List Entry) (xs : Entries) (runs : List StoredRun) (format limit : ℕ) → xs ≡ [] → runs ≡ [] → ((id : ℕ) → live_at old id ≡ []) → AreCounts on old → AreCounts on (index_of (state_of xs runs format limit 0))
+pub nothing_counts : (on : List ℕ) (old : List Entry) (xs : Entries) (runs : List StoredRun) (format : Format) (limit : ℕ) → xs ≡ [] → runs ≡ [] → ((id : ℕ) → live_at old id ≡ []) → AreCounts on old → AreCounts on (index_of (state_of xs runs format limit 0))
 nothing_counts on old xs runs format limit none alone dead was =
     counts_as on old (index_of (state_of xs runs format limit 0))
     (λ id. ap (λ (es : Entries). live_at (map named_entry es ++ entries_of (newest_first runs)) id) none ∙ ap (λ (rs : List StoredRun). live_at (entries_of (newest_first rs)) id) alone ∙ sym (dead id))

@@ -1,14 +1,15 @@
 -- What an index weighs.
-use Rattle.std.proofs.Common.{◌≡◌, ◌≢◌, ℕ, suc, ◌+◌, ◌-◌, ◌*◌, ◌/◌, ◌<◌, ◌≤◌, ◌==◌, Bool, true, false, List, [], ◌∷◌, ◌++◌, length, Option, Some, None, if◌then◌else◌, le_of_eq, le_trans, refl, sym, ap, subst, ◌∙◌, arith}
+use Rattle.std.proofs.Common.{◌≡◌, ◌≢◌, ℕ, suc, ◌+◌, ◌-◌, ◌*◌, ◌<◌, ◌≤◌, ◌==◌, Bool, true, false, List, [], ◌∷◌, ◌++◌, length, Option, Some, None, if◌then◌else◌, le_of_eq, le_trans, refl, sym, ap, subst, ◌∙◌, arith}
 use Rattle.std.specs.Prelude.{is_some, map, ◌^◌}
 use Rattle.std.proofs.lemmas.List.{length-map}
 use Rattle.std.specs.List.{AllByRecursion}
+use Rattle.law_machine.specs.Format.{Format, Four, Two}
 use Rattle.law_machine.proofs.Counting.{ascending_names}
 use Rattle.law_machine.proofs.Shapes.{is_weighing}
 use Rattle.law_machine.proofs.Tallies.{counts_alike}
 use Rattle.law_machine.proofs.Weights.{ascending_weight, named_parts, names_weigh, none_dead, weighs, weight_alike, weight_deletion, weight_one, weight_replaced, weight_some}
 use Rattle.law_machine.specs.Element.{Entry, Locator as Place, Run}
-use Rattle.law_machine.specs.Geometry.{marks_in, most_weight_in, weigh_in}
+use Rattle.law_machine.specs.Geometry.{most_weight_in, weigh_in}
 use Rattle.law_machine.specs.Index.{entries_of, live, live_at, lookup, named_weight, names, run_weight, weight, weight_with}
 use Rattle.law_machine.specs.Merges.{IsRunOf}
 use Rattle.law_machine.specs.Tally.{dead_weight, living_weight, weight_if_some}
@@ -21,18 +22,15 @@ use Rattle.cs_index.proofs.Merged.{left, live_left}
 use Rattle.cs_index.proofs.Names.{names_of_lookups}
 
 -- no more may be than the bytes of an extent
-pub most_few : (format pages : ℕ) → pages ≤ 65535 → most_weight_in format pages < 2 ^ 29
-most_few format pages most = by (marks_in format)
-  where
-    by : (b : Bool) → (if b then 4096 * pages - 45 else (4096 * pages - 45) / 81) < 2 ^ 29
-    by true = omega (arith, most)
-    by false = omega (arith, most)
+pub most_few : (format : Format) (pages : ℕ) → pages ≤ 65535 → most_weight_in format pages < 2 ^ 29
+most_few Two pages most = omega (arith, most)
+most_few (Four store device) pages most = omega (arith, most)
 
 -- no more entries than they weigh
-pub entries_weigh : (format : ℕ) (xs : List Entry) → length xs ≤ run_weight (weigh_in format) xs
+pub entries_weigh : (format : Format) (xs : List Entry) → length xs ≤ run_weight (weigh_in format) xs
 entries_weigh format xs = length_weighs (weigh_in format) (weighs (weigh_in format) (is_weighing format)) xs
 
-pub names_light : (format : ℕ) (xs : List Entry) → names xs ≤ named_weight (weigh_in format) xs
+pub names_light : (format : Format) (xs : List Entry) → names xs ≤ named_weight (weigh_in format) xs
 names_light format xs = names_weigh (weigh_in format) (is_weighing format) xs
 
 -- so no more identifiers are named than may be weighed
@@ -42,7 +40,7 @@ names_few s whole = le_trans (names_light s.format (index_of s)) whole.weight_fi
 -- entries that weigh no more than an index may weigh no more than fits on an extent
 pub shape_light : (s : State) (x : ExtentsState) (xs : List Entry) → s.format ≡ (shape x).format → s.limit ≡ (shape x).most_weight → run_weight (weigh_in s.format) xs ≤ s.limit
     → run_weight (shape x).weigh xs ≤ (shape x).most_weight
-shape_light s x xs format limit light = subst (λ (f : ℕ). run_weight (weigh_in f) xs ≤ (shape x).most_weight) format (le_trans light (le_of_eq limit))
+shape_light s x xs format limit light = subst (λ (f : Format). run_weight (weigh_in f) xs ≤ (shape x).most_weight) format (le_trans light (le_of_eq limit))
 
 -- a deletion of what lives weighs no more
 pub deletion_light : (s : State) (id : ℕ) → IsWhole s → live_at (index_of s) id ≢ [] → weight_with (weigh_in s.format) (index_of s) id 0 ≤ s.limit

@@ -9,6 +9,7 @@ use Rattle.cs_frame.specs.declared.identifiers.ShardId.{ShardId}
 use Rattle.cs_frame.specs.declared.locators.Locator.{Locator}
 use Rattle.cs_frame.specs.Runs.{IsRun, Rises, entries_of as spelled_entries}
 use Rattle.cs_index.specs.declared.stored_runs.StoredRun.{StoredRun}
+use Rattle.law_machine.specs.Format.{Format}
 use Rattle.law_machine.proofs.Counting.{lookup_here, lookup_there}
 use Rattle.law_machine.specs.Element.{Entry, Locator as Place, Run}
 use Rattle.law_machine.specs.Geometry.{weigh_in}
@@ -84,7 +85,7 @@ some_of : (xs : Entries) → 1 ≤ length xs → map named_entry xs ≢ []
 some_of [] some is = omega arith
 some_of (x ∷ xs) some is = cc
 
-stored_of : (format : ℕ) (runs : List StoredRun) → AllByRecursion (λ run. AllByRecursion (λ entry. IsId entry.0) run.entries.items) runs
+stored_of : (format : Format) (runs : List StoredRun) → AllByRecursion (λ run. AllByRecursion (λ entry. IsId entry.0) run.entries.items) runs
     → AllByRecursion (λ run. IsRun format (record { entries = run.entries })) runs → AllByRecursion (λ run. IsStored (run_of run)) runs
 stored_of format [] ids all = tt
 stored_of format (run ∷ runs) ids all = (
@@ -92,16 +93,16 @@ stored_of format (run ∷ runs) ids all = (
   stored_of format runs ids.1 all.1,
 )
 
-pub stored_runs : (format : ℕ) (runs : List StoredRun) → AllByRecursion (λ run. AllByRecursion (λ entry. IsId entry.0) run.entries.items) runs
+pub stored_runs : (format : Format) (runs : List StoredRun) → AllByRecursion (λ run. AllByRecursion (λ entry. IsId entry.0) run.entries.items) runs
     → AllByRecursion (λ run. IsRun format (record { entries = run.entries })) runs → AllByRecursion IsStored (newest_first runs)
 stored_runs format runs ids all = all_newest IsStored runs (stored_of format runs ids all)
 
-pub lengths_of : (format : ℕ) (runs : List StoredRun) → AllByRecursion (λ run. IsRun format (record { entries = run.entries })) runs → AllByRecursion (λ run. length run.entries.items < 2 ^ 32) runs
+pub lengths_of : (format : Format) (runs : List StoredRun) → AllByRecursion (λ run. IsRun format (record { entries = run.entries })) runs → AllByRecursion (λ run. length run.entries.items < 2 ^ 32) runs
 lengths_of format [] all = tt
 lengths_of format (run ∷ runs) all = (all.0.most, lengths_of format runs all.1)
 
 -- no more are named in them than they can have entries
-pub loaded_names : (format : ℕ) (runs : List StoredRun) → AllByRecursion (λ run. IsRun format (record { entries = run.entries })) runs → names (entries_of (newest_first runs)) ≤ length runs * 2 ^ 32
+pub loaded_names : (format : Format) (runs : List StoredRun) → AllByRecursion (λ run. IsRun format (record { entries = run.entries })) runs → names (entries_of (newest_first runs)) ≤ length runs * 2 ^ 32
 loaded_names format runs all =
     let le : names (entries_of (newest_first runs)) ≤ length (newest_first runs) * 2 ^ 32 =
     runs_names (newest_first runs) (all_newest (λ (run : Run). length run.entries < 2 ^ 32) runs (named_lengths runs (lengths_of format runs all))) in
@@ -144,7 +145,7 @@ put_names xs ys rest id named more ls known put was is count =
     by true old count = count ∙ was ∙ sym (names_here (record { id = id; locators = ls }) (xs ++ rest) true (some_is _ old) refl)
     by false new count = count ∙ ap (λ (n : ℕ). n + 1) was ∙ sym (names_more (record { id = id; locators = ls }) (xs ++ rest) (none_is _ new))
 
-module _ (xs ys : Entries) (runs : List StoredRun) (format limit room left : ℕ) where
+module _ (xs ys : Entries) (runs : List StoredRun) (format : Format) (limit room left : ℕ) where
   abbrev old : State
   old = state_of xs runs format limit room
 
@@ -183,7 +184,7 @@ module _ (xs ys : Entries) (rs ss : List StoredRun) (same : xs ≡ ys) (same' : 
   pub last_in : (id : ℕ) (o : Option (List Place)) → o ≡ lookup id (map named_entry xs ++ entries_of (newest_first rs)) → o ≡ lookup id (map named_entry ys ++ entries_of (newest_first ss))
   last_in id o is = is ∙ ap₂ (λ (es : Entries) (runs : List StoredRun). lookup id (map named_entry es ++ entries_of (newest_first runs))) same same'
 
-  pub readable : (format limit room : ℕ) → IsWhole (state_of ys ss format limit room) → IsReadable xs rs
+  pub readable : (format : Format) (limit room : ℕ) → IsWhole (state_of ys ss format limit room) → IsReadable xs rs
   readable format limit room whole = subst (λ (es : Entries). IsReadable es rs) (sym same) (subst (λ (runs : List StoredRun). IsReadable ys runs) (sym same') (record {
     ascending = whole.ascending;
     short = whole.short;
@@ -191,7 +192,7 @@ module _ (xs ys : Entries) (rs ss : List StoredRun) (same : xs ≡ ys) (same' : 
     few = omega (arith, whole.few, length-newest ss);
   }))
 
-pub empty_whole : (runs : List StoredRun) (format limit named weight : ℕ) (xs : Entries) → xs ≡ [] → AllByRecursion IsStored (newest_first runs) → length runs ≤ 24 → named ≡ names (entries_of (newest_first runs))
+pub empty_whole : (runs : List StoredRun) (format : Format) (limit named weight : ℕ) (xs : Entries) → xs ≡ [] → AllByRecursion IsStored (newest_first runs) → length runs ≤ 24 → named ≡ names (entries_of (newest_first runs))
     → weight ≡ named_weight (weigh_in format) (entries_of (newest_first runs)) → weight ≤ limit
     → ((id : ℕ) → KeepTo format (live_at (entries_of (newest_first runs)) id)) → RunsKeepTo format (newest_first runs)
     → IsWhole (state_of xs runs format limit 0) × (named ≡ names (index_of (state_of xs runs format limit 0))) × (weight ≡ named_weight (weigh_in format) (index_of (state_of xs runs format limit 0)))
@@ -235,7 +236,7 @@ marks_found s id None whole is = tt
 marks_found s id (Some ls) whole is = marks_lookup s id ls.now whole is
 
 -- an index of nothing
-pub nothing_whole : (xs : Entries) (runs : List StoredRun) (format limit : ℕ) → xs ≡ [] → runs ≡ []
+pub nothing_whole : (xs : Entries) (runs : List StoredRun) (format : Format) (limit : ℕ) → xs ≡ [] → runs ≡ []
     → IsWhole (state_of xs runs format limit 0) × (0 ≡ names (index_of (state_of xs runs format limit 0))) × (0 ≡ shards (index_of (state_of xs runs format limit 0)))
     × (0 ≡ named_weight (weigh_in format) (index_of (state_of xs runs format limit 0)))
 nothing_whole xs runs format limit none alone =

@@ -28,7 +28,8 @@ IsRunWornApart Writes x reason staging = IsRunWornBy true Writes x reason stagin
 abbrev pub WritesNewest : Shape → State → (k : ℕ) → List Entry → Type 0
 WritesNewest S s k entries = WritesPart (deletions_go S s k) s k entries
 
--- the table and the newest k runs became one run for this purpose, without deletions where they go, and the root was staged
+-- the table and the newest k runs became one run for this purpose, without deletions where they go, and the root was
+-- staged
 abbrev pub IsNewestStagedApart : (k : ℕ) → State → ExtentsState → GraphState → Reason → (v commands : ℕ) → State → ExtentsState → GraphState → Type 0
 IsNewestStagedApart k s x g reason v commands t y h = IsPartStagedBy true (deletions_go (shape x) s k) k s x g reason v commands t y h
 

@@ -23,7 +23,8 @@ abbrev pub newest_copies : List ChunkCopy → List Copy
 newest_copies [] = []
 newest_copies (c ∷ cs) = newest_copies cs ++ copy_of c ∷ []
 
--- a table over older entries once a copy counts: the chunk lies where its copy is, if it still lies where it was copied from
+-- a table over older entries once a copy counts: the chunk lies where its copy is, if it still lies where it was copied
+-- from
 abbrev pub settle_in : (older table : List Entry) → Copy → List Entry
 settle_in older table c = if is_place (nth (live_at (table ++ older) c.id) c.chunk) c.from
     then record { id = c.id; locators = replaced (live_at (table ++ older) c.id) c.chunk c.to } ∷ table else table
@@ -41,8 +42,8 @@ pub record IsSettled (old : State) (copies : List Copy) (new : State) : Type 0 w
   pub format : new.format ≡ old.format
   pub limit : new.limit ≡ old.limit
 
--- Once these copies count a Stage does what it does of the index then, and what lives is what lives then; it is refused where that is, and
--- where the generation of the caller's extent is worn.
+-- Once these copies count a Stage does what it does of the index then, and what lives is what lives then; it is refused
+-- where that is, and where the generation of the caller's extent is worn.
 abbrev pub IsStagedSettled : State → List Copy → ExtentsState → GraphState → (commands : ℕ) → (generation_worn : Bool) → Result ℕ Refusal → State → ExtentsState → GraphState → Type 0
 IsStagedSettled s copies x g commands generation_worn r t y h = (counted : State) × IsSettled s copies counted
     × IfOk r (λ v. IsStagedApart counted x g v commands t y h × ((id : ℕ) → live_at (index_of t) id ≡ live_at (index_of counted) id))
@@ -52,7 +53,8 @@ IsStagedSettled s copies x g commands generation_worn r t y h = (counted : State
 abbrev pub numbered : ShardId × ℕ → ℕ × ℕ
 numbered last = (id_number last.0, last.1)
 
--- a chunk of an identifier comes behind the last one, by identifier and then by chunk; every one where there is no last one
+-- a chunk of an identifier comes behind the last one, by identifier and then by chunk; every one where there is no last
+-- one
 abbrev pub IsBehind : (last : Option (ℕ × ℕ)) → (id chunk : ℕ) → Type 0
 IsBehind None id chunk = Unit {0}
 IsBehind (Some last) id chunk = (last.0 < id) ⊎ ((last.0 ≡ id) × (last.1 < chunk))

@@ -19,8 +19,9 @@ one_on extent e = if extent == e then 1 else 0
 abbrev pub AreCounts : (on : List ℕ) → List Entry → Type 0
 AreCounts on index = (length on ≡ 7680) × ((e : ℕ) → e < 7680 → slice_index on e ≡ lives_on e index)
 
--- What an index keeps of its fields: its value's laws, the table's identifiers, how many are named and how many live, what the newest entries
--- weigh, how many chunks live on each extent, room in the table, and what is known of the extent that was searched last.
+-- What an index keeps of its fields: its value's laws, the table's identifiers, how many are named and how many live,
+-- what the newest entries weigh, how many chunks live on each extent, room in the table, and what is known of the
+-- extent that was searched last.
 pub record IsHeld (s : State) (entries : List (ShardId × Listed)) (named living weight : ℕ) (on : List ℕ) (table_length table_capacity : ℕ) (cleared : Cleared) : Type 0 where
   pub whole : IsWhole s
   pub ids : AllByRecursion (λ entry. IsId entry.0) entries

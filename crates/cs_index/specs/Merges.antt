@@ -14,7 +14,8 @@ use Rattle.cs_index.specs.State.{IsId, IsShort, State, index_of, named_entries}
 abbrev pub part : State → ℕ → List Entry
 part s k = s.table ++ entries_of (take k s.runs)
 
--- a run of the table and of the newest k runs, with their deletions or without them: it can be spelled, and weighs no more than it may
+-- a run of the table and of the newest k runs, with their deletions or without them: it can be spelled, and weighs no
+-- more than it may
 pub record IsRunOfPart (s : State) (go : Bool) (k : ℕ) (run : SpelledRun) : Type 0 where
   pub merged : IsRunOf go (part s k) (named_entries run)
   pub ids : AllByRecursion (λ entry. IsId entry.0) run.entries.items
@@ -25,8 +26,8 @@ pub record IsRunOfPart (s : State) (go : Bool) (k : ℕ) (run : SpelledRun) : Ty
 abbrev pub deletions_go : Shape → State → ℕ → Bool
 deletions_go S s k = nat_le (length s.runs) k && (S.by_size || nat_lt 0 k)
 
--- how many of the newest runs a Stage merges by size: all where the deletions weigh at least a quarter of what the newest entries
--- may weigh
+-- how many of the newest runs a Stage merges by size: all where the deletions weigh at least a quarter of what the
+-- newest entries may weigh
 abbrev pub reached : Shape → State → ℕ
 reached S s = if nat_le S.most_weight (4 * dead_weight S.weigh (index_of s)) then length s.runs
     else reaching S (sizes s.runs) (names s.table)

@@ -14,7 +14,8 @@ use Rattle.cs_extent.specs.State.{State as ExtentsState, extents_of, shape}
 use Rattle.cs_extent.specs.Worn.{IsFrameWornBy}
 use Rattle.cs_frame.specs.declared.locators.Locator.{Locator}
 use Rattle.cs_frame.specs.Formats.{as_locator, formats_of}
-use Rattle.cs_frame.specs.Roots.{SpellsRoot}
+use Rattle.cs_frame.specs.Roots.{SpellsRoot, identity_in}
+use Rattle.law_machine.specs.Format.{Format}
 use Rattle.law_machine.specs.Device.{Shape}
 use Rattle.law_machine.specs.Element.{Entry, Locator as Place, Run}
 use Rattle.law_machine.specs.Extents.{ForRun, NoPlace, Purpose as Reason}
@@ -46,18 +47,18 @@ abbrev pub IsRunAppendedBy : (apart : Bool) → ExtentsState → GraphState → 
 IsRunAppendedBy apart x g reason entries place y h = IsAppendedBy apart x g reason (run_frame x entries) (as_locator place) y h
 
 -- The next version of the root was staged to page 1: its page spells, in this format, so many commands and the runs at
--- these places, oldest first. It needs all versions of each section so far, where page writes don't come first all plain writes so far,
--- and nothing else of its own.
-pub record IsRootOver (format : ℕ) (pages_first : Bool) (g h : GraphState) (v commands : ℕ) (oldest_first : List Locator) : Type 0 where
+-- these places, oldest first, and in format 4 the store's identity. It needs all versions of each section so far, where
+-- page writes don't come first all plain writes so far, and nothing else of its own.
+pub record IsRootOver (format : Format) (pages_first : Bool) (g h : GraphState) (v commands : ℕ) (oldest_first : List Locator) : Type 0 where
   pub needs : Named
   pub names : (x : Element) → Names needs x ↔ IsRootNeed (root_pages pages_first g.staging.staged) g.staging.latest x
   pub version : IsVersionStaged g.staging root_family v needs h.staging
-  pub page : (page : List ℕ) × (write_of h (Version root_family v) ≡ Some (1, page)) × SpellsRoot page format v commands oldest_first
+  pub page : (page : List ℕ) × (write_of h (Version root_family v) ≡ Some (1, page)) × SpellsRoot page (identity_in format) v commands oldest_first
   pub others : AddsOnly g h (Version root_family v)
   pub round : h.round ≡ g.round
 
 -- the root over these runs was staged, by the format's rule
-abbrev pub IsRootStaged : (format : ℕ) → GraphState → GraphState → (v commands : ℕ) → List Run → Type 0
+abbrev pub IsRootStaged : (format : Format) → GraphState → GraphState → (v commands : ℕ) → List Run → Type 0
 IsRootStaged format g h v commands runs = IsRootOver format (pages_first_in format) g h v commands (map as_locator (reverse (places runs)))
 
 -- the frame of a run was appended, and the root over it and over the older runs was staged
@@ -95,15 +96,16 @@ pub record IsMergeStaged (s : State) (x : ExtentsState) (g : GraphState) (reason
   pub format : t.format ≡ s.format
   pub limit : t.limit ≡ s.limit
 
--- the run of the table and of the newest k runs was appended in front of the others, or none where it would have no entry
+-- the run of the table and of the newest k runs was appended in front of the others, or none where it would have no
+-- entry
 abbrev pub IsPartAppendedBy : (apart go : Bool) → State → ℕ → ExtentsState → GraphState → Reason → List Run → ExtentsState → GraphState → Type 0
 IsPartAppendedBy apart go s k x g reason runs y h =
     ((entries : List Entry) × (place : Place) × (entries ≢ []) × IsRunOf go (part s k) entries × IsRunAppendedBy apart x g reason entries place y h
     × (runs ≡ record { place = place; entries = entries } ∷ drop k s.runs))
     ⊎ (IsRunOf go (part s k) [] × (y ≡ x) × (h ≡ g) × (runs ≡ drop k s.runs))
 
--- The table and the newest k runs became one run in front of the others, with their deletions or without them, or none where it
--- would have no entry, and the root over all that stand then was staged. Chunks and runs lie apart or not.
+-- The table and the newest k runs became one run in front of the others, with their deletions or without them, or none
+-- where it would have no entry, and the root over all that stand then was staged. Chunks and runs lie apart or not.
 pub record IsPartStagedBy (apart go : Bool) (k : ℕ) (s : State) (x : ExtentsState) (g : GraphState) (reason : Reason) (v commands : ℕ) (t : State) (y : ExtentsState) (h : GraphState) : Type 0 where
   pub between : GraphState
   pub appended : IsPartAppendedBy apart go s k x g reason t.runs y between
@@ -127,7 +129,8 @@ WritesMerged s entries = IsMergedRun (index_of s) entries × (entries ≢ [])
 abbrev pub WritesPart : (go : Bool) → State → ℕ → List Entry → Type 0
 WritesPart go s k entries = IsRunOf go (part s k) entries × (entries ≢ [])
 
--- the run that a Stage writes, where the table isn't empty: that of the table and of as many of the newest runs as it takes
+-- the run that a Stage writes, where the table isn't empty: that of the table and of as many of the newest runs as it
+-- takes
 abbrev pub WritesRun : Shape → State → List Entry → Type 0
 WritesRun S s entries = (s.table ≢ []) × WritesPart (deletions_go S s (stage_takes S s)) s (stage_takes S s) entries
 
@@ -158,7 +161,8 @@ IsWhy WornOut full worn = (full → ⊥) × worn
 IsWhy OutOfMemory full worn = Unit {0}
 IsWhy _ full worn = ⊥
 
--- the call is refused 30 where the first holds, else 35 where the second does, else not; 9 may come instead of any of these
+-- the call is refused 30 where the first holds, else 35 where the second does, else not; 9 may come instead of any of
+-- these
 abbrev pub IsExact : {T : Type 0} → Result T Refusal → (full worn : Type 0) → Type 0
 IsExact (Ok x) full worn = (full → ⊥) × (worn → ⊥)
 IsExact (Err refusal) full worn = IsWhy refusal full worn

@@ -8,6 +8,7 @@ use Rattle.cs_frame.specs.Formats.{place_of}
 pub use Rattle.cs_frame.specs.Identifiers.{id_number}
 use Rattle.cs_frame.specs.Places.{Listed}
 use Rattle.cs_index.specs.declared.stored_runs.StoredRun.{StoredRun}
+use Rattle.law_machine.specs.Format.{Format}
 use Rattle.law_machine.specs.Element.{Entry, Locator as Place, Run}
 use Rattle.law_machine.specs.Geometry.{marks_in, weigh_in}
 use Rattle.law_machine.specs.Index.{Ascending, entries_of, live_at, lookup, named_weight}
@@ -41,7 +42,7 @@ pub record State : Type 0 where
   -- the runs, newest first
   pub runs : List Run
   -- the format of the store
-  pub format : ℕ
+  pub format : Format
   -- what the newest entries of all identifiers may weigh together, by the rule of the format
   pub limit : ℕ
   -- so many more entries of the table will ask for no memory
@@ -59,12 +60,12 @@ IsShort x = length x.locators ≤ 8
 abbrev pub IsStored : Run → Type 0
 IsStored run = Ascending run.entries × (run.entries ≢ []) × AllByRecursion IsShort run.entries
 
--- these places keep to a format: up to format 2 none has a mark
-abbrev pub KeepTo : (format : ℕ) → List Place → Type 0
+-- these places keep to a format: in format 2 none has a mark
+abbrev pub KeepTo : (format : Format) → List Place → Type 0
 KeepTo format ls = marks_in format ≡ false → AllByRecursion (λ l. l.mark ≡ 0) ls
 
 -- and so do the places of these runs
-abbrev pub RunsKeepTo : (format : ℕ) → List Run → Type 0
+abbrev pub RunsKeepTo : (format : Format) → List Run → Type 0
 RunsKeepTo format runs = marks_in format ≡ false → AllByRecursion (λ run. run.place.mark ≡ 0) runs
 
 -- what every index keeps
@@ -98,6 +99,6 @@ IsNext index after (Some x) =
     IsAfter after x.id × (lookup x.id index ≡ Some x.locators) × ((d : ℕ) → IsAfter after d → d < x.id → lookup d index ≡ None)
 
 -- the value of an index with these fields
-abbrev pub state_of : List (ShardId × Listed) → List StoredRun → (format limit room : ℕ) → State
+abbrev pub state_of : List (ShardId × Listed) → List StoredRun → (format : Format) (limit room : ℕ) → State
 state_of table runs format limit room =
     record { table = map named_entry table; runs = newest_first runs; format = format; limit = limit; room = room }

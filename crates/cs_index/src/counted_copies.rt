@@ -25,7 +25,8 @@ use cs_refusal::Refusal;
 use std::alloc::{AllocError, Global};
 use std::mem::replace;
 
-/// A copy that a sweep wrote of a chunk: of which shard, the chunk's number there, where it was read and where it was written.
+/// A copy that a sweep wrote of a chunk: of which shard, the chunk's number there, where it was read and where it was
+/// written.
 #[derive(Clone, Copy, Debug)]
 pub struct ChunkCopy {
     pub id: ShardId,
@@ -74,13 +75,13 @@ const TABLE_ALONE: Portion = Portion {
 };
 
 impl Index {
-    /// As `stage_root`, but first each of these copies, oldest first, counts: if its chunk still lies where it was copied from, it lies
-    /// where the copy is. Returns the version of the root. `generation_worn` says that the generation of the extent that the caller is to
-    /// empty would pass its greatest: then nothing is staged.
+    /// As `stage_root`, but first each of these copies, oldest first, counts: if its chunk still lies where it was
+    /// copied from, it lies where the copy is. Returns the version of the root. `generation_worn` says that the
+    /// generation of the extent that the caller is to empty would pass its greatest: then nothing is staged.
     ///
-    /// 30 `Full` and 35 `WornOut` as `stage_root` once the copies count, and 35 if `generation_worn`; 9 `OutOfMemory` may come instead of
-    /// either. After a refusal nothing has changed but the graph's room, and no copy counts. Takes memory for the table and the run, and
-    /// time for its entries.
+    /// 30 `Full` and 35 `WornOut` as `stage_root` once the copies count, and 35 if `generation_worn`; 9 `OutOfMemory`
+    /// may come instead of either. After a refusal nothing has changed but the graph's room, and no copy counts. Takes
+    /// memory for the table and the run, and time for its entries.
     pub fn stage_settled(
         &mut self,
         extents: &mut Extents,

@@ -18,8 +18,8 @@ fn one_if_living(locators: &[Locator]) -> usize
     if locators.is_empty() { 0 } else { 1 }
 }
 
-/// What an identifier comes to in the counts of an index: whether it has an entry, 1 if that has locators, else 0, and what it weighs, 0 if
-/// there is none.
+/// What an identifier comes to in the counts of an index: whether it has an entry, 1 if that has locators, else 0, and
+/// what it weighs, 0 if there is none.
 #[derive(Clone, Copy, Debug)]
 pub struct Standing {
     pub known: bool,
@@ -124,8 +124,8 @@ pub struct Newest {
     pub weight: usize,
 }
 
-/// Counts the identifiers that a table and runs name, which are listed oldest first, and weighs the newest entry of each in this format.
-/// Reads all entries.
+/// Counts the identifiers that a table and runs name, which are listed oldest first, and weighs the newest entry of
+/// each in this format. Reads all entries.
 pub fn count_newest(table: &[(ShardId, Places)], runs: &[StoredRun], format: Format) -> Newest
     requires readable { IsReadable table.now runs.now }
     requires few { names (map named_entry table.now ++ entries_of (newest_first runs.now)) < 2 ^ 40 }
@@ -143,8 +143,8 @@ pub fn count_newest(table: &[(ShardId, Places)], runs: &[StoredRun], format: For
     Newest { named, weight }
 }
 
-/// How many identifiers of a table and of runs, which are listed oldest first, have locators. Counts into zeros how many chunks live on
-/// each extent. Reads all entries.
+/// How many identifiers of a table and of runs, which are listed oldest first, have locators. Counts into zeros how
+/// many chunks live on each extent. Reads all entries.
 pub fn count_living(table: &[(ShardId, Places)], runs: &[StoredRun], on: &mut [u32]) -> usize
     requires readable { IsReadable table.now runs.now }
     requires few { names (map named_entry table.now ++ entries_of (newest_first runs.now)) < 2 ^ 29 }

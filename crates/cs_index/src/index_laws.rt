@@ -10,8 +10,8 @@ ghost use Rattle.law_machine.specs.Element.{Entry};
 ghost use Rattle.law_machine.specs.Extents.{ForRun};
 ghost use Rattle.law_machine.specs.Index.{IsTableRun};
 
-/// If a Stage doesn't merge by size, it makes the table the newest run while there are fewer than four, and else one run of
-/// all that is live.
+/// If a Stage doesn't merge by size, it makes the table the newest run while there are fewer than four, and else one
+/// run of all that is live.
 pub fn stages_without_sizes()
     ensures table { (s t : State) (x y : ExtentsState) (g h : GraphState) (v commands : ℕ)
         → (shape x).by_size ≡ false → s.table ≢ [] → length s.runs < 4
@@ -25,8 +25,8 @@ pub fn stages_without_sizes()
         ⊎ ((4 ≤ length s.runs) × WritesMerged s entries))) }
 {}
 
-/// If a Stage merges by size, it makes one run of the table and of as many of the newest runs as are reached, and deletions go if
-/// these are all runs.
+/// If a Stage merges by size, it makes one run of the table and of as many of the newest runs as are reached, and
+/// deletions go if these are all runs.
 pub fn stages_by_sizes()
     ensures newest { (s t : State) (x y : ExtentsState) (g h : GraphState) (v commands : ℕ) → (shape x).by_size ≡ true
         → IsNewestStaged (stage_takes (shape x) s) s x g v commands t y h

@@ -22,7 +22,7 @@ use cs_refusal::Refusal;
 use std::alloc::{AllocError, Global};
 use std::marker::Model;
 
-/// Which locators each shard has: a table in memory over the runs of its root, at most four, in format 3 at most 24.
+/// Which locators each shard has: a table in memory over the runs of its root, at most 24, and 4 in format 2.
 #[derive(Drop)]
 pub struct Index {
     /// The entries that no run has yet, by rising identifiers.
@@ -60,11 +60,12 @@ impl Model for Index {
 }
 
 impl Index {
-    /// The index of these runs, oldest first, with an empty table, in a store of this format. `limit` is what the newest entries of all
-    /// identifiers may weigh together: as much as those of one run on one extent. An entry weighs `cs_frame::entry_weight`.
+    /// The index of these runs, oldest first, with an empty table, in a store of this format. `limit` is what the
+    /// newest entries of all identifiers may weigh together: as much as those of one run on one extent. An entry weighs
+    /// `cs_frame::entry_weight`.
     ///
-    /// 43 `NotAStore` if they weigh more, then 9 `OutOfMemory`. Asks for the memory of a number for each extent that a store can
-    /// have. Reads all entries in order twice.
+    /// 43 `NotAStore` if they weigh more, then 9 `OutOfMemory`. Asks for the memory of a number for each extent that a
+    /// store can have. Reads all entries in order twice.
     pub fn load(
         alloc: Global,
         format: Format,
@@ -102,8 +103,8 @@ impl Index {
         })
     }
 
-    /// The locators of an identifier by its last entry, none of them if that is a deletion. Searches the table, and then one run after
-    /// another, the newest first.
+    /// The locators of an identifier by its last entry, none of them if that is a deletion. Searches the table, and
+    /// then one run after another, the newest first.
     pub fn lookup(&self, id: ShardId) -> Option<&[Locator]>
         ensures last { option_map (map place_of) (option_copied result) ≡ lookup (id_number id) (index_of self.now) }
         ensures short { IfSome result (λ locators. length locators.now ≤ 8) }
@@ -134,9 +135,9 @@ impl Index {
         &self.runs
     }
 
-    /// The first live chunk on an extent, by identifier and then by chunk. If the last search was of the same extent it reads on from
-    /// there, unless a shard that it had passed was given a locator there since, or all entries became one run: so searching an extent
-    /// again and again, while its chunks are moved, reads each entry once.
+    /// The first live chunk on an extent, by identifier and then by chunk. If the last search was of the same extent it
+    /// reads on from there, unless a shard that it had passed was given a locator there since, or all entries became
+    /// one run: so searching an extent again and again, while its chunks are moved, reads each entry once.
     pub fn first_live(&mut self, extent: usize) -> Option<LiveChunk>
         ensures found { MatchOption result (NothingLive (index_of self.old) extent) (λ found. FirstLive (index_of self.old) extent (id_number found.id) found.chunk (place_of found.place)) }
         ensures same { self.new ≡ self.old }
@@ -229,8 +230,8 @@ impl Index {
         Ok(())
     }
 
-    /// Whether the newest entries would weigh more than they may with one of so many chunks in place of what an identifier has. Searches for
-    /// the identifier, and asks for no memory.
+    /// Whether the newest entries would weigh more than they may with one of so many chunks in place of what an
+    /// identifier has. Searches for the identifier, and asks for no memory.
     pub fn is_full_for(&self, id: ShardId, chunks: usize) -> bool
         requires { chunks ≤ 8 }
         ensures { IsTrue result ↔ (self.now.limit < weight_with (weigh_in self.now.format) (index_of self.now) (id_number id) chunks) }
@@ -240,7 +241,8 @@ impl Index {
         self.limit < sum_after(self.weight, before.weight, now)
     }
 
-    /// Gives an identifier other locators in the table. Searches for it once in all entries, and once more in the table.
+    /// Gives an identifier other locators in the table. Searches for it once in all entries, and once more in the
+    /// table.
     pub(crate) fn enter(&mut self, id: ShardId, locators: Places) -> Result<(), AllocError>
         requires short { length locators.items ≤ 8 }
         requires marks { KeepFormat self.old.format locators.items }
@@ -272,8 +274,9 @@ impl Index {
 
     /// Gives an identifier these locators, whatever it had before.
     ///
-    /// 32 `IndexFull` if the newest entries would weigh more than they may with these in place of those, then 9 `OutOfMemory`, only if
-    /// `reserve` left no room and memory is refused. Costs two searches of the table and of each run.
+    /// 32 `IndexFull` if the newest entries would weigh more than they may with these in place of those, then 9
+    /// `OutOfMemory`, only if `reserve` left no room and memory is refused. Costs two searches of the table and of each
+    /// run.
     pub fn set(&mut self, id: ShardId, locators: Places) -> Result<(), Refusal>
         requires some { (1 ≤ length locators.items) × (length locators.items ≤ 8) }
         requires marks { KeepFormat self.old.format locators.items }
@@ -303,8 +306,8 @@ impl Index {
         }
     }
 
-    /// Deletes an identifier that has locators, and returns whether it had any. The deletion is an entry of its own, which hides what the
-    /// runs have. If it had none, or memory is refused, nothing changes.
+    /// Deletes an identifier that has locators, and returns whether it had any. The deletion is an entry of its own,
+    /// which hides what the runs have. If it had none, or memory is refused, nothing changes.
     pub fn erase(&mut self, id: ShardId) -> Result<bool, AllocError>
         ensures answer { IfOk result (λ erased. IsTrue erased ↔ (live_at (index_of self.old) (id_number id) ≢ [])) }
         ensures entered { result ≡ Ok true → IsSet self.old (id_number id) [] self.new }
@@ -332,8 +335,8 @@ impl Index {
         }
     }
 
-    /// Gives an identifier the new locators, no more than the old ones, if it has those, and returns whether it had. If it has others, or
-    /// memory is refused, nothing changes.
+    /// Gives an identifier the new locators, no more than the old ones, if it has those, and returns whether it had. If
+    /// it has others, or memory is refused, nothing changes.
     pub fn replace_if(
         &mut self,
         id: ShardId,

@@ -89,8 +89,9 @@ fn is_id(id: Option<ShardId>)
     }
 }
 
-/// Of the chunks that live on the extent the one that comes first, by identifier and then by chunk, and the last identifier before it; where
-/// none lives there, None and the last identifier of all. Reading begins behind the one that was passed already.
+/// Of the chunks that live on the extent the one that comes first, by identifier and then by chunk, and the last
+/// identifier before it; where none lives there, None and the last identifier of all. Reading begins behind the one
+/// that was passed already.
 pub fn search(
     entries: Entries<'_>,
     passed: Option<ShardId>,
@@ -119,8 +120,8 @@ pub fn search(
     (None, last)
 }
 
-/// Of the chunks that live on the extent and belong to the shards behind this one, all where there is none, the one that comes first, by
-/// identifier and then by chunk. The entries are those behind it.
+/// Of the chunks that live on the extent and belong to the shards behind this one, all where there is none, the one
+/// that comes first, by identifier and then by chunk. The entries are those behind it.
 pub fn search_behind(
     entries: Entries<'_>,
     after: Option<ShardId>,
@@ -165,9 +166,10 @@ pub fn first_on_behind(places: &[Locator], last: usize, extent: usize) -> Option
 }
 
 impl Index {
-    /// The first live chunk on an extent behind the last one, a shard and the number of one of its chunks, by identifier and then by
-    /// chunk; where there is no last one the first of all. The shard needn't be named. Searches for it in the table and in each run, and
-    /// reads on from there: a search that goes on behind what the one before found reads each entry about once.
+    /// The first live chunk on an extent behind the last one, a shard and the number of one of its chunks, by
+    /// identifier and then by chunk; where there is no last one the first of all. The shard needn't be named. Searches
+    /// for it in the table and in each run, and reads on from there: a search that goes on behind what the one before
+    /// found reads each entry about once.
     pub fn first_behind(&self, extent: usize, last: Option<(ShardId, usize)>) -> Option<LiveChunk>
         ensures { MatchOption result (NoneBehind (index_of self.now) (option_map numbered last) extent) (λ found. FirstBehind (index_of self.now) (option_map numbered last) extent (id_number found.id) found.chunk (place_of found.place)) }
     {

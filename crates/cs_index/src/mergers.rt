@@ -1,15 +1,15 @@
-//! What a Stage merges with the table: so many of the newest runs, with their deletions or without them, and the run of them.
+//! What a Stage merges with the table: so many of the newest runs, with their deletions or without them, and the run of
+//! them.
 ghost use Rattle.std.specs.Prelude.{◌≡◌, ◌≤◌, ◌∷◌, ◌++◌, [], IfOk, OnOk, drop, length, map, ◌+◌, ◌*◌, ◌^◌, ◌<◌, ◌&&◌, ◌||◌, if◌then◌else◌, nat_le, nat_lt, true};
 ghost use Rattle.std.specs.List.{AllByRecursion};
 ghost use Rattle.cs_extent.specs.State.{shape};
 ghost use Rattle.cs_frame.specs.Formats.{place_of};
-ghost use Rattle.cs_frame.specs.Roots.{greatest_runs};
 ghost use Rattle.cs_index.specs.Merges.{deletions_go, reached, stage_takes, IsRunOfPart};
 ghost use Rattle.cs_index.specs.Read.{IsReadable};
 ghost use Rattle.cs_index.specs.Sorted.{kept_entry, live_entry};
 ghost use Rattle.cs_index.specs.State.{IsId, IsShort, id_number, index_of, named_entry, newest_first, named_entries};
 ghost use Rattle.law_machine.specs.Device.{Shape};
-ghost use Rattle.law_machine.specs.Geometry.{by_size_in, weigh_in};
+ghost use Rattle.law_machine.specs.Geometry.{by_size_in, most_runs_in, weigh_in};
 ghost use Rattle.law_machine.specs.Index.{entries_of, named_weight};
 ghost use Rattle.law_machine.specs.Merges.{IsRunOf, reaching, sizes};
 ghost use Rattle.law_machine.specs.Tally.{dead_weight, living_weight};
@@ -79,8 +79,8 @@ fn add_kept(
     }
 }
 
-/// The entries of a table and of runs, which are listed oldest first, by rising identifiers, of each identifier the last:
-/// with deletions or without them. Takes memory for them, and time for all entries.
+/// The entries of a table and of runs, which are listed oldest first, by rising identifiers, of each identifier the
+/// last: with deletions or without them. Takes memory for them, and time for all entries.
 pub fn merged_part(
     alloc: Global,
     table: &[(ShardId, Places)],
@@ -100,8 +100,8 @@ pub fn merged_part(
     Ok(Run { entries })
 }
 
-/// Whether a run of so many entries is merged with so many, where so many runs are left with it and there may be so many: one
-/// that has at most twice as many entries, and one that would be one too many.
+/// Whether a run of so many entries is merged with so many, where so many runs are left with it and there may be so
+/// many: one that has at most twice as many entries, and one that would be one too many.
 fn goes_on(count: usize, size: usize, left: usize, most: usize) -> bool
     requires { size < 2 ^ 61 }
     ensures { result ≡ (nat_le count (2 * size) || nat_le most left) }
@@ -109,8 +109,8 @@ fn goes_on(count: usize, size: usize, left: usize, most: usize) -> bool
     count <= 2 * size || most <= left
 }
 
-/// How many of these runs, which are listed oldest first, are merged with so many entries, the newest first, where a root may
-/// have so many runs.
+/// How many of these runs, which are listed oldest first, are merged with so many entries, the newest first, where a
+/// root may have so many runs.
 pub fn newest_reached(runs: &[StoredRun], entries: usize, most: usize) -> usize
     requires short { AllByRecursion (λ run. length run.entries.items < 2 ^ 32) runs.now }
     requires few { length runs.now < 2 ^ 16 }
@@ -161,8 +161,8 @@ impl Index {
         dead * entry_weight(self.format, 0)
     }
 
-    /// What the newest entries weigh once a run took the place of others: where it is without deletions it is the only one, and they weigh
-    /// nothing more, and else as much as before.
+    /// What the newest entries weigh once a run took the place of others: where it is without deletions it is the only
+    /// one, and they weigh nothing more, and else as much as before.
     pub(crate) fn weight_after(&self, without_deletions: bool) -> usize
         ensures { result ≡ (if without_deletions then living_weight (weigh_in self.now.format) (index_of self.now) else named_weight (weigh_in self.now.format) (index_of self.now)) }
     {
@@ -173,8 +173,8 @@ impl Index {
         }
     }
 
-    /// How many of the newest runs a Stage merges by size, where a root may have so many runs: all of them where the deletions weigh at least
-    /// a quarter of what the newest entries may weigh.
+    /// How many of the newest runs a Stage merges by size, where a root may have so many runs: all of them where the
+    /// deletions weigh at least a quarter of what the newest entries may weigh.
     fn newest_by_size(&self, most: usize) -> usize
         requires { self.now.limit < 2 ^ 32 }
         ensures { (S : Shape) → S.weigh ≡ weigh_in self.now.format → S.most_weight ≡ self.now.limit → S.most_runs ≡ most → result ≡ reached S self.now }
@@ -189,7 +189,7 @@ impl Index {
     /// How many of the newest runs a Stage merges in a store of this format.
     fn newest_to_merge(&self, format: Format) -> usize
         requires { self.now.limit < 2 ^ 32 }
-        ensures { (S : Shape) → S.by_size ≡ by_size_in format → S.weigh ≡ weigh_in self.now.format → S.most_weight ≡ self.now.limit → S.most_runs ≡ (if nat_le format 2 then 4 else 24) → result ≡ stage_takes S self.now }
+        ensures { (S : Shape) → S.by_size ≡ by_size_in format → S.weigh ≡ weigh_in self.now.format → S.most_weight ≡ self.now.limit → S.most_runs ≡ most_runs_in format → result ≡ stage_takes S self.now }
     {
         if format.merges_by_size() {
             return self.newest_by_size(format.greatest_runs());
@@ -205,7 +205,7 @@ impl Index {
         ensures newest { result.newest ≡ stage_takes (shape extents.now) self.now }
         ensures deletions { result.without_deletions ≡ deletions_go (shape extents.now) self.now result.newest }
         ensures inside { result.newest ≤ length self.now.runs }
-        ensures left { length (drop result.newest self.now.runs) < greatest_runs extents.now.format }
+        ensures left { length (drop result.newest self.now.runs) < most_runs_in extents.now.format }
         ensures alone { result.without_deletions ≡ true → drop result.newest self.now.runs ≡ [] }
     {
         let format = extents.geometry().format();

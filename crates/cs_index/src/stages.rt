@@ -4,21 +4,19 @@ ghost use Rattle.std.specs.List.{AllByRecursion};
 ghost use Rattle.cs_extent.specs.Appended.{IsReady};
 ghost use Rattle.cs_extent.specs.Purposes.{reason_of};
 ghost use Rattle.cs_extent.specs.State.{shape, State as ExtentsState};
-ghost use Rattle.cs_frame.specs.Roots.{greatest_runs};
 ghost use Rattle.cs_index.specs.Apart.{IsFullApart, IsStageFullApart, IsStageWornApart, IsStagedApart, WritesNewest, takes_apart};
 ghost use Rattle.cs_index.specs.Merges.{deletions_go, IsRunOfPart};
 ghost use Rattle.cs_index.specs.Staged.{IsExact, IsPartStaged, IsRootWorn, IsRunWorn, WritesPart, run_frame, IsRootOver, IsRunStaged, Fits, FitsNowhere, HasPlace};
 ghost use Rattle.cs_index.specs.Stages.{DeletionsStay, IsStaged, IsTooFullToStage, IsTooWornToStage};
 ghost use Rattle.cs_index.specs.State.{IsShort, index_of, newest_first, named_entries};
 ghost use Rattle.law_machine.specs.Extents.{ForMerge, ForRun};
-ghost use Rattle.law_machine.specs.Geometry.{pages_first_in};
+ghost use Rattle.law_machine.specs.Geometry.{most_runs_in, pages_first_in};
 ghost use Rattle.law_machine.specs.Index.{live_at, lookup, run_weight};
 ghost use Rattle.cs_extent.specs.Frames.{root_family};
 ghost use Rattle.cs_extent.specs.Worn.{IsFrameWorn};
 ghost use Rattle.cs_frame.specs.FormatRuns.{run_size};
 ghost use Rattle.cs_frame.specs.Formats.{place_of};
 ghost use Rattle.cs_frame.specs.Frames.{page_count};
-ghost use Rattle.cs_frame.specs.Geometries.{IsKnown};
 ghost use Rattle.cs_frame.specs.Locators.{KeepFormat};
 ghost use Rattle.cs_frame.specs.Runs.{IsRun, entries_of};
 
@@ -36,13 +34,14 @@ use cs_refusal::Refusal;
 use std::alloc::{AllocError, Global};
 
 impl Index {
-    /// Stages the table and as many of the newest runs as a Stage merges as one run, with `Purpose::Run`, and the root over it and the
-    /// older runs, after which the table is empty. If chunks and runs lie apart, and no extent takes that run, the table and all runs
-    /// become one, with `Purpose::Merge`. `commands` is how many puts and deletes the root includes. Returns the version of the root,
-    /// or None if the table is empty: then nothing changes.
+    /// Stages the table and as many of the newest runs as a Stage merges as one run, with `Purpose::Run`, and the root
+    /// over it and the older runs, after which the table is empty. If chunks and runs lie apart, and no extent takes
+    /// that run, the table and all runs become one, with `Purpose::Merge`. `commands` is how many puts and deletes the
+    /// root includes. Returns the version of the root, or None if the table is empty: then nothing changes.
     ///
-    /// 30 `Full` if no extent takes such a run, then 35 `WornOut` if a number would pass 2^63 - 1; 9 `OutOfMemory` may come instead of
-    /// either. After a refusal nothing has changed but the graph's room. Takes memory for the run, and time for its entries.
+    /// 30 `Full` if no extent takes such a run, then 35 `WornOut` if a number would pass 2^63 - 1; 9 `OutOfMemory` may
+    /// come instead of either. After a refusal nothing has changed but the graph's room. Takes memory for the run, and
+    /// time for its entries.
     pub fn stage(
         &mut self,
         extents: &mut Extents,
@@ -83,13 +82,14 @@ impl Index {
         Ok(Some(version))
     }
 
-    /// Stages the table and as many of the newest runs as a Stage merges as one run, with `Purpose::Run`; if no extent takes that run,
-    /// the table and all runs as one, with `Purpose::Merge`. If the table is empty nothing is merged. Then stages the root over the
-    /// runs that stand, always, and the table is empty. `commands` is how many puts and deletes the root includes. Returns the version
-    /// of the root.
+    /// Stages the table and as many of the newest runs as a Stage merges as one run, with `Purpose::Run`; if no extent
+    /// takes that run, the table and all runs as one, with `Purpose::Merge`. If the table is empty nothing is merged.
+    /// Then stages the root over the runs that stand, always, and the table is empty. `commands` is how many puts and
+    /// deletes the root includes. Returns the version of the root.
     ///
-    /// 30 `Full` if no extent takes either run, then 35 `WornOut` if a number would pass 2^63 - 1; 9 `OutOfMemory` may come
-    /// instead of either. After a refusal nothing has changed but the graph's room. Takes memory for the run, and time for its entries.
+    /// 30 `Full` if no extent takes either run, then 35 `WornOut` if a number would pass 2^63 - 1; 9 `OutOfMemory` may
+    /// come instead of either. After a refusal nothing has changed but the graph's room. Takes memory for the run, and
+    /// time for its entries.
     pub fn stage_root(
         &mut self,
         extents: &mut Extents,
@@ -146,8 +146,8 @@ impl Index {
         Refusal::WornOut
     }
 
-    /// Chooses the run that a Stage writes, if the table isn't empty: that of as many of the newest runs as it takes, or if no
-    /// extent takes it that of all.
+    /// Chooses the run that a Stage writes, if the table isn't empty: that of as many of the newest runs as it takes,
+    /// or if no extent takes it that of all.
     ///
     /// 30 `Full` if no extent takes either; 9 `OutOfMemory` may come instead.
     fn choose(&self, extents: &Extents) -> Result<Chosen, Refusal>
@@ -186,8 +186,8 @@ impl Index {
         Err(Refusal::Full)
     }
 
-    /// Stages the run that was chosen, if it has an entry, in place of the table and of so many of the newest runs, and the root over it
-    /// and the older runs.
+    /// Stages the run that was chosen, if it has an entry, in place of the table and of so many of the newest runs, and
+    /// the root over it and the older runs.
     pub(crate) fn stage_chosen(
         &mut self,
         extents: &mut Extents,
@@ -199,7 +199,7 @@ impl Index {
         requires inside { chosen.portion.newest ≤ length self.old.runs }
         requires alone { chosen.portion.without_deletions ≡ true → drop chosen.portion.newest self.old.runs ≡ [] }
         requires run { IsRunOfPart self.old chosen.portion.without_deletions chosen.portion.newest chosen.run }
-        requires left { length (drop chosen.portion.newest self.old.runs) < greatest_runs extents.old.format }
+        requires left { length (drop chosen.portion.newest self.old.runs) < most_runs_in extents.old.format }
         requires placed { Fits extents.old (reason_of chosen.purpose) (named_entries chosen.run) }
         requires format { self.old.format ≡ (shape extents.old).format }
         requires limit { self.old.limit ≡ (shape extents.old).most_weight }
@@ -265,8 +265,8 @@ impl Index {
     }
 }
 
-/// How many identifiers are named once a run took the place of others: where it is without deletions it is the only one, and
-/// names them all, and else as many as before.
+/// How many identifiers are named once a run took the place of others: where it is without deletions it is the only
+/// one, and names them all, and else as many as before.
 fn named_after(named: usize, run: &Run, without_deletions: bool) -> usize
     ensures { result ≡ (if without_deletions then length run.now.entries.items else named) }
 {
@@ -285,16 +285,15 @@ fn is_last_root(graph: &Graph) -> bool
     LAST_NUMBER <= graph.last_version(ROOT)
 }
 
-/// Stages the next version of the root, in this format, over runs whose frames begin at these places, oldest first. It needs all plain
-/// writes that were staged where those don't come first.
+/// Stages the next version of the root, in this format, over runs whose frames begin at these places, oldest first. It
+/// needs all plain writes that were staged where those don't come first.
 fn push_root(graph: &mut Graph, format: Format, places: Vec<Locator>, commands: u64) -> u64
-    requires format { IsKnown format }
     requires families { root_family < length graph.old.staging.latest }
     requires few { length graph.old.staging.latest ≤ 16 }
     requires room { 0 < graph.old.room }
     requires number { ¬ IsRootWorn graph.old.staging }
     requires commands { commands < 2 ^ 63 }
-    requires places { length places.items ≤ greatest_runs format }
+    requires places { length places.items ≤ most_runs_in format }
     requires marks { KeepFormat format places.items }
     ensures staged { IsRootOver format (pages_first_in format) graph.old graph.new result commands places.items }
     ensures ready { (x : ExtentsState) → IsReady x graph.old.staging → IsReady x graph.new.staging }
@@ -303,7 +302,7 @@ fn push_root(graph: &mut Graph, format: Format, places: Vec<Locator>, commands: 
     let version = graph.last_version(ROOT) + 1;
     let needs = root_needs(alloc, graph, format.pages_first());
     let root = Root {
-        format,
+        store: format.store(),
         version,
         commands,
         runs: places,
@@ -323,7 +322,7 @@ fn frame_of(alloc: Global, format: Format, run: &Run) -> Result<Vec<[u8; 4096]>,
     ensures count { IfOk result (λ frame. length frame.items ≡ page_count (run_size format (entries_of run.now.entries.items))) }
 {
     let payload = encode_run(alloc, format, run)?;
-    encode_frame(alloc, FrameKind::Run, &payload)
+    encode_frame(alloc, format.number(), FrameKind::Run, &payload)
 }
 
 /// Where the frames of these runs begin, with room for one more.
@@ -393,8 +392,8 @@ fn prepare(
     Ok((frame, places))
 }
 
-/// Stages a run, for which there is a place, for this purpose, and the root over the older runs and this one. Returns where the run's
-/// frame begins, and the version of the root.
+/// Stages a run, for which there is a place, for this purpose, and the root over the older runs and this one. Returns
+/// where the run's frame begins, and the version of the root.
 ///
 /// 35 `WornOut` if a number would pass 2^63 - 1; 9 `OutOfMemory` may come instead.
 pub fn stage_run(
@@ -407,7 +406,7 @@ pub fn stage_run(
 ) -> Result<(Locator, u64), Refusal>
     requires run { IsRun extents.old.format run.now }
     requires weight { run_weight (shape extents.old).weigh (named_entries run.now) ≤ (shape extents.old).most_weight }
-    requires few { length older.now < greatest_runs extents.old.format }
+    requires few { length older.now < most_runs_in extents.old.format }
     requires marks { KeepFormat extents.old.format (map (λ run. run.place) older.now) }
     requires placed { HasPlace extents.old (reason_of purpose) (named_entries run.now) }
     requires ready { IsReady extents.old graph.old.staging }
@@ -439,11 +438,10 @@ fn stage_over(
     places: Vec<Locator>,
     commands: u64,
 ) -> Result<u64, Refusal>
-    requires format { IsKnown format }
     requires families { root_family < length graph.old.staging.latest }
     requires few { length graph.old.staging.latest ≤ 16 }
     requires commands { commands < 2 ^ 63 }
-    requires places { length places.items ≤ greatest_runs format }
+    requires places { length places.items ≤ most_runs_in format }
     requires marks { KeepFormat format places.items }
     ensures staged { IfOk result (λ v. IsRootOver format (pages_first_in format) graph.old graph.new v commands places.items) }
     ensures ready { (x : ExtentsState) → IsReady x graph.old.staging → IsReady x graph.new.staging }

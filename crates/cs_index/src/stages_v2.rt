@@ -1,13 +1,13 @@
-//! What staging the index does in the older formats, where chunks and runs may lie on one extent.
+//! What staging the index does in format 2, where chunks and runs may lie on one extent.
 ghost use Rattle.std.specs.Prelude.{◌≡◌, ◌≢◌, ℕ, ◌^◌, ◌⊎◌, ◌<◌, ◌≤◌, [], IfOk, MatchBool, OnErr, drop, false, length, true};
 ghost use Rattle.cs_extent.specs.Appended.{IsReady};
 ghost use Rattle.cs_extent.specs.Purposes.{reason_of};
 ghost use Rattle.cs_extent.specs.State.{shape};
-ghost use Rattle.cs_frame.specs.Roots.{greatest_runs};
 ghost use Rattle.cs_index.specs.Merges.{deletions_go, stage_takes};
 ghost use Rattle.cs_index.specs.Staged.{IsExact, IsFull, IsMergeStaged, IsNewestStaged, IsPartStagedBy, IsStageWorn, WritesMerged, WritesPart, WritesRun};
 ghost use Rattle.cs_index.specs.State.{index_of};
 ghost use Rattle.law_machine.specs.Extents.{ForRun};
+ghost use Rattle.law_machine.specs.Geometry.{most_runs_in};
 ghost use Rattle.law_machine.specs.Index.{live_at, lookup};
 
 use crate::indexes::Index;
@@ -21,12 +21,13 @@ use std::alloc::AllocError;
 use std::mem::replace;
 
 impl Index {
-    /// Stages the table, which isn't empty, and as many of the newest runs as a Stage merges as one run, with `Purpose::Run`, and the root
-    /// over it and the older runs, after which the table is empty. The table alone is moved and not copied. `commands` is how many puts
-    /// and deletes the root includes. Returns the version of the root.
+    /// Stages the table, which isn't empty, and as many of the newest runs as a Stage merges as one run, with
+    /// `Purpose::Run`, and the root over it and the older runs, after which the table is empty. The table alone is
+    /// moved and not copied. `commands` is how many puts and deletes the root includes. Returns the version of the
+    /// root.
     ///
-    /// 30 `Full` if no extent takes the run, then 35 `WornOut` if a number would pass 2^63 - 1; 9 `OutOfMemory` may come instead of
-    /// either. After a refusal nothing has changed but the graph's room.
+    /// 30 `Full` if no extent takes the run, then 35 `WornOut` if a number would pass 2^63 - 1; 9 `OutOfMemory` may
+    /// come instead of either. After a refusal nothing has changed but the graph's room.
     pub fn stage_v2(
         &mut self,
         extents: &mut Extents,
@@ -63,7 +64,7 @@ impl Index {
         commands: u64,
     ) -> Result<u64, Refusal>
         requires some { self.old.table ≢ [] }
-        requires few { length self.old.runs < greatest_runs extents.old.format }
+        requires few { length self.old.runs < most_runs_in extents.old.format }
         requires together { (shape extents.old).apart ≡ false }
         requires format { self.old.format ≡ (shape extents.old).format }
         requires limit { self.old.limit ≡ (shape extents.old).most_weight }
@@ -100,11 +101,12 @@ impl Index {
         }
     }
 
-    /// Stages all that is live as one run, for this purpose, and the root over it, after which there is no other entry. If nothing is
-    /// live no run is staged, and the root has none. Returns the version of the root.
+    /// Stages all that is live as one run, for this purpose, and the root over it, after which there is no other entry.
+    /// If nothing is live no run is staged, and the root has none. Returns the version of the root.
     ///
-    /// 30 `Full` if no extent takes the run, then 35 `WornOut` if a number would pass 2^63 - 1; 9 `OutOfMemory` may come instead of
-    /// either. After a refusal nothing has changed but the graph's room. Takes memory for all that is live, and time for all entries.
+    /// 30 `Full` if no extent takes the run, then 35 `WornOut` if a number would pass 2^63 - 1; 9 `OutOfMemory` may
+    /// come instead of either. After a refusal nothing has changed but the graph's room. Takes memory for all that is
+    /// live, and time for all entries.
     pub fn stage_merged(
         &mut self,
         extents: &mut Extents,
@@ -137,8 +139,8 @@ impl Index {
         self.stage_newest(extents, graph, commands, purpose, all)
     }
 
-    /// Stages the table and so much more as one run, for this purpose, and the root over it and the older runs. If it would have no
-    /// entry no run is staged.
+    /// Stages the table and so much more as one run, for this purpose, and the root over it and the older runs. If it
+    /// would have no entry no run is staged.
     fn stage_newest(
         &mut self,
         extents: &mut Extents,
@@ -149,7 +151,7 @@ impl Index {
     ) -> Result<u64, Refusal>
         requires some { (portion.without_deletions ≡ true) ⊎ (self.old.table ≢ []) }
         requires inside { portion.newest ≤ length self.old.runs }
-        requires left { length (drop portion.newest self.old.runs) < greatest_runs extents.old.format }
+        requires left { length (drop portion.newest self.old.runs) < most_runs_in extents.old.format }
         requires alone { portion.without_deletions ≡ true → drop portion.newest self.old.runs ≡ [] }
         requires together { (shape extents.old).apart ≡ false }
         requires format { self.old.format ≡ (shape extents.old).format }

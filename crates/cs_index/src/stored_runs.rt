@@ -1,4 +1,5 @@
-//! Runs of the index, and sorted entries as its table and each run have them: one is found or put, and all are read in order.
+//! Runs of the index, and sorted entries as its table and each run have them: one is found or put, and all are read in
+//! order.
 ghost use Rattle.std.specs.Prelude.{◌≡◌, ◌+◌, ◌<◌, ◌^◌, ◌||◌, false, if◌then◌else◌, map, option_copied, option_map, ◌≢◌, ◌≤◌, ◌==◌, ◌++◌, Some, IfOk, IfSome, length, IsOk, MatchBool, OnErr, OnOk, nat_lt, slice_get, vec_capacity, vec_len, ℕ, None, Option};
 ghost use Rattle.std.specs.List.{AllByRecursion, insert as inserted};
 ghost use Rattle.law_machine.specs.Apart.{any_run_on};
@@ -36,7 +37,8 @@ pub fn find_in_runs(runs: &[StoredRun], id: ShardId) -> Option<&[Locator]>
     None
 }
 
-/// The locators of an identifier by its last entry. Searches the table, and then one run after another, the newest first.
+/// The locators of an identifier by its last entry. Searches the table, and then one run after another, the newest
+/// first.
 pub fn last_of<'a>(
     table: &'a [(ShardId, Places)],
     runs: &'a [StoredRun],

@@ -1,11 +1,12 @@
 -- Which extent is chosen to be swept.
-use Rattle.std.proofs.Common.{◌≡◌, ◌+◌, ◌*◌, ◌-◌, ◌/◌, ◌<◌, ◌≤◌, ℕ, List, Option, Some, None, Bool, true, false, ⊎_elim, ◌∙◌, ap, arith, get_or, min, refl, inl, inr, sym, subst}
+use Rattle.std.proofs.Common.{◌≡◌, ◌+◌, ◌*◌, ◌-◌, ◌/◌, ◌<◌, ◌≤◌, ℕ, List, Option, Some, None, Bool, true, false, ⊎_elim, ◌∙◌, ap, arith, get_or, min, refl, inl, inr, sym, subst, true≢false}
 use Rattle.std.specs.Prelude.{if◌then◌else◌, slice_get}
 use Rattle.std.proofs.lemmas.Bool.{cases_lt}
 use Rattle.std.proofs.lemmas.Option.{get_or_from_slice_get}
 use Rattle.cs_extent.specs.State.{State as Extents, IsWhole, extents_of, shape}
 use Rattle.cs_frame.specs.Frames.{page_count}
 use Rattle.cs_frame.specs.Geometries.{run_bytes, weight_bytes}
+use Rattle.law_machine.specs.Format.{Format, Four, Two}
 use Rattle.law_machine.specs.Geometry.{marks_in, most_weight_in}
 use Rattle.cs_inspect.specs.Choices.{ChoosesApart, ChoosesBy, ChoosesTogether, run_pages}
 use Rattle.cs_inspect.specs.declared.surveys.ExtentUse.{ExtentUse}
@@ -19,12 +20,14 @@ pub pages_all : (named limit dead : ℕ) → dead ≤ page_count (run_bytes (min
 pages_all named limit dead le = omega (arith, le)
 
 -- where an entry takes as many bytes whatever it has, this is how many may be named
-plain_limit : (format pages limit : ℕ) → marks_in format ≡ false → limit ≡ most_weight_in format pages → limit ≡ (4096 * pages - 45) / 81
-plain_limit format pages limit plain is = is ∙ ap (λ (marked : Bool). if marked then 4096 * pages - 45 else (4096 * pages - 45) / 81) plain
+plain_limit : (format : Format) (pages limit : ℕ) → marks_in format ≡ false → limit ≡ most_weight_in format pages → limit ≡ (4096 * pages - 45) / 81
+plain_limit Two pages limit plain is = is
+plain_limit (Four store device) pages limit plain is = absurd (true≢false plain)
 
 -- and a run has so many bytes for each
-plain_pages : (format named index_pages : ℕ) → marks_in format ≡ false → index_pages ≡ page_count (weight_bytes format named) → index_pages ≡ page_count (run_bytes named)
-plain_pages format named index_pages plain is = is ∙ ap (λ (marked : Bool). page_count (if marked then 4 + named else run_bytes named)) plain
+plain_pages : (format : Format) (named index_pages : ℕ) → marks_in format ≡ false → index_pages ≡ page_count (weight_bytes format named) → index_pages ≡ page_count (run_bytes named)
+plain_pages Two named index_pages plain is = is
+plain_pages (Four store device) named index_pages plain is = absurd (true≢false plain)
 
 -- one that has as many entries as it may takes all pages of an extent
 full_run : (pages limit : ℕ) → limit ≡ (4096 * pages - 45) / 81 → pages ≤ page_count (run_bytes limit)

@@ -31,13 +31,14 @@ abbrev pub chosen_extent : Option Choice → Option (ℕ × ℕ)
 chosen_extent None = None
 chosen_extent (Some choice) = Some (choice.extent, choice.dead)
 
--- what is chosen by most garbage, in stores of formats 1 and 2: the first extent with most, if that is more than so many pages; None where none has more
+-- what is chosen by most garbage, in format 2: the first extent with most, if that is more than so many pages. None if
+-- none has more
 abbrev pub ChoosesTogether : List ExtentUse → (pages : ℕ) → Option (ℕ × ℕ) → Type 0
 ChoosesTogether uses pages None = (e : ℕ) (used : ExtentUse) → slice_get uses e ≡ Some used → garbage used ≤ pages
 ChoosesTogether uses pages (Some (extent, dead)) = (best : IsMostGarbage uses extent) × (garbage best.its ≡ dead) × (pages < dead)
 
--- what is chosen by fewest live pages: the first extent with fewest, but not the last one, where these and those of another one have room on one extent;
--- None where of no two extents they have
+-- what is chosen by fewest live pages: the first extent with fewest, but not the last one, where these and those of
+-- another one have room on one extent; None where of no two extents they have
 abbrev pub ChoosesApart : List ExtentUse → (last : Option ℕ) → (pages : ℕ) → Option (ℕ × ℕ) → Type 0
 ChoosesApart uses last pages None = NoTwoFit uses pages
 ChoosesApart uses last pages (Some (extent, dead)) = (chosen : IsFewestLive uses last pages extent) × (chosen.best.its.pointer - chosen.best.its.live ≡ dead)
@@ -52,8 +53,8 @@ module _ {D : Type 0} (disks : PageDisk D) where
   abbrev pub ReadsOn : (old new : View D) → Type 0
   ReadsOn old new = (new ≡ record old { disk = new.disk }) × OnlyReads disks old.disk new.disk
 
-  -- An extent is chosen, or none, by how the extents are used as these headers say, where one whose read failed says nothing, and by the rule of the
-  -- format; in formats 1 and 2 it has more garbage than a run takes that has so many entries.
+  -- An extent is chosen, or none, by how the extents are used as these headers say, where one whose read failed says
+  -- nothing, and by the rule of the format. In format 2 it has more garbage than a run takes that has so many entries.
   pub record GoesBy (heads : List Head) (entries : ℕ) (old new : View D) (chosen : Option (ℕ × ℕ)) : Type 0 where
     pub uses : List ExtentUse
     pub extents : AreExtents (shape old.store.extents).extents (extents_of old.store.extents) uses

@@ -2,7 +2,8 @@
 use Rattle.std.specs.Prelude.{◌≡◌, ◌≢◌, ◌⊎◌, ◌+◌, ◌<◌, ◌≤◌, ℕ, false, List, Option, Some, slice_get}
 use Rattle.cs_inspect.specs.declared.surveys.ExtentUse.{ExtentUse}
 
--- All that lives there may be moved: chunks lie there, none of them has an unreadable header, and no sweep goes on there.
+-- All that lives there may be moved: chunks lie there, none of them has an unreadable header, and no sweep goes on
+-- there.
 pub record IsMovable (used : ExtentUse) : Type 0 where
   pub given : 0 < used.pointer
   pub of_chunks : used.holds_runs ≡ false
@@ -17,7 +18,8 @@ IsOther uses but e used = (slice_get uses e ≡ Some used) × (but ≢ Some e) �
 abbrev pub FitOnOne : (pages : ℕ) → (one other : ExtentUse) → Type 0
 FitOnOne pages one other = one.live + other.live ≤ pages
 
--- Of the extents but this one from which all may be moved, e is one with fewest live pages, and the first of those with as few.
+-- Of the extents but this one from which all may be moved, e is one with fewest live pages, and the first of those with
+-- as few.
 pub record IsFewest (uses : List ExtentUse) (but : Option ℕ) (e : ℕ) : Type 0 where
   pub its : ExtentUse
   pub there : IsOther uses but e its
@@ -39,7 +41,8 @@ NoTwoFit uses pages = (e : ℕ) (one : ExtentUse) (k : ℕ) (other : ExtentUse) 
 
 -- ---- seeking it
 
--- all may be moved from extent e, another one than this, and it has fewer live pages than the one that was found, where one was
+-- all may be moved from extent e, another one than this, and it has fewer live pages than the one that was found, where
+-- one was
 abbrev pub HasFewer : List ExtentUse → (but found : Option ℕ) → ℕ → Type 0
 HasFewer uses but found e = (used : ExtentUse) × IsOther uses but e used
     × ((k : ℕ) (best : ExtentUse) → found ≡ Some k → slice_get uses k ≡ Some best → used.live < best.live)

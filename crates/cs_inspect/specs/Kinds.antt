@@ -6,6 +6,6 @@ use Rattle.law_machine.specs.Device.{Shape}
 abbrev pub LieApart : Shape → Type 0
 LieApart S = S.apart ≡ true
 
--- it may hold both, as in stores of formats 1 and 2
+-- it may hold both, as in format 2
 abbrev pub LieTogether : Shape → Type 0
 LieTogether S = S.apart ≡ false

@@ -8,7 +8,8 @@ Rising [] = Unit {0}
 Rising (x ∷ []) = Unit {0}
 Rising (x ∷ y ∷ xs) = (x < y) × Rising (y ∷ xs)
 
--- The first so many of the identifiers that are there, from one on, by rising numbers; all of them where there are no more.
+-- The first so many of the identifiers that are there, from one on, by rising numbers; all of them where there are no
+-- more.
 pub record AreFirst (is_there : ℕ → Type 0) (from most : ℕ) (ids : List ℕ) : Type 0 where
   pub rising : Rising ids
   pub each : (id : ℕ) → id ∈ ids → (from ≤ id) × is_there id

@@ -80,7 +80,8 @@ AreNamed x view [] damages = damages ≡ []
 AreNamed x view (f ∷ fs) damages = (IsPassed x view f × AreNamed x view fs damages)
     ⊎ ((d : Damage) × (ds : List Damage) × (damages ≡ d ∷ ds) × IsNamed x view f d × AreNamed x view fs ds)
 
--- What a scrub of this index found: of the frames of all live chunks and of all runs those are named that can't be read.
+-- What a scrub of this index found: of the frames of all live chunks and of all runs those are named that can't be
+-- read.
 pub record IsScrubbed (x : ExtentsState) (view : ℕ → List ℕ) (index : Index) (found : Scrubbed) : Type 0 where
   pub chunks : List Chunk
   pub live : AreLiveChunks (index_of index) chunks

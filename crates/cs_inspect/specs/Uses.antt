@@ -10,9 +10,11 @@ use Rattle.cs_frame.specs.declared.faults.FormatFault.{FormatFault}
 use Rattle.cs_frame.specs.declared.frames.FrameKind.TheVariants.{Chunk as ChunkKind}
 use Rattle.cs_frame.specs.declared.locators.Locator.{Locator}
 use Rattle.cs_frame.specs.Formats.{as_locator}
-use Rattle.cs_frame.specs.Frames.{kind_byte, meant_header_fault, page_count, payload_length}
+use Rattle.cs_frame.specs.Frames.{kind_byte, page_count, payload_length}
+use Rattle.cs_frame.specs.MeantFrames.{meant_header_fault}
 use Rattle.cs_index.specs.State.{index_of}
 use Rattle.law_machine.specs.Extents.{Extents}
+use Rattle.law_machine.specs.Format.{Format}
 use Rattle.cs_inspect.specs.Chunks.{AreLiveChunks, Chunk}
 use Rattle.cs_inspect.specs.declared.surveys.ExtentUse.{ExtentUse}
 use Rattle.cs_inspect.specs.Failures.{RisesBy}
@@ -28,10 +30,11 @@ abbrev pub unless_fault : Option FormatFault → ℕ → Option ℕ
 unless_fault None pages = Some pages
 unless_fault (Some f) pages = None
 
--- how many pages the header in this first page counts of the frame of a chunk that a place of this mark means, which may have no more than so many; None where
--- it fails a test, or is another frame's
-abbrev pub pages_counted : (format mark : ℕ) → (first : List ℕ) → (at_most : ℕ) → Option ℕ
-pages_counted format mark first at_most = unless_fault (meant_header_fault format (kind_byte ChunkKind) mark first at_most) (page_count (payload_length first))
+-- how many pages the header in this first page counts of the frame of a chunk that a place of this mark means, which
+-- may have no more than so many. It is None if it fails a test, or is another frame's
+abbrev pub pages_counted : Format → (mark : ℕ) → (first : List ℕ) → (at_most : ℕ) → Option ℕ
+pages_counted format mark first at_most =
+    unless_fault (meant_header_fault format (kind_byte ChunkKind) mark first at_most) (page_count (payload_length first))
 
 -- how many pages the header at a place counts of a chunk's frame, which reaches no further than it may in these extents
 abbrev pub pages_said : ExtentsState → (view : ℕ → List ℕ) → Locator → Option ℕ
@@ -132,7 +135,8 @@ abbrev pub lost_in : (heads read : List Head) → ℕ
 lost_in (h ∷ hs) (r ∷ rs) = lost_one h.1 r.1 + lost_in hs rs
 lost_in heads read = 0
 
--- Each header was read as it says, or, where a read failed, as saying nothing; and the count of failures rose by as many as were lost so.
+-- Each header was read as it says, or, where a read failed, as saying nothing; and the count of failures rose by as
+-- many as were lost so.
 pub record AreRead (before after : ℕ) (heads read : List Head) : Type 0 where
   pub each : AreReadAs (Rises before after) heads read
   pub lost : RisesBy (lost_in heads read) before after
@@ -143,7 +147,8 @@ AreCountedAsRead before after heads uses = (read : List Head) × AreRead before 
 
 -- ---- what to sweep
 
--- the pages that a sweep could free: those that are given and not live; none where frames are appended, where a sweep goes on, or on an extent of runs
+-- the pages that a sweep could free: those that are given and not live; none where frames are appended, where a sweep
+-- goes on, or on an extent of runs
 abbrev pub garbage : ExtentUse → ℕ
 garbage used = if used.is_open then 0 else if used.is_swept then 0 else if used.holds_runs then 0 else used.pointer - used.live
 

@@ -25,7 +25,7 @@ pub struct Choice {
 pub enum SweepRule {
     /// The extent with fewest live pages.
     FewestLive,
-    /// The extent with most garbage: the rule of formats 1 and 2.
+    /// The extent with most garbage: the rule of format 2.
     MostGarbage,
 }
 
@@ -47,8 +47,8 @@ impl SweepRule {
 /// That is the extent of chunks with fewest live pages, if these and the live pages of another one fit on one extent
 /// (`fewest_live`). Two such sweeps free an extent: the first one or the second.
 ///
-/// In stores of formats 1 and 2 it is the extent with most garbage (`most_garbage`), if that is more than the index
-/// takes, which a sweep writes anew. So each sweep frees pages.
+/// In format 2 it is the extent with most garbage (`most_garbage`), if that is more than the index takes, which a
+/// sweep writes anew. So each sweep frees pages.
 ///
 /// It costs what `uses` costs: a read for each live chunk, and memory for all of them and for the extents.
 pub fn choose_sweep<D: PageDisk>(

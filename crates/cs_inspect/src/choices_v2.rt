@@ -1,5 +1,4 @@
-//! Which extent to sweep in stores of formats 1 and 2, where chunks and runs may lie on one extent: the one with most
-//! garbage.
+//! Which extent to sweep in format 2, where chunks and runs may lie on one extent: the one with most garbage.
 ghost use Rattle.std.specs.Prelude.{◌≡◌, MatchOption, min};
 ghost use Rattle.cs_extent.specs.State.{IsWhole};
 ghost use Rattle.cs_frame.specs.Frames.{page_count};

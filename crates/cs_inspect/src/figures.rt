@@ -42,7 +42,7 @@ pub struct Stats {
     pub runs: Vec<RunUse>,
     /// How many identifiers have an entry, deletions included.
     pub named: usize,
-    /// What the newest entry of each weighs, all together. In formats 1 and 2 each weighs one.
+    /// What the newest entry of each weighs, all together. In format 2 each weighs one.
     pub weight: usize,
     /// What they may weigh.
     pub weight_limit: usize,
@@ -156,8 +156,7 @@ pub struct Quota {
 }
 
 impl Quota {
-    /// The quota of a store, None in formats 1 and 2, where an extent may hold both. It costs two passes over the
-    /// extents.
+    /// The quota of a store, None in format 2, where an extent may hold both. It costs two passes over the extents.
     pub fn of(extents: &Extents) -> Option<Self>
         ensures { MatchOption result (LieTogether (shape extents.now)) (λ quota. LieApart (shape extents.now) × IsQuota (shape extents.now) (extents_of extents.now) quota) }
     {

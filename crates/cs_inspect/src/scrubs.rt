@@ -146,9 +146,11 @@ fn damaged_runs<D: PageDisk>(
 /// for the damages, and for one frame at a time. It reports its progress before each chunk.
 ///
 /// A damage has the refusal of the first test of the frame that fails: 20 BadMagic, 21 BadDigest, 22 BadLength, 23
-/// BadPadding, 24 BadVersion, or 26 Misplaced if another frame lies there (never in formats 1 and 2). A run whose place
-/// is on no extent has 43 NotAStore. 1 DeviceFault: the device refused a read, and the frame may be whole. `AllocError`
-/// ends the scrub if memory was refused.
+/// BadPadding, 24 BadVersion, or 26 Misplaced if another frame lies there. Then 22 if the payload of a chunk is shorter
+/// than a head. In format 2 there are neither 26 nor heads. A run whose place is on no extent has 43 NotAStore.
+///
+/// 1 DeviceFault: the device refused a read, and the frame may be whole. `AllocError` ends the scrub if memory was
+/// refused.
 pub fn scrub<D: PageDisk, P: Progress>(
     alloc: Global,
     core: &mut Core<D>,
@@ -212,9 +214,11 @@ fn read_place<D: PageDisk>(
 /// No event is kept of it, and a halted core answers it too.
 ///
 /// It is refused 20 BadMagic, 21 BadDigest, 22 BadLength, 23 BadPadding or 24 BadVersion if the frame is damaged, by
-/// the first test that fails. 26 Misplaced: another frame lies there, and is whole. 1 DeviceFault: a read failed. 9
-/// OutOfMemory. 43 NotAStore: the place is on no extent, which no chunk of the core's index is. Formats 1 and 2 don't
-/// report 26.
+/// the first test that fails. 26 Misplaced: another frame lies there, and is whole. Then 22 if the payload is shorter
+/// than a head. In format 2 there are neither 26 nor heads.
+///
+/// 1 DeviceFault: a read failed. 9 OutOfMemory. 43 NotAStore: the place is on no extent, which no chunk of the core's
+/// index is.
 pub fn read_chunk<D: PageDisk>(core: &mut Core<D>, chunk: &LiveChunk) -> Result<(), Refusal>
     ensures told { D.honest core.old.disk → (view : ℕ → List ℕ) → AreNewest core.old.store.graph (seen (D.state core.old.disk)) view
         → TellsFrame core.old.store.extents view FrameKind.Chunk chunk.now.place result }

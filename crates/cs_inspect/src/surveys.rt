@@ -29,8 +29,7 @@ pub struct ExtentUse {
     pub is_open: bool,
     /// Whether it is being swept.
     pub is_swept: bool,
-    /// Whether it holds runs of the index, and so no chunks. False in stores of formats 1 and 2, where an extent may
-    /// hold both.
+    /// Whether it holds runs of the index, and so no chunks. False in format 2, where an extent may hold both.
     pub holds_runs: bool,
     /// How many pages the frames of the live chunks that begin there have together, by their headers. `usize::MAX`
     /// stands for more.
@@ -44,8 +43,8 @@ impl ExtentUse {
     /// more pages than are given.
     ///
     /// The pages above the pointer aren't given, so they don't count here: a frame that fits there may still be
-    /// appended. In stores of formats 1 and 2 some of them are given up, as the store is opened or as a frame doesn't
-    /// fit there: nothing is written to them until the extent is emptied.
+    /// appended. In format 2 some of them are given up, as the store is opened or as a frame doesn't fit there: nothing
+    /// is written to them until the extent is emptied.
     pub fn dead(&self) -> usize
         ensures { result ≡ self.now.pointer - self.now.live }
     {

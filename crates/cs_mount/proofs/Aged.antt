@@ -1,52 +1,26 @@
 -- The newest root that is whole, and what a disk shows as of it.
-use Rattle.std.proofs.Common.{◌≡◌, ◌≢◌, if◌then◌else◌, ◌==◌, ◌&&◌, ◌+◌, ◌-◌, ℕ, zero, suc, ◌<◌, ◌≤◌, Bool, true, false, List, [], ◌∷◌, Option, Some, None, slice_get, slice_index, length, map, refl, sym, ◌∙◌, ap, arith, eq-eqb}
+use Rattle.std.proofs.Common.{◌≡◌, ◌≢◌, if◌then◌else◌, ◌+◌, ℕ, zero, suc, ◌<◌, ◌≤◌, Bool, true, List, [], ◌∷◌, Option, Some, None, slice_get, length, map, sym, ◌∙◌, ap, arith}
 use Rattle.std.proofs.lemmas.Option.{same_Some}
 use Rattle.std.specs.List.{range_with_len}
-use Rattle.cs_disk.specs.Disk.{Image, State, page, seen}
+use Rattle.cs_disk.specs.Disk.{Image, State, seen}
 use Rattle.cs_disk.proofs.Images.{length-applied}
-use Rattle.cs_frame.specs.Bytes.{number}
-use Rattle.cs_frame.specs.declared.faults.FormatFault.{FormatFault}
-use Rattle.cs_frame.specs.FirstFormat.{page_zero_fault}
-use Rattle.cs_frame.specs.Geometries.{Dimensions, IsGeometry, device_pages}
-use Rattle.cs_frame.specs.Superblocks.{superblock_fault}
+use Rattle.cs_frame.specs.Geometries.{Dimensions, IsGeometry}
+use Rattle.law_machine.specs.Geometry.{twins_in}
 use Rattle.cs_twin.specs.declared.findings.Finding.{Finding}
 use Rattle.cs_twin.specs.declared.pairs.Held.{Held}
 use Rattle.cs_twin.specs.declared.pairs.Pair.{Pair}
 use Rattle.cs_twin.specs.Findings.{finding_in, held_of}
+use Rattle.cs_mount.specs.Identities.{AreOfTwo, stores_on}
 use Rattle.cs_mount.specs.Lowered.{lowered_state}
 use Rattle.cs_twin.specs.Pairs.{shown}
 use Rattle.cs_mount.specs.Showing.{findings_on, shown_on}
-use Rattle.cs_mount.specs.StorePairs.{dimensions_on, geometry_of_first, last_says, named_by, pages_of, pairs_where, root_version, store_pair, store_pairs, store_version, zero_or_last}
+use Rattle.cs_mount.specs.StorePairs.{dimensions_on, pages_of, pairs_where, root_version, store_pair, store_pairs, store_version}
 use Rattle.cs_mount.proofs.Blank.{apart_of}
+use Rattle.cs_mount.proofs.Telling.{found_third}
 use Rattle.cs_twin.proofs.Holding.{held_found}
 use Rattle.cs_twin.proofs.Roles.{shown_page-own}
 use Rattle.cs_twin.proofs.Shown.{page-shown}
-use Rattle.cs_mount.specs.Older.{as_of, newest_root, older_on, root_found, version_found}
-
--- ---- dimensions that are found are of format 3
-
-if_named : (b : Bool) (found d : Dimensions) → found.format ≡ 3 → (if b then Some found else None) ≡ Some d → d.format ≡ 3
-if_named true found d three is = sym (ap (λ (z : Dimensions). z.format) (same_Some found d is)) ∙ three
-if_named false found d three is = cc
-
-named_three : (pages format extents extent_pages sections section : ℕ) (d : Dimensions) → geometry_of_first pages format extents extent_pages sections section ≡ Some d → d.format ≡ 3
-named_three pages format extents extent_pages sections section d is =
-    if_named (format == 3 && section == 0 && device_pages 3 extents extent_pages sections == pages) (record { format = 3; extents = extents; pages = extent_pages; sections = sections }) d refl is
-
-last_three : (pages : ℕ) (o : Option FormatFault) (bytes : List ℕ) (d : Dimensions) → last_says pages o bytes ≡ Some d → d.format ≡ 3
-last_three pages None bytes d is = named_three pages 3 (number 12 14 bytes) (number 14 16 bytes) (slice_index bytes 16) (slice_index bytes 17) d is
-last_three pages (Some fault) bytes d is = cc
-
-said_three : (b : Bool) (pages : ℕ) (bytes : List ℕ) (d : Dimensions) → (if b then named_by pages 3 bytes else None) ≡ Some d → d.format ≡ 3
-said_three true pages bytes d is = named_three pages 3 (number 12 14 bytes) (number 14 16 bytes) (slice_index bytes 16) (slice_index bytes 17) d is
-said_three false pages bytes d is = cc
-
-either_three : (pages : ℕ) (o last : Option FormatFault) (bytes others : List ℕ) (d : Dimensions) → zero_or_last pages o bytes (last_says pages last others) ≡ Some d → d.format ≡ 3
-either_three pages None last bytes others d is = said_three (slice_index bytes 3 == 51) pages bytes d is
-either_three pages (Some fault) last bytes others d is = last_three pages last others d is
-
-three_of : (pages : ℕ) (image : Image) (d : Dimensions) → dimensions_on pages image ≡ Some d → d.format ≡ 3
-three_of pages image d is = either_three pages (page_zero_fault (page image 0)) (superblock_fault 3 (page image (pages - 1))) (page image 0) (page image (pages - 1)) d is
+use Rattle.cs_mount.specs.Older.{as_of, newest_root, older_on, root_found, root_shown, version_found}
 
 -- ---- the pair of the root
 
@@ -60,34 +34,33 @@ get_map f [] k x at = cc
 get_map f (y ∷ xs) zero x at = ap (λ z. Some (f z)) (same_Some y x at)
 get_map f (y ∷ xs) (suc k) x at = get_map f xs k x at
 
-module _ (d : Dimensions) (geometry : IsGeometry d.format d.extents d.pages d.sections) (three : d.format ≡ 3) (image : Image) (sized : length image ≡ pages_of d) (inside : 1 < length image) where
+module _ (d : Dimensions) (geometry : IsGeometry d.format d.extents d.pages d.sections) (twins : twins_in d.format ≡ true) (image : Image) (sized : length image ≡ pages_of d) (inside : 1 < length image) where
   abbrev x : Pair
   x = store_pair d 1
 
   root_there : slice_get (store_pairs d) 1 ≡ Some x
   root_there =
-      ap (λ (b : Bool). slice_get (if b then map (store_pair d) (range_with_len 0 (1 + d.sections)) else []) 1) (eq-eqb d.format 3 three)
+      ap (λ (b : Bool). slice_get (if b then map (store_pair d) (range_with_len 0 (1 + d.sections)) else []) 1) (twins)
       ∙ made_there (store_pair d) 0 (1 + d.sections) 1 (let some = geometry.fewest_sections in omega (arith, some))
 
   -- what is held there is the root that shows
-  root_held : (held_of (finding_in (store_version (Some d)) image x)).version ≡ root_version 3 (page (shown (store_version (Some d)) (store_pairs d) image) 1)
+  root_held : (held_of (finding_in (store_version (Some d)) image x)).version ≡ root_shown (Some d) (shown (store_version (Some d)) (store_pairs d) image)
   root_held =
       ap (λ (h : Held). h.version) (held_found (store_version (Some d)) image x)
       ∙ ap (root_version d.format) (sym (shown_page-own (store_version (Some d)) image (store_pairs d) (pages_of d) (apart_of d geometry) 1 x root_there) ∙ sym (page-shown (store_version (Some d)) (store_pairs d) image 1 inside))
-      ∙ ap (λ f. root_version f (page (shown (store_version (Some d)) (store_pairs d) image) 1)) three
 
   root_by : (o : Option Dimensions) (found : List Finding) (version : ℕ) → o ≡ Some d → found ≡ map (finding_in (store_version o) image) (pairs_where o)
-      → version ≡ root_found found → version ≡ root_version 3 (page (shown (store_version o) (pairs_where o) image) 1)
+      → version ≡ root_found found → version ≡ root_shown o (shown (store_version o) (pairs_where o) image)
   root_by o found version some is says =
       let found_is = is ∙ ap (λ (z : Option Dimensions). map (finding_in (store_version z) image) (pairs_where z)) some in
       says ∙ ap version_found (ap (λ (l : List Finding). slice_get l 1) found_is ∙ get_map (finding_in (store_version (Some d)) image) (store_pairs d) 1 x root_there)
-      ∙ root_held ∙ sym (ap (λ (z : Option Dimensions). root_version 3 (page (shown (store_version z) (pairs_where z) image) 1)) some)
+      ∙ root_held ∙ sym (ap (λ (z : Option Dimensions). root_shown z (shown (store_version z) (pairs_where z) image)) some)
 
 -- By the findings of a store the newest root is that which shows.
 pub root_is : (pages : ℕ) (image : Image) (d : Dimensions) (found : List Finding) (version : ℕ) → IsGeometry d.format d.extents d.pages d.sections → dimensions_on pages image ≡ Some d → pages_of d ≡ pages → length image ≡ pages → 10 ≤ pages
     → found ≡ findings_on pages image → version ≡ root_found found → version ≡ newest_root pages image
 root_is pages image d found version geometry some sized long enough is says =
-    root_by d geometry (three_of pages image d some) image (long ∙ sym sized) (omega (arith, long, enough)) (dimensions_on pages image) found version some is says
+    root_by d geometry (found_third pages image d some).0 image (long ∙ sym sized) (omega (arith, long, enough)) (dimensions_on pages image) found version some is says
 
 -- the disk as of that root
 pub aged : (pages : ℕ) (image : Image) (d : Dimensions) (root : ℕ) (s : State) → dimensions_on pages image ≡ Some d → root ≡ newest_root pages image → s ≡ record { durable = shown_on pages image; volatile = [] }
@@ -118,6 +91,9 @@ dimensions_by n pages was s d same still some = some ∙ sym (ap (λ z. dimensio
 
 pub findings_by : (n pages : ℕ) (was s : State) → n ≡ pages → was ≡ s → findings_on n (seen was) ≡ findings_on pages (seen s)
 findings_by n pages was s same still = ap (λ z. findings_on z (seen was)) same ∙ ap (λ (z : State). findings_on pages (seen z)) still
+
+pub two_by : (n pages : ℕ) (was s : State) → n ≡ pages → was ≡ s → AreOfTwo n (seen was) → AreOfTwo pages (seen s)
+two_by n pages was s same still two one = two (ap (λ z. stores_on z (seen was)) same ∙ ap (λ (z : State). stores_on pages (seen z)) still ∙ one)
 
 pub some_there : (o : Option Dimensions) (d : Dimensions) → Some d ≡ o → o ≢ None
 some_there (Some found) d is none = cc

@@ -5,9 +5,15 @@ use Rattle.std.proofs.lemmas.Option.{slice_get-get_or}
 use Rattle.std.specs.List.{range_with_len}
 use Rattle.cs_disk.specs.Disk.{Image, Rises, State, Write, applied, flushed, page, seen}
 use Rattle.cs_frame.proofs.FirstFormatLaws as frames
+use Rattle.cs_frame.proofs.GeometryLaws.{pages_on_device}
 use Rattle.cs_frame.proofs.SuperblockLaws as superblocks
 use Rattle.cs_frame.specs.Bytes.{number}
+use Rattle.cs_frame.specs.declared.formats.FormatNumber.{FormatNumber}
+use Rattle.cs_frame.specs.declared.formats.FormatNumber.TheVariants as of_number
+use Rattle.cs_frame.specs.FormatNumbers.{number_in, section_digit}
+use Rattle.law_machine.specs.Geometry.{twins_in}
 use Rattle.cs_frame.specs.declared.faults.FormatFault.{FormatFault}
+use Rattle.cs_frame.specs.declared.faults.FormatFault.TheVariants.{BadMagic}
 use Rattle.cs_frame.specs.FirstFormat.{first_format_fault, page_zero_fault, zero_format}
 use Rattle.cs_frame.specs.Geometries.{Dimensions, IsGeometry}
 use Rattle.cs_frame.specs.Roots.{root_fault}
@@ -17,7 +23,7 @@ use Rattle.cs_refusal.specs.declared.refusals.Refusal.TheVariants.{DeviceFault, 
 use Rattle.cs_twin.specs.declared.pairs.Pair.{Pair}
 use Rattle.cs_twin.specs.Pairs.{ArePairs, Versions, blank, half, held_in, is_turned, shown, shown_state}
 use Rattle.cs_mount.specs.Looks.{IsTaken}
-use Rattle.cs_mount.specs.StorePairs.{blank_disk, first_says, is_section, last_says, pages_of, root_version, section_at, section_version, store_pair, store_pairs, store_version, without_fault}
+use Rattle.cs_mount.specs.StorePairs.{blank_disk, first_says, is_root, is_section, last_says, pages_of, root_version, section_at, section_version, store_pair, store_pairs, store_version, without_fault}
 use Rattle.cs_twin.proofs.Leaving.{are_on, shown_All}
 use Rattle.cs_twin.proofs.Shown.{length-shown}
 use Rattle.cs_mount.proofs.Twins.{are_store_pairs, listed, unlisted, unlisted_apart}
@@ -40,11 +46,11 @@ zeros_show V pairs n are =
 
 -- the pairs of a store, of whichever format
 pub apart_of : (d : Dimensions) → IsGeometry d.format d.extents d.pages d.sections → ArePairs (store_pairs d) (pages_of d)
-apart_of d g = by_format g.known
+apart_of d g = by_format (twins_in d.format) refl
   where
-    by_format : (d.format ≡ 2) ⊎ (d.format ≡ 3) → ArePairs (store_pairs d) (pages_of d)
-    by_format (inl two) = unlisted_apart (store_pairs d) (pages_of d) (sym (unlisted d [] (λ three. omega (arith, two, three)) refl))
-    by_format (inr three) = subst (λ (l : List Pair). ArePairs l (pages_of d)) (listed d (map (store_pair d) (range_with_len 0 (1 + d.sections))) (1 + d.sections) three refl refl) (are_store_pairs d g three)
+    by_format : (b : Bool) → twins_in d.format ≡ b → ArePairs (store_pairs d) (pages_of d)
+    by_format false none = unlisted_apart (store_pairs d) (pages_of d) (sym (unlisted d [] none refl))
+    by_format true twins = subst (λ (l : List Pair). ArePairs l (pages_of d)) (listed d (map (store_pair d) (range_with_len 0 (1 + d.sections))) (1 + d.sections) twins refl refl) (are_store_pairs d g twins)
 
 -- a disk of zeros, all of them durable
 pub blank_from : (d : Dimensions) (s : State) → s.durable ≡ replicate (pages_of d) zeros → s.volatile ≡ [] → s ≡ blank_disk d
@@ -64,24 +70,28 @@ new_shows V d s g durable none =
 no_digit : slice_index zeros 3 ≡ 0
 no_digit = get_or-replicate 4096 3 0 0 (omega arith)
 
-pub no_section : (format : ℕ) → superblock_fault format zeros ≡ None → ⊥
-no_section format none = let fourth = superblocks.fourth_is format zeros none in omega (arith, fourth, no_digit)
+digit_some : (n : FormatNumber) → 0 ≡ section_digit n → ⊥
+digit_some of_number.Two is = omega (arith, is)
+digit_some of_number.Four is = omega (arith, is)
+
+pub no_section : (n : FormatNumber) → superblock_fault n zeros ≡ None → ⊥
+no_section n none = digit_some n (sym no_digit ∙ superblocks.fourth_is n zeros none)
 
 pub no_first : page_zero_fault zeros ≡ None → ⊥
 no_first none = ⊎_elim (λ (first : first_format_fault zeros ≡ None). let fourth = frames.fourth_is zeros first in omega (arith, fourth, no_digit)) (no_section (zero_format zeros)) (frames.zero_is_one zeros none)
 
 pub says_none : (n : ℕ) → first_says n zeros ≡ None
-says_none n = by_fault (superblock_fault 3 zeros) refl
+says_none n = by_fault (superblock_fault of_number.Four zeros) refl
   where
-    by_fault : (o : Option FormatFault) → superblock_fault 3 zeros ≡ o → last_says n o zeros ≡ None
-    by_fault None whole = absurd (no_section 3 whole)
+    by_fault : (o : Option FormatFault) → superblock_fault of_number.Four zeros ≡ o → last_says n o zeros ≡ None
+    by_fault None whole = absurd (no_section of_number.Four whole)
     by_fault (Some fault) is = refl
 
 no_number : number 4 12 zeros ≡ 0
 no_number = refl
 
 no_version : (d : Dimensions) (p : ℕ) → store_version (Some d) p zeros ≡ 0
-no_version d p = either (p == 1) (root_version d.format zeros) (section_version d (section_at d p) zeros) (without (root_fault d.format zeros)) (either (is_section d (section_at d p) zeros) _ 0 (without (superblock_fault d.format zeros)) refl)
+no_version d p = either (p == 1) (root_version d.format zeros) (section_version d (section_at d p) zeros) (either (is_root d.format zeros) _ 0 (without (root_fault (number_in d.format) zeros)) refl) (either (is_section d (section_at d p) zeros) _ 0 (without (superblock_fault (number_in d.format) zeros)) refl)
   where
     either : (t : Bool) (a b : ℕ) → a ≡ 0 → b ≡ 0 → (if t then a else b) ≡ 0
     either true a b is other = is
@@ -100,7 +110,7 @@ module _ (d : Dimensions) (g : IsGeometry d.format d.extents d.pages d.sections)
   blank_page p lt = ap (λ (i : Image). page i p) is ∙ get_or-replicate (pages_of d) p zeros [] (subst (λ (k : ℕ). p < k) size lt)
 
   some : 0 < n
-  some = let sections = g.fewest_sections in omega (arith, size, sections)
+  some = let on = pages_on_device d.format d.extents d.pages d.sections g in omega (arith, size, on)
 
   no_half : (x : Pair) → Contains (store_pairs d) x → 0 < (held_in (store_version (Some d)) image x).version → ⊥
   no_half x has held =
@@ -128,3 +138,14 @@ memory_alone d g s n r is long why other taken failed = by why
     by (inr (inl occupied)) = absurd (blank_free d g n (seen s) size (ap seen is) (taken occupied))
     by (inr (inr (inl fault))) = absurd (let rises = failed fault in omega (arith, rises))
     by (inr (inr (inr memory))) = memory
+
+-- zeros are no first section, by their first three bytes
+zero_magic : superblock_fault of_number.Two zeros ≡ Some BadMagic
+zero_magic = refl
+
+pub zero_fault : page_zero_fault zeros ≡ Some BadMagic
+zero_fault =
+    sym (frames.zero_second zeros (λ is. let none : slice_index zeros 3 ≡ 0 = refl in omega (arith, is, none))) ∙ ap (λ (n : FormatNumber). superblock_fault n zeros) zero_two ∙ zero_magic
+  where
+    zero_two : zero_format zeros ≡ of_number.Two
+    zero_two = refl

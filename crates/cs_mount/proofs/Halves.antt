@@ -4,6 +4,7 @@ use Rattle.std.proofs.lemmas.Bool.{cases_eq}
 use Rattle.std.proofs.lemmas.Option.{same_Some}
 use Rattle.cs_disk.specs.Disk.{Write, latest}
 use Rattle.cs_frame.specs.Geometries.{Dimensions, IsGeometry}
+use Rattle.law_machine.specs.Geometry.{twins_in}
 use Rattle.cs_twin.specs.Pairs.{half}
 use Rattle.cs_twin.proofs.Roles.{if_other, if_same}
 use Rattle.cs_twin.proofs.Shown.{Each}
@@ -27,10 +28,10 @@ each_append P [] more front back i w at = back i w at
 each_append P (x ∷ first) more front back zero w at = front 0 w at
 each_append P (x ∷ first) more front back (suc i) w at = each_append P first more (λ j v there. front (suc j) v there) back i w at
 
-module _ (d : Dimensions) (g : IsGeometry d.format d.extents d.pages d.sections) (three : d.format ≡ 3) where
+module _ (d : Dimensions) (g : IsGeometry d.format d.extents d.pages d.sections) (twins : twins_in d.format ≡ true) where
   -- pairs of a store lie apart, by their places
   pub one_place : (i j : ℕ) (b c : Bool) → i ≤ d.sections → j ≤ d.sections → half (store_pair d i) b ≡ half (store_pair d j) c → (i ≡ j) × (b ≡ c)
-  one_place i j b c le_i le_j same = (are_pairs d g three).apart i j (store_pair d i) (store_pair d j) b c (pair_there d g three i le_i) (pair_there d g three j le_j) same
+  one_place i j b c le_i le_j same = (are_pairs d g twins).apart i j (store_pair d i) (store_pair d j) b c (pair_there d g twins i le_i) (pair_there d g twins j le_j) same
 
   other_place : (i j : ℕ) (b c : Bool) → i ≤ d.sections → j ≤ d.sections → (i ≡ j → ⊥) → half (store_pair d i) b ≡ half (store_pair d j) c → ⊥
   other_place i j b c le_i le_j other same = other (one_place i j b c le_i le_j same).0

@@ -6,6 +6,8 @@ use Rattle.std.proofs.lemmas.List.{get_or_past, length-set}
 use Rattle.cs_disk.specs.Disk.{Image, MayLeave, State, Write, kept, latest, page, seen}
 use Rattle.cs_disk.proofs.Crashes.{MayLeave-settled, MayLeave-written}
 use Rattle.cs_disk.proofs.Images.{length-applied, page-applied, page_other, page_same}
+use Rattle.cs_frame.specs.declared.formats.FormatNumber.TheVariants as of_number
+use Rattle.law_machine.specs.Geometry.{twins_in}
 use Rattle.cs_frame.specs.FirstFormat.{page_zero_fault}
 use Rattle.cs_frame.specs.Geometries.{Dimensions, IsGeometry}
 use Rattle.cs_frame.specs.Superblocks.{superblock_fault}
@@ -77,13 +79,13 @@ blanked pages s c left =
       },
     )
 
-module _ (d : Dimensions) (g : IsGeometry d.format d.extents d.pages d.sections) (three : d.format ≡ 3) (s : State) (sized : length s.durable ≡ pages_of d) where
+module _ (d : Dimensions) (g : IsGeometry d.format d.extents d.pages d.sections) (twins : twins_in d.format ≡ true) (s : State) (sized : length s.durable ≡ pages_of d) where
   -- the halves of the first pair
   some_pages : 2 ≤ pages_of d
-  some_pages = let total = total_pages d three in omega (arith, total)
+  some_pages = let total = total_pages d g twins in omega (arith, total)
 
   inside : (k : ℕ) (twin : Bool) → k ≤ d.sections → half (store_pair d k) twin < pages_of d
-  inside k twin le = (are_pairs d g three).inside k (store_pair d k) twin (pair_there d g three k le)
+  inside k twin le = (are_pairs d g twins).inside k (store_pair d k) twin (pair_there d g twins k le)
 
   pub size_cleared : length (cleared d s).durable ≡ pages_of d
   size_cleared = length-after s (clearing d) ∙ sized
@@ -118,7 +120,7 @@ module _ (d : Dimensions) (g : IsGeometry d.format d.extents d.pages d.sections)
 
   none_kept : (b : Bool) (mask : List Bool) (bytes : List ℕ) → latest (kept mask (halves_up_to d d.sections)) (half (store_pair d 0) b) bytes ≡ bytes
   none_kept b mask bytes = latest_none (kept mask (halves_up_to d d.sections)) (half (store_pair d 0) b) bytes
-      (λ i w at goes. let among = kept_among mask (halves_up_to d d.sections) i w at in none_first d g three d.sections b (omega arith) among.0 w among.1 goes)
+      (λ i w at goes. let among = kept_among mask (halves_up_to d d.sections) i w at in none_first d g twins d.sections b (omega arith) among.0 w among.1 goes)
 
   pub still_cleared : (c : Image) → MayLeave (after_writes (cleared d s) (halves_up_to d d.sections)) c → IsCleared (pages_of d) c
   still_cleared c left = (
@@ -131,13 +133,13 @@ module _ (d : Dimensions) (g : IsGeometry d.format d.extents d.pages d.sections)
   half_clear b =
       let lt = inside 0 b (omega arith) in
       seen_after (cleared d s) (halves_up_to d d.sections) (half (store_pair d 0) b) (omega (arith, lt, size_cleared))
-      ∙ latest_none (halves_up_to d d.sections) (half (store_pair d 0) b) (page (cleared d s).durable (half (store_pair d 0) b)) (none_first d g three d.sections b (omega arith))
+      ∙ latest_none (halves_up_to d d.sections) (half (store_pair d 0) b) (page (cleared d s).durable (half (store_pair d 0) b)) (none_first d g twins d.sections b (omega arith))
 
   pub there_half : (k : ℕ) (twin : Bool) → 0 < k → k ≤ d.sections → page (half_laid d s).durable (half (store_pair d k) twin) ≡ new_page d k
   there_half k twin some le =
       let lt = inside k twin le in
       seen_after (cleared d s) (halves_up_to d d.sections) (half (store_pair d k) twin) (omega (arith, lt, size_cleared))
-      ∙ halves_there d g three d.sections k twin (page (cleared d s).durable (half (store_pair d k) twin)) (omega arith) some le
+      ∙ halves_there d g twins d.sections k twin (page (cleared d s).durable (half (store_pair d k) twin)) (omega arith) some le
 
   -- ---- within the third, and after it
 
@@ -151,7 +153,7 @@ module _ (d : Dimensions) (g : IsGeometry d.format d.extents d.pages d.sections)
         (cases_lt p (length two.base));
     first = ⊎_elim (λ same. inr (λ whole. no_first (subst (λ (bytes : List ℕ). page_zero_fault bytes ≡ None) (same ∙ ap (λ (i : Image). page i 0) base ∙ half_clear false ∙ first_cleared) whole)))
         (λ others. ⊎_elim (λ (here : ◌≡◌ {A = ℕ} 0 0 × (page c 0 ≡ new_section d 0)). inl here.1) (λ (here : (0 ≡ pages_of d - 1) × (page c 0 ≡ new_section d 0)). inl here.1) others) (two.each 0 (omega (arith, same_size, size_half, some_pages)));
-    last = ⊎_elim (λ same. inr (λ whole. no_section 3 (subst (λ (bytes : List ℕ). superblock_fault 3 bytes ≡ None) (same ∙ ap (λ (i : Image). page i (pages_of d - 1)) base ∙ half_clear true ∙ last_cleared) whole)))
+    last = ⊎_elim (λ same. inr (λ whole. no_section of_number.Four (subst (λ (bytes : List ℕ). superblock_fault of_number.Four bytes ≡ None) (same ∙ ap (λ (i : Image). page i (pages_of d - 1)) base ∙ half_clear true ∙ last_cleared) whole)))
         (λ others. ⊎_elim (λ (here : (pages_of d - 1 ≡ 0) × (page c (pages_of d - 1) ≡ new_section d 0)). inl here.1) (λ (here : (pages_of d - 1 ≡ pages_of d - 1) × (page c (pages_of d - 1) ≡ new_section d 0)). inl here.1) others) (two.each (pages_of d - 1) (omega (arith, same_size, size_half, some_pages)));
   }
     where
@@ -192,14 +194,14 @@ module _ (d : Dimensions) (g : IsGeometry d.format d.extents d.pages d.sections)
   first_laid : (twin : Bool) → page (laid d s).durable (half (store_pair d 0) twin) ≡ new_page d 0
   first_laid twin =
       let lt = inside 0 twin (omega arith) in
-      seen_after (half_laid d s) (both_halves d 0) (half (store_pair d 0) twin) (omega (arith, lt, size_half)) ∙ both_there d g three 0 twin (page (half_laid d s).durable (half (store_pair d 0) twin)) (omega arith)
+      seen_after (half_laid d s) (both_halves d 0) (half (store_pair d 0) twin) (omega (arith, lt, size_half)) ∙ both_there d g twins 0 twin (page (half_laid d s).durable (half (store_pair d 0) twin)) (omega arith)
 
   later_laid : (k : ℕ) (twin : Bool) → 0 < k → k ≤ d.sections → page (laid d s).durable (half (store_pair d k) twin) ≡ new_page d k
   later_laid k twin some le =
       let lt = inside k twin le in
       let p = half (store_pair d k) twin in
       seen_after (half_laid d s) (both_halves d 0) p (omega (arith, lt, size_half))
-      ∙ both_other d g three 0 p (page (half_laid d s).durable p) (λ b same. let one = (one_place d g three 0 k b twin (omega arith) le same).0 in omega (arith, one, some))
+      ∙ both_other d g twins 0 p (page (half_laid d s).durable p) (λ b same. let one = (one_place d g twins 0 k b twin (omega arith) le same).0 in omega (arith, one, some))
       ∙ there_half k twin some le
 
   -- Each half of each pair holds what a new store has there.
@@ -212,6 +214,6 @@ module _ (d : Dimensions) (g : IsGeometry d.format d.extents d.pages d.sections)
   -- and every other page what it held
   pub other_laid : (p : ℕ) → p < pages_of d → ((k : ℕ) (twin : Bool) → k ≤ d.sections → half (store_pair d k) twin ≡ p → ⊥) → page (laid d s).durable p ≡ page (seen s) p
   other_laid p lt none =
-      seen_after (half_laid d s) (both_halves d 0) p (omega (arith, lt, size_half)) ∙ both_other d g three 0 p (page (half_laid d s).durable p) (λ b same. none 0 b (omega arith) same)
-      ∙ seen_after (cleared d s) (halves_up_to d d.sections) p (omega (arith, lt, size_cleared)) ∙ halves_other d g three d.sections p (page (cleared d s).durable p) (λ k b some le same. none k b le same)
+      seen_after (half_laid d s) (both_halves d 0) p (omega (arith, lt, size_half)) ∙ both_other d g twins 0 p (page (half_laid d s).durable p) (λ b same. none 0 b (omega arith) same)
+      ∙ seen_after (cleared d s) (halves_up_to d d.sections) p (omega (arith, lt, size_cleared)) ∙ halves_other d g twins d.sections p (page (cleared d s).durable p) (λ k b some le same. none k b le same)
       ∙ other_cleared p lt (λ same. none 0 false (omega arith) (sym same)) (λ same. none 0 true (omega arith) (sym same))

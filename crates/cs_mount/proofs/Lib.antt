@@ -1,4 +1,6 @@
+pub mod Ones
 pub mod Spelling
+pub mod Saying
 pub mod Twins
 pub mod Unpaired
 pub mod Telling
@@ -6,6 +8,7 @@ pub mod Making
 pub mod Mounting
 pub mod Lowering
 pub mod Sealing
+pub mod Repaging
 pub mod Aging
 pub mod Blank
 pub mod Refinding
@@ -28,3 +31,5 @@ pub mod Steps
 pub mod Cleared
 pub mod NewMade
 pub mod Sectored
+pub mod Hiding
+pub mod Ending

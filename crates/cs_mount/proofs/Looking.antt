@@ -1,5 +1,5 @@
 -- What stands against making a store, as it is found.
-use Rattle.std.proofs.Common.{◌≡◌, ◌⊎◌, ◌∙◌, ◌↔◌, ◌-◌, ◌<◌, inl, inr, Some, Result, Ok, Err, IfOk, refl, ⊎_elim, ℕ, Bool, true, false, Option, None, List, Contains, IsTrue, ap, subst, sym, map, length, nat_lt, get_or, arith}
+use Rattle.std.proofs.Common.{◌≡◌, ◌⊎◌, ◌∙◌, ◌↔◌, ◌-◌, ◌<◌, inl, inr, Some, Result, Ok, Err, IfOk, ⊎_elim, ℕ, Bool, true, false, Option, None, List, Contains, IsTrue, ap, subst, sym, map, length, nat_lt, get_or, arith}
 use Rattle.std.specs.List.{list_any}
 use Rattle.std.proofs.lemmas.Bool.{lt-ltb, ltb-true}
 use Rattle.std.proofs.lemmas.List.{get_or-map, length-map}
@@ -12,17 +12,17 @@ use Rattle.cs_disk.specs.declared.fault.DiskFault.{DiskFault}
 use Rattle.cs_disk.specs.declared.fault.DiskFault.TheVariants as disk
 use Rattle.cs_disk.specs.Disk.{Image, State, page, seen}
 use Rattle.cs_disk.specs.Faults.{disk_fault_number}
-use Rattle.cs_frame.specs.declared.faults.FormatFault.{FormatFault}
 use Rattle.cs_frame.specs.FirstFormat.{page_zero_fault}
 use Rattle.cs_frame.specs.Geometries.{Dimensions}
+use Rattle.law_machine.specs.Geometry.{twins_in}
 use Rattle.cs_twin.specs.declared.findings.Finding.{Finding}
 use Rattle.cs_twin.specs.declared.pairs.Held.{Held}
 use Rattle.cs_twin.specs.declared.pairs.Pair.{Pair}
 use Rattle.cs_twin.specs.Findings.{finding_in}
 use Rattle.cs_mount.specs.OfStores.{IsOfStore}
-use Rattle.cs_twin.specs.Pairs.{ArePairs, Versions, held_in}
+use Rattle.cs_twin.specs.Pairs.{Versions, held_in}
 use Rattle.cs_mount.specs.Showing.{findings_on}
-use Rattle.cs_mount.specs.StorePairs.{dimensions_on, first_says, pages_of, store_pairs, store_version, zero_or_last}
+use Rattle.cs_mount.specs.StorePairs.{first_says, pages_of, store_pairs, store_version}
 use Rattle.cs_twin.proofs.Holding.{held_found}
 use Rattle.cs_mount.proofs.Keeping.{made_of_store, not_both}
 use Rattle.cs_mount.specs.Looks.{IsLeftOver, IsTaken, is_whole}
@@ -84,22 +84,6 @@ module _ (pages : ℕ) (image : Image) (V : Versions) (pairs : List Pair) where
       both : b ≡ true → ⊥
       both true_is = cc
 
-  -- so the last page holds no first section, and there is no store
-  pub none_last : (IsTaken pages image V pairs → ⊥) → first_says pages (page image (pages - 1)) ≡ None
-  none_last free = by_last (first_says pages (page image (pages - 1))) refl
-    where
-      by_last : (o : Option Dimensions) → first_says pages (page image (pages - 1)) ≡ o → first_says pages (page image (pages - 1)) ≡ None
-      by_last None is = is
-      by_last (Some d) is = absurd (free (inr (last_left (Some d) d (sym is) refl)))
-
-  pub none_found : (IsTaken pages image V pairs → ⊥) → dimensions_on pages image ≡ None
-  none_found free = by_first (page_zero_fault (page image 0)) refl
-    where
-      by_first : (o : Option FormatFault) → page_zero_fault (page image 0) ≡ o → dimensions_on pages image ≡ None
-      by_first None is = absurd (free (inl is))
-      by_first (Some fault) is =
-          ap (λ (o : Option FormatFault). zero_or_last pages o (page image 0) (first_says pages (page image (pages - 1)))) is ∙ none_last free
-
 -- what is left over, by reads that found no first section on page 0 before
 pub left_behind : {E : Type 0} (r : Result Bool E) (n m : ℕ) (s after : State) (V : Versions) (pairs : List Pair) (holds : Bool) → m ≡ n → after ≡ s
     → IsTrue holds ↔ (page_zero_fault (page (seen s) 0) ≡ None) → holds ≡ false
@@ -110,11 +94,11 @@ left_behind (Ok b) n m s after V pairs holds count same is nothing left =
     (subst (λ k. IsTrue b ↔ IsLeftOver k (seen s) V pairs) count (subst (λ (z : State). IsTrue b ↔ IsLeftOver m (seen z) V pairs) same left))
 
 -- a disk that was found free fits the store that is made on it
-pub free_fits : (d : Dimensions) (pairs : List Pair) (n : ℕ) (image : Image) (b : Bool) → 0 < n → length image ≡ n → ArePairs pairs n → pairs ≡ store_pairs d → pages_of d ≡ n → b ≡ false
+pub free_fits : (d : Dimensions) (pairs : List Pair) (n : ℕ) (image : Image) (b : Bool) → 0 < n → length image ≡ n → pairs ≡ store_pairs d → pages_of d ≡ n → twins_in d.format ≡ false → b ≡ false
     → IsTrue b ↔ IsTaken n image (store_version (Some d)) pairs → IsOfStore (Some d) pairs n image
-free_fits d pairs n image b some size are its sized test taken =
+free_fits d pairs n image b some size its sized single test taken =
     let none : IsTaken n image (store_version (Some d)) pairs → ⊥ = free n image (store_version (Some d)) pairs b test taken in
-    made_of_store d pairs n image some size are its sized (none_found n image (store_version (Some d)) pairs none) (none_last n image (store_version (Some d)) pairs none) (λ x has whole. none (inr (inr (x, has, whole))))
+    made_of_store d pairs n image some size single its sized (λ whole. none (inl whole))
 
 -- no fault of a device is told as 45, and neither is what else a making is refused for
 pub no_fault_is_occupied : (fault : DiskFault) (r : Refusal) → number_of r ≡ disk_fault_number fault → r ≡ Occupied → ⊥

@@ -1,11 +1,11 @@
 -- What a making that was done opens.
-use Rattle.std.proofs.Common.{◌≡◌, ℕ, Bool, true, false, [], Option, None, Some, length, map, slice_get, refl, sym, ◌∙◌, ap, subst, arith}
+use Rattle.std.proofs.Common.{◌≡◌, ◌-◌, inr, ℕ, Bool, true, false, [], Option, None, Some, length, map, slice_get, refl, sym, ◌∙◌, ap, subst, arith}
 use Rattle.std.proofs.lemmas.List.{length-replicate}
 use Rattle.cs_disk.specs.Disk.{Image, State, flushed, page, seen}
 use Rattle.cs_frame.specs.Formats.{formats_of}
 use Rattle.cs_frame.specs.Geometries.{Dimensions, IsGeometry, section_size}
 use Rattle.law_machine.specs.Device.{Shape}
-use Rattle.law_machine.specs.Geometry.{shape_of}
+use Rattle.law_machine.specs.Geometry.{shape_of, twins_in}
 use Rattle.law_machine.specs.Recovery.{Recovers}
 use Rattle.cs_core.specs.Openings.{IsOpened, IsOpenedAs}
 use Rattle.cs_core.specs.Started.{IsNewOn, new_stored}
@@ -17,6 +17,7 @@ use Rattle.cs_twin.specs.declared.pairs.Pair.{Pair}
 use Rattle.cs_twin.specs.Findings.{finding_in, half_in, half_with}
 use Rattle.cs_twin.specs.Pairs.{Shows, Versions, half, shown, shown_state}
 use Rattle.cs_twin.proofs.Right.{same_map}
+use Rattle.cs_mount.specs.Identities.{IsOfOne}
 use Rattle.cs_mount.specs.Makings.{HoldsBoth, laid}
 use Rattle.cs_mount.specs.Showing.{ShowsOn, shown_on}
 use Rattle.cs_mount.specs.StorePairs.{dimensions_on, pages_of, pairs_where, section_version, store_pairs, store_shape, store_version}
@@ -25,17 +26,21 @@ use Rattle.cs_mount.proofs.NewOn.{holds_first, shows_first}
 use Rattle.cs_mount.proofs.NewPages.{first_section}
 use Rattle.cs_mount.proofs.NewShown.{ShowsFirst}
 use Rattle.cs_mount.proofs.NewStore.{new_is_opened, new_on, none_counted, recovers_first}
-use Rattle.cs_mount.proofs.Telling.{found_by_zero}
+use Rattle.cs_mount.proofs.Ones.{found_one}
+use Rattle.cs_mount.proofs.Telling.{found_by_zero, its_one, version_its}
 
-module _ (d : Dimensions) (g : IsGeometry d.format d.extents d.pages d.sections) (three : d.format ≡ 3) (s : State) (sized : length s.durable ≡ pages_of d) where
+module _ (d : Dimensions) (g : IsGeometry d.format d.extents d.pages d.sections) (twins : twins_in d.format ≡ true) (s : State) (sized : length s.durable ≡ pages_of d) where
   abbrev V : Versions
   V = store_version (Some d)
 
   -- its dimensions are found
   pub dims_laid : dimensions_on (pages_of d) (laid d s).durable ≡ Some d
   dims_laid =
-      let first = ap (section_version d 0) (there_laid d g three s sized 0 false (omega arith)) ∙ first_section d g in
-      found_by_zero d (laid d s).durable three (omega (arith, first))
+      let first = ap (section_version d 0) (there_laid d g twins s sized 0 false (omega arith)) ∙ first_section d g in
+      let last = ap (section_version d 0) (there_laid d g twins s sized 0 true (omega arith)) ∙ first_section d g in
+      let one = its_one (pages_of d) (laid d s).durable d (inr (version_its d (page (laid d s).durable 0) twins (omega (arith, first))))
+      (inr (version_its d (page (laid d s).durable (pages_of d - 1)) twins (omega (arith, last)))) in
+      found_by_zero d (laid d s).durable twins (omega (arith, first)) one
 
   module _ (n : ℕ) (m : State) (count : n ≡ pages_of d) (done : m ≡ laid d s) where
     -- what an opening shows
@@ -45,18 +50,18 @@ module _ (d : Dimensions) (g : IsGeometry d.format d.extents d.pages d.sections)
         ∙ ap (λ (o : Option Dimensions). shown (store_version o) (pairs_where o) (laid d s).durable) dims_laid
 
     shows : ShowsFirst d (shown_on n (seen m))
-    shows = subst (ShowsFirst d) (sym shown_laid) (shows_first d g three s sized)
+    shows = subst (ShowsFirst d) (sym shown_laid) (shows_first d g twins s sized)
 
     pub made_recovers : Recovers (store_shape d) (formats_of (store_shape d)) (page (shown_on n (seen m))) 0 (λ id. None)
-    made_recovers = recovers_first d g three (shown_on n (seen m)) shows
+    made_recovers = recovers_first d g twins (shown_on n (seen m)) shows
 
     pub made_store : (honest : Type 0) (opened : Image) (found : ℕ × ℕ) (store : Stored) → honest → opened ≡ shown_on n (seen m) → IsWhole store.extents → IsOpened honest opened found store
         → store ≡ new_stored d.format d.extents d.pages d.sections
-    made_store honest opened found store h is whole it = new_is_opened d honest opened found store g three h (subst (ShowsFirst d) (sym is) shows) whole it
+    made_store honest opened found store h is whole it = new_is_opened d honest opened found store g twins h (subst (ShowsFirst d) (sym is) shows) whole it
 
     pub made_written : (now : State) → now ≡ record { durable = shown_on n (seen m); volatile = [] } → IsNewOn d.format d.extents d.pages d.sections (shown_state V (store_pairs d) (flushed s)) now
     made_written now is =
-        subst (IsNewOn d.format d.extents d.pages d.sections (shown_state V (store_pairs d) (flushed s))) (sym (is ∙ ap (λ (i : Image). record { durable = i; volatile = [] }) shown_laid)) (new_on d g three s sized)
+        subst (IsNewOn d.format d.extents d.pages d.sections (shown_state V (store_pairs d) (flushed s))) (sym (is ∙ ap (λ (i : Image). record { durable = i; volatile = [] }) shown_laid)) (new_on d g twins s sized)
 
     pub made_start : (opened : Image) (store : Stored) → store ≡ new_stored d.format d.extents d.pages d.sections → opened ≡ shown_on n (seen m) → Recovers (shape store.extents) (formats_of (shape store.extents)) (page opened) 0 (λ id. None)
     made_start opened store made is =
@@ -64,15 +69,21 @@ module _ (d : Dimensions) (g : IsGeometry d.format d.extents d.pages d.sections)
         (subst (λ (k : ℕ). let S = shape_of k d.pages d.sections (section_size k d.sections) d.format in Recovers S (formats_of S) (page opened) 0 (λ id. None)) (sym (length-replicate {A = ℕ × ℕ} d.extents (0, 0)))
         (subst (λ (i : Image). Recovers (store_shape d) (formats_of (store_shape d)) (page i) 0 (λ id. None)) (sym is) made_recovers))
 
+    found_laid : dimensions_on n (seen m) ≡ Some d
+    found_laid = ap (λ k. dimensions_on k (seen m)) count ∙ ap (λ (z : State). dimensions_on (pages_of d) (seen z)) done ∙ dims_laid
+
+    -- both ends are of the new store
+    pub made_one : IsOfOne n (seen m)
+    made_one = (found_one n (seen m) d found_laid).0
+
     -- what shows of what a crash left, by the pairs of the new store
     pub made_shows : (P Q : Image → Type 0) (left : Image) → ((image : Image) → P image → Q image) → ShowsOn n (seen m) P left → Shows V (store_pairs d) Q left
     made_shows P Q left more is =
-        let found : dimensions_on n (seen m) ≡ Some d = ap (λ k. dimensions_on k (seen m)) count ∙ ap (λ (z : State). dimensions_on (pages_of d) (seen z)) done ∙ dims_laid in
-        (is.0, more is.0 is.1, is.2 ∙ ap (λ (o : Option Dimensions). shown (store_version o) (pairs_where o) is.0) found)
+        (is.0, more is.0 is.1, is.2 ∙ ap (λ (o : Option Dimensions). shown (store_version o) (pairs_where o) is.0) found_laid)
 
   -- both halves of each pair were written
   whole_half : (k : ℕ) (x : Pair) (twin : Bool) → slice_get (store_pairs d) k ≡ Some x → half_in V (laid d s).durable x twin ≡ Whole 1
-  whole_half k x twin at = ap (λ v. half_with v (page (laid d s).durable (half x twin))) (holds_first d g three s sized k x twin at)
+  whole_half k x twin at = ap (λ v. half_with v (page (laid d s).durable (half x twin))) (holds_first d g twins s sized k x twin at)
 
   both_whole : (k : ℕ) (x : Pair) → slice_get (store_pairs d) k ≡ Some x → finding_in V (laid d s).durable x ≡ record { pair = x; own = Whole 1; twin = Whole 1 }
   both_whole k x at =
@@ -82,10 +93,10 @@ module _ (d : Dimensions) (g : IsGeometry d.format d.extents d.pages d.sections)
   holds_both : HoldsBoth d (laid d s)
   holds_both = record {
     durable = refl;
-    halves = holds_first d g three s sized;
+    halves = holds_first d g twins s sized;
     findings = ap (λ (o : Option Dimensions). map (finding_in (store_version o) (laid d s).durable) (pairs_where o)) dims_laid
         ∙ same_map (finding_in V (laid d s).durable) (λ (x : Pair). record { pair = x; own = Whole 1; twin = Whole 1 }) (store_pairs d) both_whole;
-    fenced = λ k x twin at none. absurd (let one = holds_first d g three s sized k x twin at in omega (arith, one, none));
+    fenced = λ k x twin at none. absurd (let one = holds_first d g twins s sized k x twin at in omega (arith, one, none));
   }
 
   pub made_both : (m now : State) → m ≡ laid d s → now ≡ flushed m → HoldsBoth d now

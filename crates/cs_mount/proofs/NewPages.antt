@@ -1,14 +1,16 @@
 -- The pages of a new store spell what they should.
-use Rattle.std.proofs.Common.{◌≡◌, ◌≢◌, ◌⊎◌, Some, inl, inr, if◌then◌else◌, ◌==◌, ◌&&◌, ℕ, zero, suc, ◌+◌, ◌-◌, ◌*◌, ◌^◌, ◌<◌, ◌≤◌, Bool, true, List, [], ◌∷◌, replicate, nat_lt, refl, sym, ◌∙◌, ap, subst, arith, eq-eqb}
+use Rattle.std.proofs.Common.{◌≡◌, ◌≢◌, ◌⊎◌, Option, Some, inl, inr, if◌then◌else◌, ◌==◌, ℕ, zero, suc, ◌+◌, ◌-◌, ◌*◌, ◌^◌, ◌<◌, ◌≤◌, Bool, List, [], ◌∷◌, replicate, nat_lt, refl, sym, ◌∙◌, ap, subst, arith}
 use Rattle.std.proofs.lemmas.Bool.{cases_eq, ne_eqb}
 use Rattle.std.proofs.lemmas.Bool.Decides.{nat_tests}
 use Rattle.std.proofs.lemmas.List.{length-replicate}
 use Rattle.std.specs.List.{AllByRecursion}
 use Rattle.cs_disk.specs.Disk.{Write}
 use Rattle.cs_frame.specs.declared.locators.Locator.{Locator}
-use Rattle.cs_frame.specs.Geometries.{Dimensions, IsGeometry, section_length}
+use Rattle.cs_frame.specs.FormatNumbers.{number_in}
+use Rattle.cs_frame.specs.Geometries.{Dimensions, FitsFormat, IsGeometry, section_length}
 use Rattle.cs_frame.specs.Pointers.{FitsExtent}
-use Rattle.cs_frame.specs.Roots.{SpellsRoot, spelled_root}
+use Rattle.cs_frame.specs.Roots.{FitsIdentity, SpellsRoot, identity_in, root_number, spelled_root}
+use Rattle.law_machine.specs.Format.{Format, Four, Two}
 use Rattle.cs_frame.specs.Superblocks.{FitsRecord, SpellsSuperblock, record_in, spelled_superblock}
 use Rattle.cs_frame.proofs.RootLaws.{fewest_runs}
 use Rattle.cs_frame.proofs.SuperblockLaws.{recorded_below_root, recorded_fits_in}
@@ -18,11 +20,20 @@ use Rattle.cs_mount.specs.StorePairs.{root_version, section_at, section_version,
 use Rattle.cs_mount.proofs.Spelling.{root_read, section_read}
 
 -- that no root was persistent can be spelled
-pub none_fits : (format : ℕ) → FitsRecord format 0
+pub none_fits : (format : Format) → FitsRecord format 0
 none_fits format =
     let none : record_in format 0 ≡ 0 = (let le : record_in format 0 ≤ 0 = recorded_below_root format 0 in omega (arith, le)) in
     let small : 0 < 2 ^ 64 = omega arith in
     subst (λ (n : ℕ). FitsRecord format n) none (recorded_fits_in format 0 small)
+
+-- the root has the identity that its format has, of the same number
+number_of_identity : (format : Format) → root_number (identity_in format) ≡ number_in format
+number_of_identity Two = refl
+number_of_identity (Four store device) = refl
+
+identity_of_format : (format : Format) → FitsFormat format → FitsIdentity (identity_in format)
+identity_of_format Two fits = tt
+identity_of_format (Four store device) fits = fits.0
 
 rows_fit : (pages n : ℕ) → AllByRecursion (FitsExtent pages) (replicate n (0, 0))
 rows_fit pages zero = tt
@@ -59,15 +70,15 @@ module _ (d : Dimensions) (g : IsGeometry d.format d.extents d.pages d.sections)
     spelled = refl;
   }
 
-  pub spells_root : SpellsRoot (new_root d) d.format 1 0 []
+  pub spells_root : SpellsRoot (new_root d) (identity_in d.format) 1 0 []
   unfolding new_root
   spells_root = record {
     fits = record {
-      known = g.known;
+      identity = identity_of_format d.format g.fits_format;
       first_version = omega arith;
       last_version = omega arith;
       last_command = omega arith;
-      count = let many = fewest_runs d.format in omega (arith, many);
+      count = let many = fewest_runs (root_number (identity_in d.format)) in omega (arith, many);
       each = tt;
     };
     spelled = refl;
@@ -76,9 +87,7 @@ module _ (d : Dimensions) (g : IsGeometry d.format d.extents d.pages d.sections)
   -- each is of version 1
   section_first : (j : ℕ) → j < d.sections → section_version d j (new_section d j) ≡ 1
   section_first j lt =
-      let all : true ≡ (d.extents == d.extents && d.pages == d.pages && d.sections == d.sections && j == j) =
-      let a = eq-eqb d.extents d.extents refl in let b = eq-eqb d.pages d.pages refl in let e = eq-eqb d.sections d.sections refl in let i = eq-eqb j j refl in cc in
-      sym (section_read (new_section d j) d d.format 1 0 d.extents d.pages d.sections j j (replicate (section_length d.extents d.sections j) (0, 0)) (spells_section j lt) true refl all refl)
+      sym (section_read (new_section d j) d d.format 1 0 d.extents d.pages d.sections j j (replicate (section_length d.extents d.sections j) (0, 0)) (spells_section j lt) refl (refl, refl, refl, refl, refl))
 
   -- page 0 is that of the first
   pub first_section : section_version d 0 (new_section d 0) ≡ 1
@@ -92,7 +101,7 @@ module _ (d : Dimensions) (g : IsGeometry d.format d.extents d.pages d.sections)
 
       by_place : (k ≡ 1) ⊎ (k ≢ 1) → store_version (Some d) (store_pair d k).page (new_page d k) ≡ 1
       by_place (inl root) =
-          subst (λ n. store_version (Some d) (store_pair d n).page (new_page d n) ≡ 1) (sym root) (sym (root_read (new_root d) d.format d.format 1 0 [] spells_root refl))
+          subst (λ n. store_version (Some d) (store_pair d n).page (new_page d n) ≡ 1) (sym root) (sym (root_read (new_root d) d.format (identity_in d.format) 1 0 [] spells_root (number_of_identity d.format) refl))
       by_place (inr other) =
           let bytes = new_section d (section_of_pair k) in
           ap (store_version (Some d) (store_pair d k).page) (ap (λ (b : Bool). if b then new_root d else bytes) (ne_eqb k 1 other))
@@ -107,9 +116,9 @@ pub is_new_section : (d : Dimensions) (j : ℕ) (bytes : List ℕ) (rows : List 
 unfolding new_section
 is_new_section d j bytes rows empty is = is ∙ ap (λ (l : List (ℕ × ℕ)). spelled_superblock d.format 1 0 d.extents d.pages d.sections j l) empty
 
-pub is_new_root : (d : Dimensions) (format : ℕ) (bytes : List ℕ) (runs : List Locator) → format ≡ d.format → runs ≡ [] → bytes ≡ spelled_root format 1 0 runs → bytes ≡ new_root d
+pub is_new_root : (d : Dimensions) (store : Option (List ℕ)) (bytes : List ℕ) (runs : List Locator) → store ≡ identity_in d.format → runs ≡ [] → bytes ≡ spelled_root store 1 0 runs → bytes ≡ new_root d
 unfolding new_root
-is_new_root d format bytes runs same none is = is ∙ ap (λ (n : ℕ). spelled_root n 1 0 runs) same ∙ ap (λ (l : List Locator). spelled_root d.format 1 0 l) none
+is_new_root d store bytes runs same none is = is ∙ ap (λ (i : Option (List ℕ)). spelled_root i 1 0 runs) same ∙ ap (λ (l : List Locator). spelled_root (identity_in d.format) 1 0 l) none
 
 page_of_section : (d : Dimensions) (j : ℕ) → new_page d (pair_of_section j) ≡ new_section d j
 page_of_section d j = section_not_root j (new_root d) (new_section d (section_of_pair (pair_of_section j))) ∙ ap (new_section d) (section_of j)
@@ -131,7 +140,11 @@ section_writes d j k it bytes rows place pair empty is =
     let its = is_new_section d j bytes rows empty is ∙ sym (page_of_section d j) in
     two_are it.page it.twin (store_pair d (pair_of_section j)).page (store_pair d (pair_of_section j)).twin bytes (new_page d (pair_of_section j)) (ap (λ (y : Pair). y.page) there) (ap (λ (y : Pair). y.twin) there) its
 
-pub root_writes : (d : Dimensions) (it : Pair) (format : ℕ) (bytes : List ℕ) (runs : List Locator) → it ≡ store_pair d 1 → format ≡ d.format → runs ≡ [] → bytes ≡ spelled_root format 1 0 runs
+pub root_writes : (d : Dimensions) (it : Pair) (store : Option (List ℕ)) (bytes : List ℕ) (runs : List Locator) → it ≡ store_pair d 1 → store ≡ identity_in d.format → runs ≡ [] → bytes ≡ spelled_root store 1 0 runs
     → ◌≡◌ {A = List Write} ((it.page, bytes) ∷ (it.twin, bytes) ∷ []) (both_halves d 1)
-root_writes d it format bytes runs pair same none is =
-    two_are it.page it.twin (store_pair d 1).page (store_pair d 1).twin bytes (new_page d 1) (ap (λ (y : Pair). y.page) pair) (ap (λ (y : Pair). y.twin) pair) (is_new_root d format bytes runs same none is)
+root_writes d it store bytes runs pair same none is =
+    two_are it.page it.twin (store_pair d 1).page (store_pair d 1).twin bytes (new_page d 1) (ap (λ (y : Pair). y.page) pair) (ap (λ (y : Pair). y.twin) pair) (is_new_root d store bytes runs same none is)
+
+-- each of several pairs of zeros
+pub pair_is : (p : ℕ × ℕ) → (p.0 ≡ 0) × (p.1 ≡ 0) → p ≡ (0, 0)
+pair_is (a, b) h = ap (λ (n : ℕ). (n, b)) h.0 ∙ ap (λ (n : ℕ). (0, n)) h.1

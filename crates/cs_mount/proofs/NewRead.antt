@@ -5,7 +5,9 @@ use Rattle.std.proofs.lemmas.List.{ext_get_or, get_or-replicate, length-map, len
 use Rattle.cs_core.specs.cs_extent.State.{IsWhole, State as ExtentsState, extents_at, extents_of, found_at, section_rows, shape}
 use Rattle.cs_frame.specs.declared.locators.Locator.{Locator}
 use Rattle.cs_frame.specs.Geometries.{IsGeometry, section_length, section_size, section_start}
-use Rattle.cs_frame.specs.Roots.{SpellsRoot, runs_in}
+use Rattle.cs_frame.specs.FormatNumbers.{number_in}
+use Rattle.cs_frame.specs.Roots.{SpellsRoot, identity_in, root_number, runs_in}
+use Rattle.law_machine.specs.Format.{Format}
 use Rattle.cs_frame.specs.Superblocks.{SpellsSuperblock}
 use Rattle.cs_frame.proofs.FirstFormatLaws as zeros
 use Rattle.cs_frame.proofs.GeometryLaws.{section_inside}
@@ -26,16 +28,16 @@ use Rattle.cs_core.specs.law_refinement.Images.{AreExtentsNoted, AreNewSections}
 use Rattle.cs_core.specs.cs_reclaim.Rooted.{lying_apart}
 
 -- the version of a section, by two spellings of its page
-at_version : (j : ℕ) (page : List ℕ) (f v r e p s : ℕ) (rows : List (ℕ × ℕ)) (format w n extents pages sections : ℕ) (others : List (ℕ × ℕ)) → SpellsAt j page f v r e p s rows → SpellsSuperblock page format w n extents pages sections j others → v ≡ w
+at_version : (j : ℕ) (page : List ℕ) (f : Format) (v r e p s : ℕ) (rows : List (ℕ × ℕ)) (format : Format) (w n extents pages sections : ℕ) (others : List (ℕ × ℕ)) → SpellsAt j page f v r e p s rows → SpellsSuperblock page format w n extents pages sections j others → v ≡ w
 at_version zero page f v r e p s rows format w n extents pages sections others (inl a) b =
     sym (superblocks.one_section page f v r e p s 0 rows a).of_version ∙ (superblocks.one_section page format w n extents pages sections 0 others b).of_version
 at_version zero page f v r e p s rows format w n extents pages sections others (inr a) b =
-    absurd (zeros.apart format page b.fits.geometry.known (zeros.spelled_has_none page v p rows a.spells) (superblocks.spelled_has_none page format w n extents pages sections 0 others b))
+    absurd (zeros.apart (number_in format) page (zeros.spelled_has_none page v p rows a.spells) (superblocks.spelled_has_none page format w n extents pages sections 0 others b))
 at_version (suc j) page f v r e p s rows format w n extents pages sections others a b =
     sym (superblocks.one_section page f v r e p s (suc j) rows a).of_version ∙ (superblocks.one_section page format w n extents pages sections (suc j) others b).of_version
 
 -- The numbers of what is read are those of the new store.
-pub record IsNewRead (format extents pages sections : ℕ) (f : ℕ) (versions : List ℕ) (p : ℕ) (written : List (ℕ × ℕ)) (root commands : ℕ) (runs : List StoredRun) : Type 0 where
+pub record IsNewRead (format : Format) (extents pages sections : ℕ) (f : Format) (versions : List ℕ) (p : ℕ) (written : List (ℕ × ℕ)) (root commands : ℕ) (runs : List StoredRun) : Type 0 where
   pub of_format : f ≡ format
   pub of_versions : versions ≡ replicate sections 1
   pub of_pages : p ≡ pages
@@ -44,9 +46,9 @@ pub record IsNewRead (format extents pages sections : ℕ) (f : ℕ) (versions :
   pub of_commands : commands ≡ 0
   pub of_runs : runs ≡ []
 
-module _ (view : ℕ → List ℕ) (format extents pages sections : ℕ) (g : IsGeometry format extents pages sections) (new_ones : AreNewSections view format extents pages sections) (new_root : SpellsRoot (view 1) format 1 0 [])
-    (f : ℕ) (versions records : List ℕ) (p : ℕ) (written : List (ℕ × ℕ)) (root commands : ℕ) (runs : List StoredRun)
-    (read : AreSectionsRead view f versions records p written) (root_is : SpellsRoot (view 1) f root commands (map (λ (run : StoredRun). run.place) runs)) where
+module _ (view : ℕ → List ℕ) (format : Format) (extents pages sections : ℕ) (g : IsGeometry format extents pages sections) (new_ones : AreNewSections view format extents pages sections) (new_root : SpellsRoot (view 1) (identity_in format) 1 0 [])
+    (f : Format) (versions records : List ℕ) (p : ℕ) (written : List (ℕ × ℕ)) (root commands : ℕ) (runs : List StoredRun)
+    (read : AreSectionsRead view f versions records p written) (root_is : SpellsRoot (view 1) (identity_in f) root commands (map (λ (run : StoredRun). run.place) runs)) where
   abbrev x : ExtentsState
   x = extents_at f p (length versions) written
 
@@ -97,16 +99,16 @@ module _ (view : ℕ → List ℕ) (format extents pages sections : ℕ) (g : Is
 
   no_runs : runs ≡ []
   no_runs =
-      let a = roots.one_root (view 1) f root commands (map (λ (run : StoredRun). run.place) runs) root_is in
-      let b = roots.one_root (view 1) format 1 0 [] new_root in
-      let places : map (λ (run : StoredRun). run.place) runs ≡ [] = sym a.of_runs ∙ ap (λ h. runs_in h (view 1)) numbers.0 ∙ b.of_runs in
+      let a = roots.one_root (view 1) (identity_in f) root commands (map (λ (run : StoredRun). run.place) runs) root_is in
+      let b = roots.one_root (view 1) (identity_in format) 1 0 [] new_root in
+      let places : map (λ (run : StoredRun). run.place) runs ≡ [] = sym a.of_runs ∙ ap (λ (h : Format). runs_in (root_number (identity_in h)) (view 1)) numbers.0 ∙ b.of_runs in
       let none : length runs ≡ 0 = sym (length-map runs (λ (run : StoredRun). run.place)) ∙ ap (λ (l : List Locator). length l) places in
       nil_from_length runs none
 
   pub new_is_read : IsNewRead format extents pages sections f versions p written root commands runs
   new_is_read =
-      let a = roots.one_root (view 1) f root commands (map (λ (run : StoredRun). run.place) runs) root_is in
-      let b = roots.one_root (view 1) format 1 0 [] new_root in
+      let a = roots.one_root (view 1) (identity_in f) root commands (map (λ (run : StoredRun). run.place) runs) root_is in
+      let b = roots.one_root (view 1) (identity_in format) 1 0 [] new_root in
       record {
         of_format = numbers.0;
         of_versions = versions_are;
@@ -118,8 +120,8 @@ module _ (view : ℕ → List ℕ) (format extents pages sections : ℕ) (g : Is
       }
 
 -- by either rule
-pub new_store_is_read : (view : ℕ → List ℕ) (format extents pages sections : ℕ) → IsGeometry format extents pages sections → AreNewSections view format extents pages sections → SpellsRoot (view 1) format 1 0 []
-    → (f : ℕ) (versions records : List ℕ) (p : ℕ) (written : List (ℕ × ℕ)) (root commands : ℕ) (runs : List StoredRun) → IsStoreReadBy view f versions records p written root commands runs
+pub new_store_is_read : (view : ℕ → List ℕ) (format : Format) (extents pages sections : ℕ) → IsGeometry format extents pages sections → AreNewSections view format extents pages sections → SpellsRoot (view 1) (identity_in format) 1 0 []
+    → (f : Format) (versions records : List ℕ) (p : ℕ) (written : List (ℕ × ℕ)) (root commands : ℕ) (runs : List StoredRun) → IsStoreReadBy view f versions records p written root commands runs
     → IsNewRead format extents pages sections f versions p written root commands runs
 new_store_is_read view format extents pages sections g new_ones new_root f versions records p written root commands runs read = elim (cases_Bool (shape (extents_at f p (length versions) written)).hidden_stand) [
   | inl stand ↦ (let whole = read.whole stand in new_is_read view format extents pages sections g new_ones new_root f versions records p written root commands runs whole.sections whole.root_page)
@@ -144,7 +146,7 @@ not_blank S x index runs none e =
 pair_of : (row : ℕ × ℕ) → row.0 ≡ 0 → row.1 ≡ 0 → row ≡ (0, 0)
 pair_of row first second = ap (λ (n : ℕ). (n, row.1)) first ∙ ap (λ (n : ℕ). (0, n)) second
 
-module _ (format pages sections extents : ℕ) (apart : apart_in format ≡ true) (y : ExtentsState) (whole : IsWhole y) (z : Extents) (same_shape : shape y ≡ shape (extents_at format pages sections (replicate extents (0, 0))))
+module _ (format : Format) (pages sections extents : ℕ) (apart : apart_in format ≡ true) (y : ExtentsState) (whole : IsWhole y) (z : Extents) (same_shape : shape y ≡ shape (extents_at format pages sections (replicate extents (0, 0))))
     (of_y : extents_of y ≡ z) (noted : z ≡ record (extents_of (extents_at format pages sections (replicate extents (0, 0)))) { of_runs = any_run_on []; found = (extents_of (extents_at format pages sections (replicate extents (0, 0)))).pointer }) where
   abbrev fresh : ExtentsState
   fresh = extents_at format pages sections (replicate extents (0, 0))
@@ -195,13 +197,13 @@ module _ (format pages sections extents : ℕ) (apart : apart_in format ≡ true
       let last_is = ap (λ (w : Extents). w.last) are in
       by y.format y.pages y.sections y.written y.resets y.swept y.open_extent y.of_runs y.found y.fresh y.last f p s written_same resets_same swept_same open_is runs_same found_same fresh_is last_is
     where
-      by : (a b c : ℕ) (w : List (ℕ × ℕ)) (r : List ℕ) (t : List Bool) (o : Option ℕ) (k : List Bool) (n : List ℕ) (h l : Option ℕ) → a ≡ format → b ≡ pages → c ≡ sections → w ≡ empty_rows → r ≡ replicate (length empty_rows) 0
+      by : (a : Format) (b c : ℕ) (w : List (ℕ × ℕ)) (r : List ℕ) (t : List Bool) (o : Option ℕ) (k : List Bool) (n : List ℕ) (h l : Option ℕ) → a ≡ format → b ≡ pages → c ≡ sections → w ≡ empty_rows → r ≡ replicate (length empty_rows) 0
           → t ≡ replicate (length empty_rows) false → o ≡ None → k ≡ replicate (length empty_rows) false → n ≡ found_at (apart_in format) empty_rows → h ≡ None → l ≡ None
           → ◌≡◌ {A = ExtentsState} (record { format = a; pages = b; sections = c; written = w; resets = r; swept = t; open_extent = o; of_runs = k; found = n; fresh = h; last = l }) fresh
       by a b c w r t o k n h l e1 e2 e3 e4 e5 e6 e7 e8 e9 e10 e11 = cc
 
 -- Of extents that are all empty none is emptied as they are opened.
-pub opened_empty : (format pages sections extents root : ℕ) (index : List Entry) → apart_in format ≡ true → (y noted : ExtentsState) → IsWhole y → shape y ≡ shape (extents_at format pages sections (replicate extents (0, 0)))
+pub opened_empty : (format : Format) (pages sections extents root : ℕ) (index : List Entry) → apart_in format ≡ true → (y noted : ExtentsState) → IsWhole y → shape y ≡ shape (extents_at format pages sections (replicate extents (0, 0)))
     → AreExtentsNoted (extents_at format pages sections (replicate extents (0, 0))) [] noted
     → extents_of y ≡ reset_all (lying_apart (shape noted)) (extents_of noted) root (is_blank_by (shape noted) (extents_of noted) index [] []) (shape noted).extents
     → y ≡ extents_at format pages sections (replicate extents (0, 0))

@@ -1,5 +1,5 @@
 -- What is opened of a new store that was laid.
-use Rattle.std.proofs.Common.{All, Contains, ◌≡◌, ◌≢◌, ◌⊎◌, inl, inr, ⊎_elim, if◌then◌else◌, ◌-◌, ◌*◌, ℕ, zero, suc, ◌+◌, ◌<◌, ◌≤◌, Bool, List, [], ◌∷◌, Option, None, Some, length, nat_lt, replicate, refl, sym, ◌∙◌, ap, subst, arith}
+use Rattle.std.proofs.Common.{All, Contains, ◌≡◌, ◌≢◌, ◌⊎◌, inl, inr, ⊎_elim, if◌then◌else◌, ◌-◌, ◌*◌, ℕ, zero, suc, ◌+◌, ◌<◌, ◌≤◌, Bool, List, [], ◌∷◌, Option, None, Some, length, nat_lt, replicate, refl, sym, ◌∙◌, ap, subst, arith, true}
 use Rattle.std.proofs.lemmas.Bool.{cases_lt}
 use Rattle.std.proofs.lemmas.List.{length-replicate}
 use Rattle.std.proofs.lemmas.List.Elements.{All-append}
@@ -8,7 +8,8 @@ use Rattle.cs_frame.specs.Formats.{formats_of}
 use Rattle.cs_frame.specs.Geometries.{Dimensions, IsGeometry, section_size}
 use Rattle.cs_reader.specs.Counts.{HasCount}
 use Rattle.law_machine.specs.Element.{Content}
-use Rattle.law_machine.specs.Geometry.{most_weight_in, shape_of}
+use Rattle.law_machine.specs.Format.{Format, Four, Two}
+use Rattle.law_machine.specs.Geometry.{apart_in, most_weight_in, shape_of, twins_in}
 use Rattle.law_machine.specs.Recovery.{Recovers}
 use Rattle.cs_core.proofs.Starting.{new_recovers}
 use Rattle.cs_core.specs.Openings.{AreExtentsOpened, IsOpened, opened_stored}
@@ -43,13 +44,13 @@ own_heads : (d : Dimensions) (n : ℕ) → All (λ (w : Write). IsHead d.extents
 own_heads d zero = one_head d 0
 own_heads d (suc n) = All-append (λ (w : Write). IsHead d.extents d.pages w.0) (own_up_to d n) (((store_pair d (suc n)).page, new_page d (suc n)) ∷ []) (own_heads d n) (one_head d (suc n))
 
-module _ (d : Dimensions) (g : IsGeometry d.format d.extents d.pages d.sections) (three : d.format ≡ 3) where
+module _ (d : Dimensions) (g : IsGeometry d.format d.extents d.pages d.sections) (twins : twins_in d.format ≡ true) where
   -- an image that shows it has it
   on_itself : (image : Image) → ShowsFirst d image → IsNewOn d.format d.extents d.pages d.sections (settled image) (settled image)
   on_itself image shows = record {
     formatted = (settled image, record { writes = []; head = λ i x lt. absurd (omega (arith, lt)); volatile = refl; durable = refl }, refl);
-    superblock = shows_sections d g three image shows;
-    root = shows_root d g three image shows;
+    superblock = shows_sections d g twins image shows;
+    root = shows_root d g twins image shows;
   }
 
   pub recovers_first : (image : Image) → ShowsFirst d image → Recovers (store_shape d) (formats_of (store_shape d)) (page image) 0 (λ id. None)
@@ -61,11 +62,11 @@ module _ (d : Dimensions) (g : IsGeometry d.format d.extents d.pages d.sections)
   pub has_new : (before c : Image) → length before ≡ pages_of d → ((k : ℕ) (twin : Bool) → 0 < k → k ≤ d.sections → page before (half (store_pair d k) twin) ≡ new_page d k) → IsTornLaying d before c
       → (page c 0 ≡ new_section d 0) ⊎ (page c (pages_of d - 1) ≡ new_section d 0) → HasNewStore d c
   has_new before c long there torn one =
-      let found = found_new d g three before c long there torn one in
+      let found = found_new d g twins before c long there torn one in
       record {
         found = found;
         recovers = subst (λ (o : Option Dimensions). Recovers (store_shape d) (formats_of (store_shape d)) (page (shown (store_version o) (pairs_where o) c)) 0 (λ id. None)) (sym found)
-            (recovers_first (shown (store_version (Some d)) (store_pairs d) c) (torn_shows_first d g three before c long there torn one));
+            (recovers_first (shown (store_version (Some d)) (store_pairs d) c) (torn_shows_first d g twins before c long there torn one));
       }
 
   -- ---- what it shows
@@ -80,44 +81,48 @@ module _ (d : Dimensions) (g : IsGeometry d.format d.extents d.pages d.sections)
       formatted = (
         record { durable = shown V (store_pairs d) (seen s); volatile = own_up_to d d.sections },
         record { writes = own_up_to d d.sections; head = own_heads d d.sections; volatile = refl; durable = refl },
-        ap settled (sym (laid_shows d g three s sized)),
+        ap settled (sym (laid_shows d g twins s sized)),
       );
-      superblock = shows_sections d g three (shown V (store_pairs d) (laid d s).durable) (shows_first d g three s sized);
-      root = shows_root d g three (shown V (store_pairs d) (laid d s).durable) (shows_first d g three s sized);
+      superblock = shows_sections d g twins (shown V (store_pairs d) (laid d s).durable) (shows_first d g twins s sized);
+      root = shows_root d g twins (shown V (store_pairs d) (laid d s).durable) (shows_first d g twins s sized);
     }
 
 -- ---- what is opened
 
+-- chunks and runs lie apart where the root has twins
+twins_apart : (format : Format) → twins_in format ≡ true → apart_in format ≡ true
+twins_apart Two twins = cc twins
+twins_apart (Four store device) twins = refl
+
 -- by the numbers that are read
-finish : (extents pages sections : ℕ) (f p : ℕ) (versions : List ℕ) (written : List (ℕ × ℕ)) (root commands : ℕ) (runs : List StoredRun) (y : ExtentsState) → IsWhole y
-    → IsNewRead 3 extents pages sections f versions p written root commands runs → AreExtentsOpened (extents_at f p (length versions) written) (index_at (newest_first runs) f (most_weight_in f p)) root y
-    → opened_stored y versions root commands runs ≡ new_stored 3 extents pages sections
-finish extents pages sections f p versions written root commands runs y whole is opened =
+finish : (format : Format) (extents pages sections : ℕ) (f : Format) (p : ℕ) (versions : List ℕ) (written : List (ℕ × ℕ)) (root commands : ℕ) (runs : List StoredRun) (y : ExtentsState) → twins_in format ≡ true → IsWhole y
+    → IsNewRead format extents pages sections f versions p written root commands runs → AreExtentsOpened (extents_at f p (length versions) written) (index_at (newest_first runs) f (most_weight_in f p)) root y
+    → opened_stored y versions root commands runs ≡ new_stored format extents pages sections
+finish format extents pages sections f p versions written root commands runs y twins whole is opened =
     let rows : List (ℕ × ℕ) = replicate extents (0, 0) in
-    let first = subst (λ (n : ℕ). AreExtentsOpened (extents_at n p (length versions) written) (index_at (newest_first runs) n (most_weight_in n p)) root y) is.of_format opened in
-    let second = subst (λ (n : ℕ). AreExtentsOpened (extents_at 3 n (length versions) written) (index_at (newest_first runs) 3 (most_weight_in 3 n)) root y) is.of_pages first in
-    let third = subst (λ (l : List (ℕ × ℕ)). AreExtentsOpened (extents_at 3 pages (length versions) l) (index_at (newest_first runs) 3 (most_weight_in 3 pages)) root y) is.of_written second in
-    let fourth : AreExtentsOpened (extents_at 3 pages (length versions) rows) (index_at [] 3 (most_weight_in 3 pages)) root y =
-    subst (λ (l : List StoredRun). AreExtentsOpened (extents_at 3 pages (length versions) rows) (index_at (newest_first l) 3 (most_weight_in 3 pages)) root y) is.of_runs third in
+    let apart = twins_apart format twins in
+    let first = subst (λ (n : Format). AreExtentsOpened (extents_at n p (length versions) written) (index_at (newest_first runs) n (most_weight_in n p)) root y) is.of_format opened in
+    let second = subst (λ (n : ℕ). AreExtentsOpened (extents_at format n (length versions) written) (index_at (newest_first runs) format (most_weight_in format n)) root y) is.of_pages first in
+    let third = subst (λ (l : List (ℕ × ℕ)). AreExtentsOpened (extents_at format pages (length versions) l) (index_at (newest_first runs) format (most_weight_in format pages)) root y) is.of_written second in
+    let fourth : AreExtentsOpened (extents_at format pages (length versions) rows) (index_at [] format (most_weight_in format pages)) root y =
+    subst (λ (l : List StoredRun). AreExtentsOpened (extents_at format pages (length versions) rows) (index_at (newest_first l) format (most_weight_in format pages)) root y) is.of_runs third in
     let many : length versions ≡ sections = ap (λ (l : List ℕ). length l) is.of_versions ∙ length-replicate {A = ℕ} sections 1 in
-    let noted = fourth.apart refl in
-    let same : y ≡ extents_at 3 pages (length versions) rows = opened_empty 3 pages (length versions) extents root [] refl y noted.0 whole fourth.same_shape noted.2 noted.3 in
-    let there : y ≡ extents_at 3 pages sections rows = same ∙ ap (λ (n : ℕ). extents_at 3 pages n rows) many in
+    let noted = fourth.apart apart in
+    let same : y ≡ extents_at format pages (length versions) rows = opened_empty format pages (length versions) extents root [] apart y noted.0 whole fourth.same_shape noted.2 noted.3 in
+    let there : y ≡ extents_at format pages sections rows = same ∙ ap (λ (n : ℕ). extents_at format pages n rows) many in
     ap (λ (z : ExtentsState). opened_stored z versions root commands runs) there
-    ∙ ap (λ (l : List ℕ). opened_stored (extents_at 3 pages sections rows) l root commands runs) is.of_versions
-    ∙ ap (λ (n : ℕ). opened_stored (extents_at 3 pages sections rows) (replicate sections 1) n commands runs) is.of_root
-    ∙ ap (λ (n : ℕ). opened_stored (extents_at 3 pages sections rows) (replicate sections 1) 1 n runs) is.of_commands
-    ∙ ap (λ (l : List StoredRun). opened_stored (extents_at 3 pages sections rows) (replicate sections 1) 1 0 l) is.of_runs
+    ∙ ap (λ (l : List ℕ). opened_stored (extents_at format pages sections rows) l root commands runs) is.of_versions
+    ∙ ap (λ (n : ℕ). opened_stored (extents_at format pages sections rows) (replicate sections 1) n commands runs) is.of_root
+    ∙ ap (λ (n : ℕ). opened_stored (extents_at format pages sections rows) (replicate sections 1) 1 n runs) is.of_commands
+    ∙ ap (λ (l : List StoredRun). opened_stored (extents_at format pages sections rows) (replicate sections 1) 1 0 l) is.of_runs
 
 -- The store that is opened on an image that shows a new one is the new one.
-pub new_is_opened : (d : Dimensions) (honest : Type 0) (image : Image) (found : ℕ × ℕ) (store : Stored) → IsGeometry d.format d.extents d.pages d.sections → d.format ≡ 3 → honest → ShowsFirst d image
+pub new_is_opened : (d : Dimensions) (honest : Type 0) (image : Image) (found : ℕ × ℕ) (store : Stored) → IsGeometry d.format d.extents d.pages d.sections → twins_in d.format ≡ true → honest → ShowsFirst d image
     → IsWhole store.extents → IsOpened honest image found store → store ≡ new_stored d.format d.extents d.pages d.sections
-new_is_opened d honest image found store g three h shows whole it =
-    let read = new_store_is_read (page image) d.format d.extents d.pages d.sections g (shows_sections d g three image shows) (shows_root d g three image shows) it.format it.versions it.records it.pages it.written it.root found.0 it.runs (it.read h) in
-    let numbers = subst (λ (n : ℕ). IsNewRead n d.extents d.pages d.sections it.format it.versions it.pages it.written it.root found.0 it.runs) three read in
+new_is_opened d honest image found store g twins h shows whole it =
+    let read = new_store_is_read (page image) d.format d.extents d.pages d.sections g (shows_sections d g twins image shows) (shows_root d g twins image shows) it.format it.versions it.records it.pages it.written it.root found.0 it.runs (it.read h) in
     let there = subst (λ (z : Stored). IsWhole z.extents) it.made whole in
-    it.made ∙ finish d.extents d.pages d.sections it.format it.pages it.versions it.written it.root found.0 it.runs it.extents there numbers it.opened
-    ∙ ap (λ (n : ℕ). new_stored n d.extents d.pages d.sections) (sym three)
+    it.made ∙ finish d.format d.extents d.pages d.sections it.format it.pages it.versions it.written it.root found.0 it.runs it.extents twins there read it.opened
 
 -- none are counted where there are none
 pub none_counted : (n : ℕ) → HasCount (λ (id : ℕ). ◌≢◌ {A = Option Content} None None) n → n ≡ 0

@@ -5,7 +5,8 @@ use Rattle.std.proofs.lemmas.Bool.Decides.{nat_tests}
 use Rattle.std.proofs.lemmas.Option.{same_Some}
 use Rattle.cs_frame.specs.Formats.{formats_of}
 use Rattle.cs_frame.specs.Geometries.{Dimensions, IsGeometry}
-use Rattle.law_machine.specs.Device.{FramePage, Page, PageKind, RootPage, SectionPage, Shape}
+use Rattle.law_machine.specs.Geometry.{twins_in}
+use Rattle.law_machine.specs.Device.{FramePage, Page, RootPage, SectionPage, Shape}
 use Rattle.law_machine.specs.Disk.{page_write, page_writes}
 use Rattle.law_machine.specs.Distinct.{AreDistinct}
 use Rattle.law_machine.specs.Element.{A_root, A_superblock, A_write, Element, RootBefore, SuperblockBefore, roots_of, superblocks_of}
@@ -145,23 +146,32 @@ pair_kind frames p k is frame = by (p == 0) (p == 1) (nat_lt p (2 + frames)) ref
     by false false true first second third is = between first second third
     by false false false first second third is = cc is
 
-module _ (d : Dimensions) (g : IsGeometry d.format d.extents d.pages d.sections) (three : d.format ≡ 3) (s : State) (sound : Sound (store_shape d) (formats_of (store_shape d)) s) (V : Versions) (disk : DiskState)
+-- no write waits on a page after those of the sections
+abbrev pub LiesBelow : Dimensions → DiskState → Type 0
+LiesBelow d disk = (i : ℕ) (w : Write) → slice_get disk.volatile i ≡ Some w → w.0 ≤ d.extents * d.pages + d.sections
+
+pub core_below : (d : Dimensions) → IsGeometry d.format d.extents d.pages d.sections → twins_in d.format ≡ true → (s : State) → Sound (store_shape d) (formats_of (store_shape d)) s → (disk : DiskState)
+    → disk.volatile ≡ page_writes (store_shape d) (formats_of (store_shape d)) s.issued → LiesBelow d disk
+core_below d g twins s sound disk volatile i w at =
+    written_below d (frames d g twins) s sound g.fewest_sections i w (subst (λ (l : List Write). slice_get l i ≡ Some w) volatile at)
+
+module _ (d : Dimensions) (g : IsGeometry d.format d.extents d.pages d.sections) (twins : twins_in d.format ≡ true) (s : State) (sound : Sound (store_shape d) (formats_of (store_shape d)) s) (V : Versions) (disk : DiskState)
     (volatile : map (shown_write V (store_pairs d)) disk.volatile ≡ page_writes (store_shape d) (formats_of (store_shape d)) s.issued) where
   -- what shows of a write is one that the core issued
   issued_at : (i : ℕ) (w : Write) → slice_get disk.volatile i ≡ Some w → slice_get (page_writes (store_shape d) (formats_of (store_shape d)) s.issued) i ≡ Some (shown_write V (store_pairs d) w)
   issued_at i w at = subst (λ (l : List Write). slice_get l i ≡ Some (shown_write V (store_pairs d) w)) volatile (mapped (shown_write V (store_pairs d)) disk.volatile i w at)
 
   shows_half : (k : ℕ) (x : Pair) (w : Write) (twin : Bool) → slice_get (store_pairs d) k ≡ Some x → w.0 ≡ half x twin → shown_write V (store_pairs d) w ≡ shown_half V x w.1
-  shows_half k x w twin at goes = shown_write-half V (store_pairs d) (pages_of d) (are_pairs d g three) k x twin w at goes
+  shows_half k x w twin at goes = shown_write-half V (store_pairs d) (pages_of d) (are_pairs d g twins) k x twin w at goes
 
   -- Each is whole, since none shows as one to a twin.
   pub core_whole : AreWhole V (store_pairs d) disk
   core_whole k i x w twin at at_i goes = ⊎_elim
       (λ (whole : 0 < V x.page w.1). whole)
       (λ (none : V x.page w.1 ≤ 0).
-      let here = placed d g three k x at in
-      let some = frames d g three in
-      let total = total_pages d three in
+      let here = placed d g twins k x at in
+      let some = frames d g twins in
+      let total = total_pages d g twins in
       let shows = shows_half k x w twin at goes ∙ shown_half-none V x w.1 (omega (arith, none)) in
       let number : (shown_write V (store_pairs d) w).0 ≡ x.twin = ap (λ (z : Write). z.0) shows in
       let place : pages_of d - (1 + k) ≡ x.twin = ap (λ (y : Pair). y.twin) here.1 in
@@ -172,8 +182,8 @@ module _ (d : Dimensions) (g : IsGeometry d.format d.extents d.pages d.sections)
   -- And each pair is written once.
   pub core_once : AreWrittenOnce (store_pairs d) disk
   core_once k i j x v w b c at at_i at_j goes also =
-      let here = placed d g three k x at in
-      let some = frames d g three in
+      let here = placed d g twins k x at in
+      let some = frames d g twins in
       let one = shows_half k x v b at goes ∙ shown_half-whole V x v.1 (core_whole k i x v b at at_i goes) in
       let two = shows_half k x w c at also ∙ shown_half-whole V x w.1 (core_whole k j x w c at at_j also) in
       let first : (shown_write V (store_pairs d) v).0 ≡ x.page = ap (λ (z : Write). z.0) one in

@@ -5,10 +5,16 @@ use Rattle.std.proofs.lemmas.List.{length-replicate}
 use Rattle.sha2.specs.Sha256.{digest_bytes, sha256}
 use Rattle.sha2.proofs.Facts256.{length-sha256}
 use Rattle.cs_frame.specs.Bytes.{IsBytes, zeros}
+use Rattle.cs_frame.specs.declared.formats.FormatNumber.{FormatNumber}
+use Rattle.cs_frame.specs.declared.formats.FormatNumber.TheVariants as of_number
+use Rattle.cs_frame.specs.FormatNumbers.{number_in, section_digit}
+use Rattle.cs_frame.specs.Geometries.{FitsFormat}
 use Rattle.cs_frame.specs.Pages.{sealed}
 use Rattle.cs_frame.specs.Pointers.{spelled_extents}
-use Rattle.cs_frame.specs.Superblocks.{FitsSuperblock, record_bytes, spelled_record, spelled_superblock, superblock_fields}
+use Rattle.cs_frame.specs.Superblocks.{FitsSuperblock, spelled_store, spelled_superblock, superblock_fields}
+use Rattle.cs_frame.proofs.GeometryLaws.{bounds}
 use Rattle.cs_frame.proofs.SuperblockLaws.{end_in_page, length-superblock_fields}
+use Rattle.law_machine.specs.Format.{Format, Four, Two}
 
 below : (n : ℕ) → n % 256 < 256
 below n = omega arith
@@ -54,43 +60,56 @@ row_bytes (row ∷ rows) = both_bytes (bytes_high_first 2 row.0 ++ bytes_high_fi
 magic_bytes : IsBytes (codes "CSS")
 magic_bytes = more_bytes 67 (83 ∷ 83 ∷ []) (omega arith) (more_bytes 83 (83 ∷ []) (omega arith) (more_bytes 83 [] (omega arith) no_bytes))
 
-module _ (version recorded extents pages sections section : ℕ) (written : List (ℕ × ℕ)) (fits : FitsSuperblock 3 version recorded extents pages sections section written) where
+-- what a section says of its store and of the root
+store_bytes : (format : Format) (recorded : ℕ) → FitsFormat format → IsBytes (spelled_store format recorded)
+store_bytes Two recorded fits = no_bytes
+store_bytes (Four store device) recorded fits =
+    both_bytes (bytes_high_first 8 device ++ store) (bytes_high_first 8 recorded) (both_bytes (bytes_high_first 8 device) store (high_bytes 8 device) fits.0.bytes) (high_bytes 8 recorded)
+
+digit_below : (n : FormatNumber) → section_digit n < 256
+digit_below of_number.Two = omega arith
+digit_below of_number.Four = omega arith
+
+module _ (format : Format) (version recorded extents pages sections section : ℕ) (written : List (ℕ × ℕ)) (fits : FitsSuperblock format version recorded extents pages sections section written) where
   abbrev text : List ℕ
-  text = superblock_fields 3 version recorded extents pages sections section written
+  text = superblock_fields format version recorded extents pages sections section written
+
+  abbrev digit : ℕ
+  digit = section_digit (number_in format)
 
   abbrev front : List ℕ
-  front = codes "CSS" ++ 51 ∷ [] ++ bytes_high_first 8 version ++ bytes_high_first 2 extents ++ bytes_high_first 2 pages
+  front = codes "CSS" ++ digit ∷ [] ++ bytes_high_first 8 version ++ bytes_high_first 2 extents ++ bytes_high_first 2 pages
 
   front_bytes : IsBytes front
   front_bytes =
-      both_bytes (codes "CSS" ++ 51 ∷ [] ++ bytes_high_first 8 version ++ bytes_high_first 2 extents) (bytes_high_first 2 pages)
-      (both_bytes (codes "CSS" ++ 51 ∷ [] ++ bytes_high_first 8 version) (bytes_high_first 2 extents)
-      (both_bytes (codes "CSS" ++ 51 ∷ []) (bytes_high_first 8 version) (both_bytes (codes "CSS") (51 ∷ []) magic_bytes (more_bytes 51 [] (omega arith) no_bytes)) (high_bytes 8 version)) (high_bytes 2 extents)) (high_bytes 2 pages)
+      both_bytes (codes "CSS" ++ digit ∷ [] ++ bytes_high_first 8 version ++ bytes_high_first 2 extents) (bytes_high_first 2 pages)
+      (both_bytes (codes "CSS" ++ digit ∷ [] ++ bytes_high_first 8 version) (bytes_high_first 2 extents)
+      (both_bytes (codes "CSS" ++ digit ∷ []) (bytes_high_first 8 version) (both_bytes (codes "CSS") (digit ∷ []) magic_bytes (more_bytes digit [] (digit_below (number_in format)) no_bytes)) (high_bytes 8 version)) (high_bytes 2 extents)) (high_bytes 2 pages)
 
   sections_below : sections < 256
-  sections_below = omega (arith, fits.geometry.most_sections)
+  sections_below = let most = (bounds format extents pages sections fits.geometry).most_sections in omega (arith, most)
 
   section_below : section < 256
   section_below = omega (arith, sections_below, fits.one_of_them)
 
   text_bytes : IsBytes text
   text_bytes =
-      both_bytes (front ++ sections ∷ [] ++ section ∷ [] ++ spelled_record 3 recorded) (spelled_extents written)
-      (both_bytes (front ++ sections ∷ [] ++ section ∷ []) (spelled_record 3 recorded)
+      both_bytes (front ++ sections ∷ [] ++ section ∷ [] ++ spelled_store format recorded) (spelled_extents written)
+      (both_bytes (front ++ sections ∷ [] ++ section ∷ []) (spelled_store format recorded)
       (both_bytes (front ++ sections ∷ []) (section ∷ []) (both_bytes front (sections ∷ []) front_bytes (more_bytes sections [] sections_below no_bytes)) (more_bytes section [] section_below no_bytes))
-      (high_bytes (record_bytes 3) recorded)) (row_bytes written)
+      (store_bytes format recorded fits.geometry.fits_format)) (row_bytes written)
 
-  pub spelled_bytes : IsBytes (spelled_superblock 3 version recorded extents pages sections section written)
+  pub spelled_bytes : IsBytes (spelled_superblock format version recorded extents pages sections section written)
   spelled_bytes = both_bytes (sealed text) (zeros (4096 - length (sealed text))) (both_bytes text (sha256 text) text_bytes (sha_bytes text)) (zero_bytes (4096 - length (sealed text)))
 
-  pub length-spelled : length (spelled_superblock 3 version recorded extents pages sections section written) ≡ 4096
+  pub length-spelled : length (spelled_superblock format version recorded extents pages sections section written) ≡ 4096
   length-spelled = omega (
     arith,
     length-append (sealed text) (zeros (4096 - length (sealed text))),
     length-replicate {A = ℕ} (4096 - length (sealed text)) 0,
     length-append text (sha256 text),
     length-sha256 text,
-    length-superblock_fields 3 version recorded extents pages sections section written,
+    length-superblock_fields format version recorded extents pages sections section written fits.geometry.fits_format,
     fits.count,
-    end_in_page 3 extents pages sections section fits.geometry,
+    end_in_page (number_in format) format extents pages sections section fits.geometry,
   )

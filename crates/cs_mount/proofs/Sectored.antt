@@ -1,23 +1,26 @@
 -- A page of which one sector is fenced is whole in no format, unless it has an extent of the greatest numbers.
-use Rattle.std.proofs.Common.{◌≡◌, ◌≢◌, inl, inr, ⊎_elim, ℕ, zero, suc, ◌+◌, ◌-◌, ◌*◌, ◌/◌, ◌<◌, ◌≤◌, true, List, None, drop, length, map, replicate, slice_index, take, refl, sym, ◌∙◌, ap, subst, arith}
+use Rattle.std.proofs.Common.{◌≡◌, ◌≢◌, ⊎_elim, ℕ, zero, suc, ◌+◌, ◌-◌, ◌*◌, ◌/◌, ◌<◌, ◌≤◌, true, List, None, drop, length, map, replicate, slice_index, take, refl, sym, ◌∙◌, ap, subst, arith}
 use Rattle.std.proofs.lemmas.Bool.{cases_eq, cases_lt}
 use Rattle.std.proofs.lemmas.List.{drop-drop, ext_get_or, get_or-drop, get_or-replicate, get_or-take, length-drop, length-replicate, length-take-le}
 use Rattle.std.specs.List.{AllByRecursion}
 use Rattle.std.specs.Simd.{first_chunks}
 use Rattle.cs_frame.specs.Bytes.{IsPage, all_zero, field, number}
 use Rattle.cs_frame.specs.FirstFormat.{first_format_end, first_format_extents, first_format_fault, page_zero_fault, zero_format}
-use Rattle.cs_frame.specs.Geometries.{IsKnown, greatest_superblock_extents, in_bounds}
+use Rattle.cs_frame.specs.declared.formats.FormatNumber.{FormatNumber}
+use Rattle.cs_frame.specs.declared.formats.FormatNumber.TheVariants as of_number
+use Rattle.cs_frame.specs.FormatNumbers.{is_marked, page_digit, section_digit}
+use Rattle.cs_frame.specs.Geometries.{greatest_superblock_extents, in_bounds}
 use Rattle.cs_frame.specs.Locators.{locator_size}
 use Rattle.cs_frame.specs.Pointers.{extent_in, extents_from}
-use Rattle.cs_frame.specs.Roots.{root_digit, root_end, root_fault}
-use Rattle.cs_frame.specs.Superblocks.{section_count, superblock_end, superblock_extents, superblock_fault, superblock_start}
+use Rattle.cs_frame.specs.Roots.{count_at, root_count, root_end, root_fault}
+use Rattle.cs_frame.specs.Superblocks.{extents_said, format_in, pages_said, section_count, superblock_end, superblock_extents, superblock_fault, superblock_start}
 use Rattle.cs_frame.proofs.ExtentPageLaws.{sound}
 use Rattle.cs_frame.proofs.FirstFormatLaws as frames
 use Rattle.cs_frame.proofs.GeometryLaws.{within}
 use Rattle.cs_frame.proofs.RootLaws as roots
 use Rattle.cs_frame.proofs.SuperblockLaws as superblocks
 use Rattle.cs_frame.proofs.TestLaws.{all_zeros}
-use Rattle.law_machine.specs.Geometry.{marks_in}
+use Rattle.law_machine.specs.Format.{Two}
 use Rattle.cs_mount.specs.Sectors.{HasFencedSector}
 
 -- ---- bytes at a place
@@ -88,46 +91,47 @@ module _ (page : List ℕ) (size : length page ≡ 4096) (start end count q : �
 fourth_full : (page : List ℕ) (q : ℕ) → q ≡ 0 → ((i : ℕ) → i < 512 → slice_index page (512 * q + i) ≡ 255) → slice_index page 3 ≡ 255
 fourth_full page q first full = let place : 512 * q + 3 ≡ 3 = omega (arith, first) in ap (slice_index page) (sym place) ∙ full 3 (omega arith)
 
-root_few : (f : ℕ) → IsKnown f → (root_digit f ≡ 255 → ⊥) × ((count : ℕ) → count ≤ 24 → 21 + locator_size (marks_in f) * count + 32 ≤ 512)
-root_few f (inl two) = subst (λ n. (root_digit n ≡ 255 → ⊥) × ((count : ℕ) → count ≤ 24 → 21 + locator_size (marks_in n) * count + 32 ≤ 512)) (sym two) ((λ is. omega (arith, is)), (λ count le. omega (arith, le)))
-root_few f (inr three) = subst (λ n. (root_digit n ≡ 255 → ⊥) × ((count : ℕ) → count ≤ 24 → 21 + locator_size (marks_in n) * count + 32 ≤ 512)) (sym three) ((λ is. omega (arith, is)), (λ count le. omega (arith, le)))
+root_few : (n : FormatNumber) → (page_digit n ≡ 255 → ⊥) × ((count : ℕ) → count ≤ 24 → 1 + count_at n + locator_size (is_marked n) * count + 32 ≤ 512)
+root_few of_number.Two = ((λ is. omega (arith, is)), (λ count le. omega (arith, le)))
+root_few of_number.Four = ((λ is. omega (arith, is)), (λ count le. omega (arith, le)))
 
-pub no_root : (f : ℕ) (page : List ℕ) → IsKnown f → IsPage page → HasFencedSector page → root_fault f page ≢ None
-no_root f page known is has whole =
-    let it = roots.sound f page is.size whole in
-    let rules = root_few f known in
-    let most = roots.most_runs f in
-    let end = rules.1 (slice_index page 20) (omega (arith, it.count, most)) in
+pub no_root : (n : FormatNumber) (page : List ℕ) → IsPage page → HasFencedSector page → root_fault n page ≢ None
+no_root n page is has whole =
+    let it = roots.sound n page is.size whole in
+    let rules = root_few n in
+    let most = roots.most_runs n in
+    let end = rules.1 (root_count n page) (omega (arith, it.count, most)) in
     let size = is.size in
     let few = has.1 in
     ⊎_elim
-    (λ (first : has.0 ≡ 0). rules.0 (sym (roots.fourth_is f page whole) ∙ fourth_full page has.0 first has.2))
+    (λ (first : has.0 ≡ 0). rules.0 (sym (roots.fourth_is n page whole) ∙ fourth_full page has.0 first has.2))
     (λ (later : has.0 ≢ 0).
-    let zero_there = zero_at page (root_end f page + 32) (512 * has.0 + 0) it.padding (omega (arith, end, later)) (omega (arith, few, size)) in
+    let zero_there = zero_at page (root_end n page + 32) (512 * has.0 + 0) it.padding (omega (arith, end, later)) (omega (arith, few, size)) in
     let fence_there = has.2 0 (omega arith) in omega (arith, zero_there, fence_there))
     (cases_eq has.0 0)
 
+section_few : (n : FormatNumber) → 255 ≡ section_digit n → ⊥
+section_few of_number.Two is = omega (arith, is)
+section_few of_number.Four is = omega (arith, is)
+
 -- a section: one of its extents is full
-pub section_full : (f : ℕ) (page : List ℕ) → IsKnown f → IsPage page → HasFencedSector page → superblock_fault f page ≡ None → (P : ℕ × ℕ → Type 0) → AllByRecursion P (superblock_extents f page) → P (65535, 4294967295)
-section_full f page known is has whole P all =
-    let it = sound page (48 + f) (superblocks.counts f page) (superblock_end f page) (superblock_extents f page) is.size whole in
-    let numbers = superblocks.counted f (number 12 14 page) (number 14 16 page) (slice_index page 16) (slice_index page 17) known it.counted in
-    let few = superblocks.few_record_bytes f in
+pub section_full : (n : FormatNumber) (page : List ℕ) → IsPage page → HasFencedSector page → superblock_fault n page ≡ None → (P : ℕ × ℕ → Type 0) → AllByRecursion P (superblock_extents n page) → P (65535, 4294967295)
+section_full n page is has whole P all =
+    let it = sound page (section_digit n) (superblocks.counts n page) (superblock_end n page) (superblock_extents n page) is.size whole in
+    let format = format_in n page in
+    let numbers = superblocks.counted format (extents_said page) (pages_said page) (slice_index page 16) (slice_index page 17) (superblocks.format_read_fits n page is) it.counted in
+    let early = superblocks.low_start n in
     ⊎_elim
-    (λ (first : has.0 ≡ 0). absurd (let fourth = superblocks.fourth_is f page whole in let full = fourth_full page has.0 first has.2 in digit_known f known (sym full ∙ fourth)))
+    (λ (first : has.0 ≡ 0). absurd (section_few n (sym (fourth_full page has.0 first has.2) ∙ superblocks.fourth_is n page whole)))
     (λ (later : has.0 ≢ 0).
-    full_there page is.size (superblock_start f) (superblock_end f page) (section_count page) has.0 refl (superblocks.end_in_page f _ _ _ _ numbers.geometry) (omega (arith, few)) it.padding (omega (arith, later)) has.1 has.2 P all)
+    full_there page is.size (superblock_start n) (superblock_end n page) (section_count page) has.0 refl (superblocks.end_in_page n format _ _ _ (slice_index page 17) numbers.geometry) (omega (arith, early)) it.padding (omega (arith, later)) has.1 has.2 P all)
     (cases_eq has.0 0)
-  where
-    digit_known : (f : ℕ) → IsKnown f → 255 ≡ 48 + f → ⊥
-    digit_known f (inl two) same = omega (arith, two, same)
-    digit_known f (inr three) same = omega (arith, three, same)
 
 -- in the first format none can be, since no extent has so many pages
 pub no_first : (page : List ℕ) → IsPage page → HasFencedSector page → first_format_fault page ≢ None
 no_first page is has whole =
-    let it = sound page 49 (in_bounds 2 greatest_superblock_extents (number 12 14 page) (number 14 16 page)) (first_format_end page) (first_format_extents page) is.size whole in
-    let bounds = within 2 greatest_superblock_extents (number 12 14 page) (number 14 16 page) it.counted in
+    let it = sound page 49 (in_bounds Two greatest_superblock_extents (number 12 14 page) (number 14 16 page)) (first_format_end page) (first_format_extents page) is.size whole in
+    let bounds = within Two greatest_superblock_extents (number 12 14 page) (number 14 16 page) it.counted in
     ⊎_elim
     (λ (first : has.0 ≡ 0). let fourth = frames.fourth_is page whole in let full = fourth_full page has.0 first has.2 in omega (arith, fourth, full))
     (λ (later : has.0 ≢ 0).
@@ -139,8 +143,8 @@ no_first page is has whole =
 pub no_zero : (page : List ℕ) → IsPage page → HasFencedSector page → AllByRecursion (λ (row : ℕ × ℕ). row ≢ (65535, 4294967295)) (superblock_extents (zero_format page) page) → page_zero_fault page ≢ None
 no_zero page is has less whole = ⊎_elim
     (λ (first : first_format_fault page ≡ None). no_first page is has first)
-    (λ (section : superblock_fault (zero_format page) page ≡ None). section_full (zero_format page) page (frames.zero_format-known page) is has section (λ (row : ℕ × ℕ). row ≢ (65535, 4294967295)) less refl)
+    (λ (section : superblock_fault (zero_format page) page ≡ None). section_full (zero_format page) page is has section (λ (row : ℕ × ℕ). row ≢ (65535, 4294967295)) less refl)
     (frames.zero_is_one page whole)
 
-pub no_section : (f : ℕ) (page : List ℕ) → IsKnown f → IsPage page → HasFencedSector page → AllByRecursion (λ (row : ℕ × ℕ). row ≢ (65535, 4294967295)) (superblock_extents f page) → superblock_fault f page ≢ None
-no_section f page known is has less whole = section_full f page known is has whole (λ (row : ℕ × ℕ). row ≢ (65535, 4294967295)) less refl
+pub no_section : (n : FormatNumber) (page : List ℕ) → IsPage page → HasFencedSector page → AllByRecursion (λ (row : ℕ × ℕ). row ≢ (65535, 4294967295)) (superblock_extents n page) → superblock_fault n page ≢ None
+no_section n page is has less whole = section_full n page is has whole (λ (row : ℕ × ℕ). row ≢ (65535, 4294967295)) less refl

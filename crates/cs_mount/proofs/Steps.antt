@@ -1,4 +1,4 @@
--- The three steps in which a new store is laid, one after another.
+-- The twins steps in which a new store is laid, one after another.
 use Rattle.std.proofs.Common.{◌≡◌, ◌∙◌, inl, inr, Result, Ok, Err, OnOk, ap, subst}
 use Rattle.cs_disk.specs.declared.disk.PageDisk.{Ghosts as PageDisk}
 use Rattle.cs_disk.specs.Disk.{MayLeave, State, flushed}

@@ -1,12 +1,15 @@
 -- The pairs of a store lie apart.
-use Rattle.std.proofs.Common.{◌≡◌, ⊎_elim, if◌then◌else◌, ◌==◌, ℕ, zero, suc, ◌+◌, ◌-◌, ◌*◌, ◌<◌, ◌≤◌, Bool, true, false, List, [], ◌∷◌, ◌++◌, Some, slice_get, map, nat_lt, refl, sym, ◌∙◌, ap, subst, arith, eq-eqb}
-use Rattle.std.proofs.lemmas.Bool.{cases_lt, ne_eqb}
+use Rattle.std.proofs.Common.{◌≡◌, ⊎_elim, if◌then◌else◌, ℕ, zero, suc, ◌+◌, ◌-◌, ◌*◌, ◌<◌, ◌≤◌, Bool, true, false, List, [], ◌∷◌, ◌++◌, Some, slice_get, map, nat_lt, refl, sym, ◌∙◌, ap, subst, arith}
+use Rattle.std.proofs.lemmas.Bool.{cases_lt}
 use Rattle.std.proofs.lemmas.List.FromFn.{map-range_with_len_more}
 use Rattle.std.proofs.lemmas.Bool.Decides.{nat_tests}
 use Rattle.std.proofs.Math.Nat.{le-mul_of_pos_right}
 use Rattle.std.proofs.lemmas.Option.{same_Some}
 use Rattle.std.specs.List.{range_with_len}
-use Rattle.cs_frame.specs.Geometries.{Dimensions, IsGeometry, kept_pages}
+use Rattle.cs_frame.specs.Geometries.{Dimensions, FitsDevice, IsGeometry, device_pages}
+use Rattle.cs_frame.proofs.GeometryLaws.{bounds}
+use Rattle.law_machine.specs.Format.{Format, Four, Two}
+use Rattle.law_machine.specs.Geometry.{twins_in}
 use Rattle.cs_twin.specs.declared.pairs.Pair.{Pair}
 use Rattle.cs_twin.specs.Pairs.{ArePairs, half}
 use Rattle.cs_mount.specs.StorePairs.{pages_of, store_pair, store_pairs}
@@ -25,7 +28,7 @@ pub high : (F k : ℕ) → 2 ≤ k → (if nat_lt k 2 then k else F + k) ≡ F +
 high F k le = grind (arith, nat_tests)
 
 -- frames, pages of the device, and sections
-module _ (F N S : ℕ) (some : 2 ≤ F) (total : N ≡ 2 + F + 2 * S) where
+module _ (F N S : ℕ) (some : 2 ≤ F) (total : 2 + F + 2 * S ≤ N) where
   abbrev at : ℕ → Bool → ℕ
   at k twin = if twin then N - (1 + k) else (if nat_lt k 2 then k else F + k)
 
@@ -58,24 +61,27 @@ module _ (F N S : ℕ) (some : 2 ≤ F) (total : N ≡ 2 + F + 2 * S) where
   one_place i j false false a b same = (own_one i j same, refl)
 
 -- a store has frames
-pub frames : (d : Dimensions) → IsGeometry d.format d.extents d.pages d.sections → d.format ≡ 3 → 2 ≤ d.extents * d.pages
-frames d g three =
-    let many = subst (λ f. (if f == 3 then 5 else 4) ≤ d.extents) three g.fewest_extents in
+pub frames : (d : Dimensions) → IsGeometry d.format d.extents d.pages d.sections → twins_in d.format ≡ true → 2 ≤ d.extents * d.pages
+frames d g twins =
+    let many = (bounds d.format d.extents d.pages d.sections g).fewest_extents in
     let some = le-mul_of_pos_right {m = d.pages} d.extents (omega (arith, g.fewest_pages)) in
     omega (arith, many, some)
 
-pub total_pages : (d : Dimensions) → d.format ≡ 3 → pages_of d ≡ 2 + d.extents * d.pages + 2 * d.sections
-total_pages d three =
-    let kept : kept_pages d.format d.sections ≡ 1 + d.sections = ap (λ (b : Bool). if b then 1 + d.sections else 0) (eq-eqb d.format 3 three) in
-    omega (arith, kept)
+room_in : (format : Format) (extents pages sections : ℕ) → twins_in format ≡ true → FitsDevice format extents pages sections → 2 + extents * pages + 2 * sections ≤ device_pages format extents pages sections
+room_in Two extents pages sections twins fits = cc twins
+room_in (Four store device) extents pages sections twins fits = fits
 
--- The pairs of a store of format 3 lie apart, on its device.
-pub are_store_pairs : (d : Dimensions) → IsGeometry d.format d.extents d.pages d.sections → d.format ≡ 3 → ArePairs (map (store_pair d) (range_with_len 0 (1 + d.sections))) (pages_of d)
-are_store_pairs d g three =
+-- The device has room for two of the root and of each section.
+pub total_pages : (d : Dimensions) → IsGeometry d.format d.extents d.pages d.sections → twins_in d.format ≡ true → 2 + d.extents * d.pages + 2 * d.sections ≤ pages_of d
+total_pages d g twins = room_in d.format d.extents d.pages d.sections twins g.fits_device
+
+-- The pairs of a store lie apart, on its device.
+pub are_store_pairs : (d : Dimensions) → IsGeometry d.format d.extents d.pages d.sections → twins_in d.format ≡ true → ArePairs (map (store_pair d) (range_with_len 0 (1 + d.sections))) (pages_of d)
+are_store_pairs d g twins =
     let F = d.extents * d.pages in
     let N = pages_of d in
-    let some = frames d g three in
-    let total = total_pages d three in
+    let some = frames d g twins in
+    let total = total_pages d g twins in
     record {
       inside = λ k x twin at_k.
           let made = made_at (store_pair d) 0 (1 + d.sections) k x at_k in
@@ -98,15 +104,15 @@ pairs_more d pairs new k x before is pushed =
     pushed ∙ ap (λ (l : List Pair). l ++ x ∷ []) before ∙ ap (λ (y : Pair). map (store_pair d) (range_with_len 0 k) ++ y ∷ []) is ∙ sym (map-range_with_len_more (store_pair d) 0 k k (omega arith))
 
 -- and all
-pub listed : (d : Dimensions) (pairs : List Pair) (k : ℕ) → d.format ≡ 3 → k ≡ 1 + d.sections → pairs ≡ map (store_pair d) (range_with_len 0 k) → pairs ≡ store_pairs d
-listed d pairs k three all is =
-    is ∙ ap (λ n. map (store_pair d) (range_with_len 0 n)) all ∙ sym (ap (λ (b : Bool). if b then map (store_pair d) (range_with_len 0 (1 + d.sections)) else []) (eq-eqb d.format 3 three))
+pub listed : (d : Dimensions) (pairs : List Pair) (k : ℕ) → twins_in d.format ≡ true → k ≡ 1 + d.sections → pairs ≡ map (store_pair d) (range_with_len 0 k) → pairs ≡ store_pairs d
+listed d pairs k twins all is =
+    is ∙ ap (λ n. map (store_pair d) (range_with_len 0 n)) all ∙ sym (ap (λ (b : Bool). if b then map (store_pair d) (range_with_len 0 (1 + d.sections)) else []) twins)
 
-pub listed_apart : (d : Dimensions) (pairs : List Pair) (k : ℕ) → IsGeometry d.format d.extents d.pages d.sections → d.format ≡ 3 → k ≡ 1 + d.sections → pairs ≡ map (store_pair d) (range_with_len 0 k) → ArePairs pairs (pages_of d)
-listed_apart d pairs k g three all is = subst (λ (l : List Pair). ArePairs l (pages_of d)) (sym (is ∙ ap (λ n. map (store_pair d) (range_with_len 0 n)) all)) (are_store_pairs d g three)
+pub listed_apart : (d : Dimensions) (pairs : List Pair) (k : ℕ) → IsGeometry d.format d.extents d.pages d.sections → twins_in d.format ≡ true → k ≡ 1 + d.sections → pairs ≡ map (store_pair d) (range_with_len 0 k) → ArePairs pairs (pages_of d)
+listed_apart d pairs k g twins all is = subst (λ (l : List Pair). ArePairs l (pages_of d)) (sym (is ∙ ap (λ n. map (store_pair d) (range_with_len 0 n)) all)) (are_store_pairs d g twins)
 
-pub unlisted : (d : Dimensions) (pairs : List Pair) → (d.format ≡ 3 → ⊥) → pairs ≡ [] → pairs ≡ store_pairs d
-unlisted d pairs other none = none ∙ sym (ap (λ (b : Bool). if b then map (store_pair d) (range_with_len 0 (1 + d.sections)) else []) (ne_eqb d.format 3 other))
+pub unlisted : (d : Dimensions) (pairs : List Pair) → twins_in d.format ≡ false → pairs ≡ [] → pairs ≡ store_pairs d
+unlisted d pairs other none = none ∙ sym (ap (λ (b : Bool). if b then map (store_pair d) (range_with_len 0 (1 + d.sections)) else []) other)
 
 pub unlisted_apart : (pairs : List Pair) (n : ℕ) → pairs ≡ [] → ArePairs pairs n
 unlisted_apart pairs n none = subst (λ (l : List Pair). ArePairs l n) (sym none) (no_pairs n)

@@ -5,10 +5,13 @@ use Rattle.cs_frame.specs.Bytes.{field, number}
 use Rattle.cs_frame.specs.declared.faults.FormatFault.{FormatFault}
 use Rattle.cs_frame.specs.declared.faults.FormatFault.TheVariants.{BadMagic}
 use Rattle.cs_frame.specs.Faults.{first_fault, unless}
+use Rattle.cs_frame.specs.FormatNumbers.{number_in}
 use Rattle.cs_frame.specs.Geometries.{Dimensions}
+use Rattle.cs_frame.specs.Roots.{root_fault}
 use Rattle.cs_frame.specs.Superblocks.{superblock_fault}
+use Rattle.law_machine.specs.Format.{Format}
 use Rattle.cs_twin.specs.Pairs.{fence}
-use Rattle.cs_mount.specs.StorePairs.{is_section, root_version, section_at, section_version, store_version, without_fault}
+use Rattle.cs_mount.specs.StorePairs.{is_root, is_section, root_version, section_at, section_version, store_version, without_fault}
 
 -- where the first test fails nothing is spelled
 hollow : (b : Bool) (fault : FormatFault) (rest : List (Option FormatFault)) (n : ℕ) → b ≡ false → without_fault (first_fault (unless b fault ∷ rest)) n ≡ 0
@@ -27,11 +30,11 @@ no_root_magic : bytes_eq (field 0 3 fence) (codes "CSR") ≡ false
 unfolding fence
 no_root_magic = refl
 
-no_root : (format : ℕ) → root_version format fence ≡ 0
-no_root format = hollow (bytes_eq (field 0 3 fence) (codes "CSR")) BadMagic _ (number 4 12 fence) no_root_magic
+no_root : (format : Format) → root_version format fence ≡ 0
+no_root format = either_zero (is_root format fence) (without_fault (root_fault (number_in format) fence) (number 4 12 fence)) 0 (hollow (bytes_eq (field 0 3 fence) (codes "CSR")) BadMagic _ (number 4 12 fence) no_root_magic) refl
 
 no_section : (d : Dimensions) (j : ℕ) → section_version d j fence ≡ 0
-no_section d j = either_zero (is_section d j fence) (without_fault (superblock_fault d.format fence) (number 4 12 fence)) 0 (hollow (bytes_eq (field 0 3 fence) (codes "CSS")) BadMagic _ (number 4 12 fence) no_magic) refl
+no_section d j = either_zero (is_section d j fence) (without_fault (superblock_fault (number_in d.format) fence) (number 4 12 fence)) 0 (hollow (bytes_eq (field 0 3 fence) (codes "CSS")) BadMagic _ (number 4 12 fence) no_magic) refl
 
 -- Whatever the store, and whatever the page.
 pub no_fence : (store : Option Dimensions) (p : ℕ) → store_version store p fence ≡ 0

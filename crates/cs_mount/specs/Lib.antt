@@ -1,5 +1,7 @@
+pub mod Identities
 pub mod StorePairs
 pub mod Showing
+pub mod Repaged
 pub mod Lowered
 pub mod OlderDisks
 pub mod OfStores
@@ -10,3 +12,6 @@ pub mod Torn
 pub mod Makings
 pub mod Hollow
 pub mod Sectors
+pub mod Hidden
+pub mod ChosenDisks
+pub mod Ends

@@ -1,11 +1,12 @@
--- How a new store of format 3 is laid on its disk, and what a crash meanwhile may leave.
+-- How a new store is laid on its disk, and what a crash meanwhile may leave.
 use Rattle.std.specs.Prelude.{◌≡◌, ◌≢◌, ◌⊎◌, ◌==◌, ◌<◌, ◌+◌, ◌-◌, ◌++◌, ℕ, zero, suc, Bool, if◌then◌else◌, List, [], ◌∷◌, Some, None, length, map, replicate, slice_get}
 use Rattle.cs_disk.specs.declared.disk.PageDisk.{Ghosts as PageDisk}
 use Rattle.cs_disk.specs.Disk.{Image, Leaves, LeavesOnly, MayLeave, State, Write, flushed, page}
+use Rattle.cs_frame.specs.declared.formats.FormatNumber.TheVariants as of_number
 use Rattle.cs_frame.specs.FirstFormat.{page_zero_fault}
 use Rattle.cs_frame.specs.Formats.{formats_of}
 use Rattle.cs_frame.specs.Geometries.{Dimensions, section_length}
-use Rattle.cs_frame.specs.Roots.{spelled_root}
+use Rattle.cs_frame.specs.Roots.{identity_in, spelled_root}
 use Rattle.cs_frame.specs.Superblocks.{spelled_superblock, superblock_fault}
 use Rattle.law_machine.specs.Recovery.{Recovers}
 use Rattle.cs_twin.specs.declared.findings.Half.TheVariants.{Whole}
@@ -25,7 +26,7 @@ new_section d j = spelled_superblock d.format 1 0 d.extents d.pages d.sections j
 
 -- its root: version 1, of no commands and no runs
 unfoldable pub new_root : Dimensions → List ℕ
-new_root d = spelled_root d.format 1 0 []
+new_root d = spelled_root (identity_in d.format) 1 0 []
 
 -- which section the pair at this place is of, but for that of the root
 abbrev pub section_of_pair : (k : ℕ) → ℕ
@@ -111,4 +112,4 @@ pub record IsTornLaying (d : Dimensions) (before image : Image) : Type 0 where
   pub size : length image ≡ length before
   pub others : (p : ℕ) → p ≢ 0 → p ≢ pages_of d - 1 → page image p ≡ page before p
   pub first : (page image 0 ≡ new_section d 0) ⊎ (page_zero_fault (page image 0) ≢ None)
-  pub last : (page image (pages_of d - 1) ≡ new_section d 0) ⊎ (superblock_fault 3 (page image (pages_of d - 1)) ≢ None)
+  pub last : (page image (pages_of d - 1) ≡ new_section d 0) ⊎ (superblock_fault of_number.Four (page image (pages_of d - 1)) ≢ None)

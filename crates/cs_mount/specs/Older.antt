@@ -13,9 +13,14 @@ abbrev pub as_of : Option Dimensions → (root : ℕ) → Image → Image
 as_of None root image = image
 as_of (Some d) root image = lowered d root image
 
--- the version of the newest root of format 3 that is whole, which is that on page 1 as the image shows: 0 where none is
+-- the version of the root of these dimensions that is on page 1 as the image shows
+abbrev pub root_shown : Option Dimensions → Image → ℕ
+root_shown None shows = 0
+root_shown (Some d) shows = root_version d.format (page shows 1)
+
+-- the version of the newest root of the store that is whole: 0 where none is
 abbrev pub newest_root : (pages : ℕ) → Image → ℕ
-newest_root pages image = root_version 3 (page (shown_on pages image) 1)
+newest_root pages image = root_shown (dimensions_on pages image) (shown_on pages image)
 
 -- an image as it shows, as of that root
 abbrev pub older_on : (pages : ℕ) → Image → Image

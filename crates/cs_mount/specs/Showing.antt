@@ -7,7 +7,7 @@ use Rattle.cs_twin.specs.Findings.{finding_in}
 use Rattle.cs_twin.specs.Pairs.{Shows, shown}
 use Rattle.cs_mount.specs.StorePairs.{dimensions_on, pairs_where, store_pairs, store_version}
 
--- an image as it shows: itself where no store of format 3 is on it
+-- an image as it shows: itself where no store of format 4 is on it
 abbrev pub shown_on : (pages : ℕ) → Image → Image
 shown_on pages image = shown (store_version (dimensions_on pages image)) (pairs_where (dimensions_on pages image)) image
 

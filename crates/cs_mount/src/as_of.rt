@@ -1,16 +1,17 @@
 //! A disk that shows a store as of an older root.
 ghost use Rattle.std.specs.Prelude.{◌≡◌, ◌+◌, ◌-◌, ◌^◌, IsOkUnless, OnOk, min};
 ghost use Rattle.cs_disk.specs.Disk.{IsWhole};
-ghost use Rattle.cs_mount.specs.Lowered.{LowersKept, is_of_section, left_lowered, lowered_at, lowered_page, lowered_state};
+ghost use Rattle.cs_mount.specs.Lowered.{is_of_section, lowered_at, lowered_page, lowered_state};
+ghost use Rattle.cs_mount.specs.Repaged.{RepagesKept, left_repaged};
 
-use crate::store_pairs::unless_memory;
+use crate::identities::unless_memory;
 use cs_disk::{CrashDisk, DiskFault, PageDisk};
-use cs_frame::{Format, Geometry, Superblock, decode_section, encode_superblock};
+use cs_frame::{FormatNumber, Geometry, Superblock, decode_section, encode_superblock};
 use std::alloc::Global;
 
-/// A disk over which a store of format 3 opens, though a newer root was persistent than is whole: it shows each
-/// section of the superblock as if that root hadn't been persistent as it was written. Nothing is written by way of
-/// it: a write is refused 1 DeviceFault, and counted.
+/// A disk over which a store opens, though a newer root was persistent than is whole: it shows each section of the
+/// superblock as if that root hadn't been persistent as it was written. Nothing is written by way of it: a write is
+/// refused 1 DeviceFault, and counted.
 ///
 /// It is honest where the disk below is. That is said of its calls alone: what it shows was maybe never all there at
 /// once, as what that root names may have been written over since.
@@ -22,7 +23,7 @@ pub struct AsOf<D: PageDisk> {
     root: u64,
     refused: u64,
     // What the trait's laws are told.
-    ghost lowers: { LowersKept geometry root (D.state disk) },
+    ghost lowers: { RepagesKept (lowered_at geometry root) (D.state disk) },
     ghost whole: { D.honest disk → IsWhole (lowered_state geometry root (D.state disk)) },
 }
 
@@ -83,7 +84,7 @@ fn lower(alloc: Global, root: u64, bytes: &mut [u8; 4096]) -> Result<(), DiskFau
     ensures lowered { OnOk result (bytes.new ≡ lowered_page root bytes.old) }
     ensures memory { IsOkUnless result DiskFault.OutOfMemory }
 {
-    match decode_section(alloc, bytes, Format::three()) {
+    match decode_section(alloc, bytes, FormatNumber::Four) {
         Ok(superblock) => {
             *bytes = encode_superblock(&lowered(superblock, root));
             Ok(())
@@ -112,7 +113,7 @@ fn lower_page(
 
 impl<D: PageDisk> PageDisk for AsOf<D> {
     ghost use Rattle.std.proofs.Common.{◌∙◌};
-    ghost use Rattle.cs_mount.specs.Lowered.{counts_lowered, only_lowered, sized_lowered};
+    ghost use Rattle.cs_mount.specs.Repaged.{counts_repaged, only_repaged, sized_repaged};
 
     ghost honest = { λ d. D.honest d.disk };
 
@@ -132,7 +133,7 @@ impl<D: PageDisk> PageDisk for AsOf<D> {
 
     ghost moment = { λ d. D.moment d.disk };
 
-    ghost left_since = { λ d. left_lowered d.geometry d.root (D.left_since d.disk) };
+    ghost left_since = { λ d. left_repaged (lowered_at d.geometry d.root) (D.left_since d.disk) };
 
     fn pages(&self) -> u64 {
         self.disk.pages()
@@ -159,13 +160,13 @@ impl<D: PageDisk> PageDisk for AsOf<D> {
         self.disk.flush()
     }
 
-    ghost sized = { λ d h. sized_lowered d.geometry d.root (D.state d.disk).durable ∙ D.sized d.disk h };
+    ghost sized = { λ d h. sized_repaged (lowered_at d.geometry d.root) (D.state d.disk).durable ∙ D.sized d.disk h };
 
     ghost whole = { λ d h. d.whole h };
 
-    ghost counts_now = { λ d t c h le now. counts_lowered d.geometry d.root (D.state d.disk) d.lowers (D.left_since d.disk) t (λ image is. D.counts_now d.disk t image h le is) c now };
+    ghost counts_now = { λ d t c h le now. counts_repaged (lowered_at d.geometry d.root) (D.state d.disk) d.lowers (D.left_since d.disk) t (λ image is. D.counts_now d.disk t image h le is) c now };
 
-    ghost only_now = { λ d c h left. only_lowered d.geometry d.root (D.state d.disk) d.lowers (D.left_since d.disk) (D.moment d.disk) (λ image is. D.only_now d.disk image h is) c left };
+    ghost only_now = { λ d c h left. only_repaged (lowered_at d.geometry d.root) (D.state d.disk) d.lowers (D.left_since d.disk) (D.moment d.disk) (λ image is. D.only_now d.disk image h is) c left };
 }
 
 impl<D: PageDisk> CrashDisk for AsOf<D> {

@@ -1,5 +1,5 @@
 //! How new stores are made over disks in pairs: methods of `MountOptions`.
-ghost use Rattle.std.specs.Prelude.{◌↔◌, ◌≡◌, ◌≢◌, ◌⊎◌, Err, IfErr, IfOk, MatchResult, None, OnOk, Some, []};
+ghost use Rattle.std.specs.Prelude.{◌↔◌, ◌≡◌, ◌≢◌, ◌⊎◌, Err, IfErr, IfOk, MatchResult, None, OnOk, Some, [], true, false};
 ghost use Rattle.cs_core.specs.Started.{IsNewOn, new_stored};
 ghost use Rattle.cs_core.specs.cs_chunk.Reads.{IsNoAnswer};
 ghost use Rattle.cs_core.specs.cs_extent.State.{shape};
@@ -7,6 +7,7 @@ ghost use Rattle.cs_disk.specs.Disk.{Image, Leaves, Rises, flushed, page, seen};
 ghost use Rattle.cs_frame.specs.Formats.{formats_of};
 ghost use Rattle.cs_frame.specs.Geometries.{IsGeometry, device_pages};
 ghost use Rattle.cs_mount.specs.Looks.{IsTaken};
+ghost use Rattle.law_machine.specs.Geometry.{twins_in};
 ghost use Rattle.cs_mount.specs.Makings.{HoldsBoth, LeavesLaying};
 ghost use Rattle.cs_mount.specs.OfStores.{IsOfStore};
 ghost use Rattle.cs_mount.specs.StorePairs.{blank_disk, pages_of, store_pairs, store_version};
@@ -24,8 +25,8 @@ use cs_frame::Geometry;
 use cs_refusal::Refusal;
 use cs_twin::{Pair, Paired};
 
-/// The refusal of a making whose store isn't opened. Of an honest disk it is that of the opening. Such a disk opens what
-/// was laid on it, unless the device refuses a call or memory runs out.
+/// The refusal of a making whose store isn't opened. Of an honest disk it is that of the opening. Such a disk opens
+/// what was laid on it, unless the device refuses a call or memory runs out.
 fn refusal_of_making(refusal: Refusal) -> Refusal
     ensures refusals { (result ≡ Refusal.DeviceFault) ⊎ (result ≡ Refusal.OutOfMemory) }
     ensures same { IsNoAnswer refusal → result ≡ refusal }
@@ -36,14 +37,14 @@ fn refusal_of_making(refusal: Refusal) -> Refusal
     }
 }
 
-/// Lays a new store of format 3 on a disk, and opens it.
+/// Lays a new store on a disk, and opens it.
 fn make_twice<D: PageDisk + Drop>(
     options: MountOptions,
     disk: D,
     geometry: Geometry,
 ) -> Result<Core<Mounted<D>>, (Refusal, D)>
     requires geometry { IsGeometry geometry.format geometry.extents geometry.pages geometry.sections }
-    requires twins { geometry.format ≡ 3 }
+    requires twins { twins_in geometry.format ≡ true }
     requires sized { pages_of geometry ≡ D.page_count disk }
     ensures new { IfOk result (λ core. (core.history ≡ []) × (core.base ≡ 0) × (core.limit ≡ options.history)) }
     ensures store { D.honest disk → IfOk result (λ core. core.store ≡ new_stored geometry.format geometry.extents geometry.pages geometry.sections) }
@@ -82,7 +83,7 @@ fn make_once<D: PageDisk + Drop>(
     pairs: Vec<Pair>,
 ) -> Result<Core<Mounted<D>>, (Refusal, D)>
     requires geometry { IsGeometry geometry.format geometry.extents geometry.pages geometry.sections }
-    requires single { geometry.format ≡ 2 }
+    requires single { twins_in geometry.format ≡ false }
     requires sized { pages_of geometry ≡ D.page_count disk }
     requires pairs { pairs.items ≡ store_pairs geometry }
     requires are { ArePairs pairs.items (D.page_count disk) }
@@ -126,8 +127,8 @@ impl MountOptions {
     /// After 1 and 9 the superblock and the root may be there in part.
     ///
     /// A disk is occupied if page 0 is a first section of a superblock, of whatever format and geometry. It is also
-    /// occupied if the last page is one of format 3, or if a page is whole of which the new store has two. So is what is
-    /// left of a making that was cut off in its second step: `create_over` takes it.
+    /// occupied if the last page is one of format 4, or if a page is whole of which the new store has two. So is what
+    /// is left of a making of the same store that was cut off in its second step: `create_over` takes it.
     pub fn create<D: PageDisk + Drop>(
         self,
         disk: D,
@@ -152,12 +153,12 @@ impl MountOptions {
         ensures cause { D.honest disk → IfErr result (λ refused. refused.0 ≡ Refusal.DeviceFault → Rises (D.failure_count disk) (D.failure_count refused.1)) }
         // No store is made there, and it is as it was then.
         ensures taken { D.honest disk → IsTaken (D.page_count disk) (seen (D.state disk)) (store_version (Some geometry)) (store_pairs geometry) → MatchResult result (λ core. ⊥) (λ refused. D.state refused.1 ≡ D.state disk) }
-        // From format 3 on both pages of each pair hold version 1.
-        ensures both { D.honest disk → geometry.format ≡ 3 → IfOk result (λ core. HoldsBoth geometry (D.state (disk_below core.disk))) }
+        // Both pages of each pair hold version 1. In format 2 there are no pairs.
+        ensures both { D.honest disk → twins_in geometry.format ≡ true → IfOk result (λ core. HoldsBoth geometry (D.state (disk_below core.disk))) }
         // A crash meanwhile leaves what shows as what one within `lay_store` may leave: `a_crash_of_a_making`.
-        ensures crash { D.honest disk → geometry.format ≡ 3 → IfOk result (λ core. (left : Image) → left_as_shown core.disk (D.moment disk) left → Shows (store_version (Some geometry)) (store_pairs geometry) (LeavesLaying geometry (D.state disk)) left) }
+        ensures crash { D.honest disk → twins_in geometry.format ≡ true → IfOk result (λ core. (left : Image) → left_as_shown core.disk (D.moment disk) left → Shows (store_version (Some geometry)) (store_pairs geometry) (LeavesLaying geometry (D.state disk)) left) }
         // So does one after a refusal.
-        ensures left { D.honest disk → geometry.format ≡ 3 → IfErr result (λ refused. Leaves (D.state refused.1) (LeavesLaying geometry (D.state disk))) }
+        ensures left { D.honest disk → twins_in geometry.format ≡ true → IfErr result (λ refused. Leaves (D.state refused.1) (LeavesLaying geometry (D.state disk))) }
     {
         // Called for its contract alone: what every geometry keeps.
         geometry.extents();
@@ -202,16 +203,16 @@ impl MountOptions {
         ensures honest { MatchResult result (λ core. D.honest disk ↔ D.honest (disk_below core.disk)) (λ refused. D.honest disk ↔ D.honest refused.1) }
         ensures sized { OnOk result (D.page_count disk ≡ device_pages geometry.format geometry.extents geometry.pages geometry.sections) }
         ensures not_a_store { IfErr result (λ refused. (refused.0 ≡ Refusal.NotAStore) ↔ (D.page_count disk ≢ device_pages geometry.format geometry.extents geometry.pages geometry.sections)) }
-        ensures refusals { IfErr result (λ refused. (refused.0 ≡ Refusal.NotAStore) ⊎ ((refused.0 ≡ Refusal.Occupied) × (geometry.format ≡ 2)) ⊎ (refused.0 ≡ Refusal.DeviceFault) ⊎ (refused.0 ≡ Refusal.OutOfMemory)) }
+        ensures refusals { IfErr result (λ refused. (refused.0 ≡ Refusal.NotAStore) ⊎ ((refused.0 ≡ Refusal.Occupied) × (twins_in geometry.format ≡ false)) ⊎ (refused.0 ≡ Refusal.DeviceFault) ⊎ (refused.0 ≡ Refusal.OutOfMemory)) }
         ensures same { D.page_count disk ≢ device_pages geometry.format geometry.extents geometry.pages geometry.sections → result ≡ Err (Refusal.NotAStore, disk) }
         // Of an honest disk the device alone refuses it 1.
         ensures cause { D.honest disk → IfErr result (λ refused. refused.0 ≡ Refusal.DeviceFault → Rises (D.failure_count disk) (D.failure_count refused.1)) }
-        // From format 3 on both pages of each pair hold version 1.
-        ensures both { D.honest disk → geometry.format ≡ 3 → IfOk result (λ core. HoldsBoth geometry (D.state (disk_below core.disk))) }
+        // Both pages of each pair hold version 1. In format 2 there are no pairs.
+        ensures both { D.honest disk → twins_in geometry.format ≡ true → IfOk result (λ core. HoldsBoth geometry (D.state (disk_below core.disk))) }
         // A crash meanwhile leaves what shows as what one within `lay_store` may leave: `a_crash_of_a_making`.
-        ensures crash { D.honest disk → geometry.format ≡ 3 → IfOk result (λ core. (left : Image) → left_as_shown core.disk (D.moment disk) left → Shows (store_version (Some geometry)) (store_pairs geometry) (LeavesLaying geometry (D.state disk)) left) }
+        ensures crash { D.honest disk → twins_in geometry.format ≡ true → IfOk result (λ core. (left : Image) → left_as_shown core.disk (D.moment disk) left → Shows (store_version (Some geometry)) (store_pairs geometry) (LeavesLaying geometry (D.state disk)) left) }
         // So does one after a refusal.
-        ensures left { D.honest disk → geometry.format ≡ 3 → IfErr result (λ refused. Leaves (D.state refused.1) (LeavesLaying geometry (D.state disk))) }
+        ensures left { D.honest disk → twins_in geometry.format ≡ true → IfErr result (λ refused. Leaves (D.state refused.1) (LeavesLaying geometry (D.state disk))) }
     {
         // Called for its contract alone: what every geometry keeps.
         geometry.extents();

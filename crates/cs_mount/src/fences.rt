@@ -21,8 +21,8 @@ use cs_refusal::Refusal;
 /// damaged: the next write to its pair fills it.
 ///
 /// Refused 1 DeviceFault, and 9 OutOfMemory, with the disk. Some of the pages may be fenced then, and the rest not.
-/// What shows is the same, so the store can be opened from the device and this be done again. A store of the older
-/// formats has no page twice, and the disk is flushed alone.
+/// What shows is the same, so the store can be opened from the device and this be done again. A store of
+/// format 2 has no page twice, and the disk is flushed alone.
 pub fn fence<D: PageDisk + Drop>(
     core: Core<Mounted<D>>,
 ) -> Result<Mounted<D>, (Refusal, Mounted<D>)>

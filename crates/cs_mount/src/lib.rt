@@ -1,10 +1,13 @@
-//! How stores lie on their disks: from format 3 on the root and each section of the superblock have two pages, of
-//! which the newest that is whole shows.
+//! How stores lie on their disks: the root and each section of the superblock have two pages, of which the newest that
+//! is whole shows. In format 2 each has one.
 #![tactic(auto)]
 
 mod as_of;
+mod chosen;
 mod creates;
+mod ends;
 mod fences;
+mod identities;
 mod looks;
 mod makings;
 mod mount_laws;
@@ -13,9 +16,12 @@ mod older;
 mod store_pairs;
 
 pub use as_of::AsOf;
+pub use chosen::Chosen;
 pub use cs_core as the_core;
 pub use cs_twin::Finding;
+pub use ends::first_written;
 pub use fences::fence;
+pub use identities::two_stores;
 pub use looks::look;
 pub use makings::lay_store;
 pub use mount_laws::{

@@ -33,8 +33,8 @@ fn read_store<D: PageDisk>(alloc: Global, disk: &mut D) -> Result<Vec<Finding>, 
     }
 }
 
-/// What the pages on a disk hold that a store of format 3 has twice, whether the store opens or not: nothing where
-/// there is no store of format 3. Nothing is flushed or written.
+/// What the pages on a disk hold that a store has twice, whether the store opens or not: nothing if there is no store
+/// of format 4. Nothing is flushed or written.
 ///
 /// Refused 43 NotAStore where it has fewer than 10 pages, 1 DeviceFault, and 9 OutOfMemory.
 pub fn look<D: PageDisk>(alloc: Global, disk: &mut D) -> Result<Vec<Finding>, Refusal>
@@ -60,8 +60,8 @@ fn is_any_whole(found: &[Finding]) -> bool
     found.iter().any(|finding| finding.held().version > 0)
 }
 
-/// Whether the last page holds the first section of a store of format 3 with the device's pages, or one of these
-/// pairs has a half that is whole.
+/// Whether the last page holds the first section of a store with the device's pages, or one of these pairs has a half
+/// that is whole.
 fn is_left<D: PageDisk>(
     alloc: Global,
     disk: &mut D,
@@ -85,7 +85,7 @@ fn is_left<D: PageDisk>(
 }
 
 /// Whether the disk holds a store, or what is left of one: page 0 is the first section of a store, of whatever
-/// format; or, of format 3, the last page is one, or one of these pairs has a half that is whole. Nothing is flushed
+/// format; or, of format 4, the last page is one, or one of these pairs has a half that is whole. Nothing is flushed
 /// or written.
 pub fn is_taken<D: PageDisk>(
     alloc: Global,

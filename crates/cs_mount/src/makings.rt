@@ -1,7 +1,8 @@
-//! How a new store of format 3 is laid on its disk: both halves of each pair, those of section 0 last.
-ghost use Rattle.std.specs.Prelude.{◌-◌, ◌<◌, ◌≡◌, ◌≤◌, ◌↔◌, [], ◌∷◌, OnOk, replicate};
+//! How a new store is laid on its disk: both halves of each pair, those of section 0 last.
+ghost use Rattle.std.specs.Prelude.{◌-◌, ◌<◌, ◌≡◌, ◌≤◌, ◌↔◌, [], ◌∷◌, OnOk, replicate, true};
 ghost use Rattle.cs_disk.specs.Disk.{HasCause, Leaves, LeavesOnly, flushed};
 ghost use Rattle.cs_frame.specs.Geometries.{IsGeometry};
+ghost use Rattle.law_machine.specs.Geometry.{twins_in};
 ghost use Rattle.cs_mount.specs.Makings.{LeavesLaying, LeavesSome, after_writes, both_halves, clearing, halves_up_to, laid, pair_of_section};
 ghost use Rattle.cs_mount.specs.StorePairs.{pages_of};
 
@@ -50,7 +51,7 @@ fn write_section<D: PageDisk>(
     section: u8,
 ) -> Result<(), DiskFault>
     requires geometry { IsGeometry geometry.format geometry.extents geometry.pages geometry.sections }
-    requires twins { geometry.format ≡ 3 }
+    requires twins { twins_in geometry.format ≡ true }
     requires sized { pages_of geometry ≡ D.page_count disk.old }
     requires section { section < geometry.sections }
     ensures written { D.honest disk.old → OnOk result (D.state disk.new ≡ after_writes (D.state disk.old) (both_halves geometry (pair_of_section section))) }
@@ -70,7 +71,7 @@ fn write_section<D: PageDisk>(
 /// Writes a new store's root to both its pages.
 fn write_root<D: PageDisk>(alloc: Global, disk: &mut D, geometry: Geometry) -> Result<(), DiskFault>
     requires geometry { IsGeometry geometry.format geometry.extents geometry.pages geometry.sections }
-    requires twins { geometry.format ≡ 3 }
+    requires twins { twins_in geometry.format ≡ true }
     requires sized { pages_of geometry ≡ D.page_count disk.old }
     ensures written { D.honest disk.old → OnOk result (D.state disk.new ≡ after_writes (D.state disk.old) (both_halves geometry 1)) }
     ensures some { D.honest disk.old → LeavesSome D.PageDisk disk.old disk.new (both_halves geometry 1) }
@@ -79,7 +80,7 @@ fn write_root<D: PageDisk>(alloc: Global, disk: &mut D, geometry: Geometry) -> R
     ensures cause { HasCause (D.failure_count disk.old) (D.failure_count disk.new) result }
 {
     let root = Root {
-        format: geometry.format(),
+        store: geometry.format().store(),
         version: 1,
         commands: 0,
         runs: Vec::new(alloc),
@@ -96,7 +97,7 @@ fn write_others<D: PageDisk>(
     geometry: Geometry,
 ) -> Result<(), DiskFault>
     requires geometry { IsGeometry geometry.format geometry.extents geometry.pages geometry.sections }
-    requires twins { geometry.format ≡ 3 }
+    requires twins { twins_in geometry.format ≡ true }
     requires sized { pages_of geometry ≡ D.page_count disk.old }
     ensures written { D.honest disk.old → OnOk result (D.state disk.new ≡ after_writes (D.state disk.old) (halves_up_to geometry geometry.sections)) }
     ensures some { D.honest disk.old → LeavesSome D.PageDisk disk.old disk.new (halves_up_to geometry geometry.sections) }
@@ -119,7 +120,8 @@ fn write_others<D: PageDisk>(
 
 /// Writes zeros to page 0 and to the last page, and flushes.
 fn clear<D: PageDisk>(disk: &mut D, geometry: Geometry) -> Result<(), DiskFault>
-    requires twins { geometry.format ≡ 3 }
+    requires geometry { IsGeometry geometry.format geometry.extents geometry.pages geometry.sections }
+    requires twins { twins_in geometry.format ≡ true }
     requires sized { pages_of geometry ≡ D.page_count disk.old }
     ensures made { D.honest disk.old → OnOk result (D.state disk.new ≡ flushed (after_writes (D.state disk.old) (clearing geometry))) }
     ensures some { D.honest disk.old → LeavesSome D.PageDisk disk.old disk.new (clearing geometry) }
@@ -137,7 +139,7 @@ fn clear<D: PageDisk>(disk: &mut D, geometry: Geometry) -> Result<(), DiskFault>
 /// Writes a new store's root and its sections from 1 on, and flushes.
 fn lay_others<D: PageDisk>(alloc: Global, disk: &mut D, geometry: Geometry) -> Result<(), DiskFault>
     requires geometry { IsGeometry geometry.format geometry.extents geometry.pages geometry.sections }
-    requires twins { geometry.format ≡ 3 }
+    requires twins { twins_in geometry.format ≡ true }
     requires sized { pages_of geometry ≡ D.page_count disk.old }
     ensures made { D.honest disk.old → OnOk result (D.state disk.new ≡ flushed (after_writes (D.state disk.old) (halves_up_to geometry geometry.sections))) }
     ensures some { D.honest disk.old → LeavesSome D.PageDisk disk.old disk.new (halves_up_to geometry geometry.sections) }
@@ -154,7 +156,7 @@ fn lay_others<D: PageDisk>(alloc: Global, disk: &mut D, geometry: Geometry) -> R
 /// Writes a new store's section 0, and flushes.
 fn lay_first<D: PageDisk>(alloc: Global, disk: &mut D, geometry: Geometry) -> Result<(), DiskFault>
     requires geometry { IsGeometry geometry.format geometry.extents geometry.pages geometry.sections }
-    requires twins { geometry.format ≡ 3 }
+    requires twins { twins_in geometry.format ≡ true }
     requires sized { pages_of geometry ≡ D.page_count disk.old }
     ensures made { D.honest disk.old → OnOk result (D.state disk.new ≡ flushed (after_writes (D.state disk.old) (both_halves geometry 0))) }
     ensures some { D.honest disk.old → LeavesSome D.PageDisk disk.old disk.new (both_halves geometry 0) }
@@ -168,8 +170,8 @@ fn lay_first<D: PageDisk>(alloc: Global, disk: &mut D, geometry: Geometry) -> Re
     }
 }
 
-/// Lays a new store of format 3 on a disk that has its pages, whatever they hold. It takes three steps, with a flush at
-/// the end of each:
+/// Lays a new store on a disk that has its pages, whatever they hold. It takes three steps, with a flush at the end of
+/// each:
 /// 1. zeros on page 0 and on the last page, so that no store is found;
 /// 2. both pages of the root, and of each section but the first;
 /// 3. both pages of section 0.
@@ -182,7 +184,7 @@ pub fn lay_store<D: PageDisk>(
     geometry: Geometry,
 ) -> Result<(), DiskFault>
     requires geometry { IsGeometry geometry.format geometry.extents geometry.pages geometry.sections }
-    requires twins { geometry.format ≡ 3 }
+    requires twins { twins_in geometry.format ≡ true }
     requires sized { pages_of geometry ≡ D.page_count disk.old }
     ensures laid { D.honest disk.old → OnOk result (D.state disk.new ≡ laid geometry (D.state disk.old)) }
     ensures crash { D.honest disk.old → LeavesOnly D.moment D.left_since disk.old disk.new (LeavesLaying geometry (D.state disk.old)) }

@@ -5,6 +5,7 @@ ghost use Rattle.std.specs.List.{AllByRecursion};
 ghost use Rattle.cs_core.specs.Openings.{IfStoreOn, IsOpened, IsOpenedAs};
 ghost use Rattle.cs_core.specs.cs_chunk.Reads.{IsNoAnswer};
 ghost use Rattle.cs_disk.specs.Disk.{Image, LeavesOnly, MayLeave, Rises, flushed, page, seen};
+ghost use Rattle.cs_mount.specs.Identities.{AreOfTwo, IsOfOne};
 ghost use Rattle.cs_mount.specs.Showing.{ShowsOn, findings_on, shown_on};
 ghost use Rattle.cs_reader.specs.Openings.{IsOpeningRefusal, IsWhyNotOpened};
 ghost use Rattle.cs_twin.specs.Findings.{finding_in, passed_over};
@@ -63,7 +64,7 @@ impl MountOptions {
     }
 }
 
-/// A disk over which a store lies: its most important pages have two pages each, but in the older formats.
+/// A disk over which a store lies: its most important pages have two pages each, but in format 2.
 pub type Mounted<D> = Paired<D, StoreRules>;
 
 impl MountOptions {
@@ -74,9 +75,10 @@ impl MountOptions {
     /// pair's other page is whole. Until each such page is filled, by `fence` or `mend`, a write to the superblock or
     /// to the root is refused 1 DeviceFault.
     ///
-    /// If the call is refused, it returns the disk. 43 NotAStore: no store of that many pages is on it. 20 to 26: a
-    /// page is damaged, and if the store has two of it, both are. 27 RootLost: the newest root that is whole is older
-    /// than one that was persistent. 1 DeviceFault, and 9 OutOfMemory.
+    /// If the call is refused, it returns the disk. 43 NotAStore: no store of that many pages is on it, or page 0 and
+    /// the last page are of different stores. 20 to 26: a page is damaged, and if the store has two of it, both are.
+    /// 27 RootLost: the newest root that is whole is older than one that was persistent. 1 DeviceFault, and 9
+    /// OutOfMemory.
     pub fn open<D: PageDisk + Drop>(
         self,
         disk: D,
@@ -84,11 +86,16 @@ impl MountOptions {
         ensures new { IfOk result (λ opened. (opened.0.history ≡ []) × (opened.0.base ≡ 0) × (opened.0.limit ≡ self.history)) }
         ensures image { D.honest disk → IfOk result (λ opened. (opened.0.opened ≡ shown_on (D.page_count disk) (seen (D.state disk))) × (state_shown opened.0.disk ≡ record { durable = shown_on (D.page_count disk) (seen (D.state disk)); volatile = [] })) }
         ensures store { IfOk result (λ opened. IsOpened (D.honest disk) opened.0.opened opened.0.found opened.0.store) }
+        // Page 0 and the last page aren't of different stores.
+        ensures one { D.honest disk → OnOk result (IsOfOne (D.page_count disk) (seen (D.state disk))) }
+        // If they are, it is refused 43 before anything is flushed, unless the device or the memory refuses a call.
+        ensures two { D.honest disk → AreOfTwo (D.page_count disk) (seen (D.state disk))
+            → MatchResult result (λ opened. ⊥) (λ refused. (IsNoAnswer refused.0 ⊎ (refused.0 ≡ Refusal.NotAStore)) × (D.state refused.1 ≡ D.state disk)) }
         // Where the disk shows a store of some geometry, that store is opened.
-        ensures recovers { D.honest disk → IfStoreOn (D.page_count disk) (page (shown_on (D.page_count disk) (seen (D.state disk))))
+        ensures recovers { D.honest disk → IsOfOne (D.page_count disk) (seen (D.state disk)) → IfStoreOn (D.page_count disk) (page (shown_on (D.page_count disk) (seen (D.state disk))))
             (λ S n m. MatchResult result (λ opened. IsOpenedAs S n m opened.0.store opened.0.found) (λ refused. IsNoAnswer refused.0)) }
         ensures findings { D.honest disk → IfOk result (λ opened. opened.1.items ≡ findings_on (D.page_count disk) (seen (D.state disk))) }
-        ensures refusals { D.honest disk → IfErr result (λ refused. IsNoAnswer refused.0 ⊎ IsWhyNotOpened (D.page_count disk) (page (shown_on (D.page_count disk) (seen (D.state disk)))) refused.0) }
+        ensures refusals { D.honest disk → IfErr result (λ refused. IsNoAnswer refused.0 ⊎ ((refused.0 ≡ Refusal.NotAStore) × AreOfTwo (D.page_count disk) (seen (D.state disk))) ⊎ IsWhyNotOpened (D.page_count disk) (page (shown_on (D.page_count disk) (seen (D.state disk)))) refused.0) }
         // Whatever the disk answers.
         ensures number { IfErr result (λ refused. IsOpeningRefusal refused.0) }
         ensures small { D.page_count disk < 10 → result ≡ Err (Refusal.NotAStore, disk) }
@@ -114,7 +121,7 @@ impl MountOptions {
                 Ok(core) => Ok((core, found)),
                 Err((refusal, paired)) => Err((refusal, paired.into_disk())),
             },
-            Err((fault, disk)) => Err((refusal_of_disk(fault), disk)),
+            Err((refusal, disk)) => Err((refusal, disk)),
         }
     }
 }
@@ -131,7 +138,7 @@ impl MountOptions {
 ///
 /// Refused 1 DeviceFault, and 9 OutOfMemory, with the disk. Some of the damaged pages may be written anew then, and
 /// the rest not. What shows is the same, so the store can be opened from the device and this be done again. A store of
-/// the older formats has no page twice, and the disk is flushed alone.
+/// format 2 has no page twice, and the disk is flushed alone.
 pub fn mend<D: PageDisk + Drop>(core: Core<Mounted<D>>) -> Result<Mounted<D>, (Refusal, Mounted<D>)>
     // No page is passed over any more.
     ensures whole { D.honest (disk_below core.disk) → IfOk result (λ disk. AllByRecursion (λ x. passed_over (finding_in (versions_of core.disk) (seen (D.state (disk_below disk))) x) ≡ None) (pairs_of core.disk)) }

@@ -5,6 +5,7 @@ ghost use Rattle.cs_reader.specs.Openings.{IsOpeningRefusal, IsWhyNotOpened};
 ghost use Rattle.cs_core.specs.Openings.{IsOpened};
 ghost use Rattle.cs_disk.specs.Disk.{Rises, flushed, page, seen};
 ghost use Rattle.cs_disk.specs.Reads.{OnlyReads};
+ghost use Rattle.cs_mount.specs.Identities.{AreOfTwo};
 ghost use Rattle.cs_mount.specs.Older.{older_on, root_found};
 ghost use Rattle.cs_mount.specs.OlderDisks.{refused_of, shown_below, state_lowered};
 ghost use Rattle.cs_twin.specs.Paired.{IsSound, disk_below, refusals_of};
@@ -34,7 +35,8 @@ fn newest_root(found: &[Finding]) -> u64
     }
 }
 
-/// The geometry of the store of format 3 that is on a disk. Refused 43 NotAStore where there is none.
+/// The geometry of the store that is on a disk. Refused 43 NotAStore if there is none of format 4, or if page 0 and the
+/// last page are of different stores.
 fn find_older<D: PageDisk>(alloc: Global, disk: &mut D) -> Result<Geometry, Refusal>
     requires { 0 < D.page_count disk.old }
     ensures found { D.honest disk.old → IfOk result (λ found. Some found ≡ dimensions_on (D.page_count disk.old) (seen (D.state disk.old))) }
@@ -66,7 +68,8 @@ fn show_older<D: PageDisk + Drop>(
     ensures calls { D.honest disk → MatchResult result (λ shown. D.moment (disk_below (shown_below shown.0)) ≡ D.moment disk + 1) (λ refused. D.moment refused.1 ≤ D.moment disk + 1) }
     ensures honest { MatchResult result (λ shown. D.honest disk ↔ D.honest (disk_below (shown_below shown.0))) (λ refused. D.honest disk ↔ D.honest refused.1) }
     ensures pages { MatchResult result (λ shown. D.page_count (disk_below (shown_below shown.0)) ≡ D.page_count disk) (λ refused. D.page_count refused.1 ≡ D.page_count disk) }
-    ensures refusals { IfErr result (λ refused. IsNoAnswer refused.0) }
+    ensures refusals { IfErr result (λ refused. IsNoAnswer refused.0 ⊎ (refused.0 ≡ Refusal.NotAStore)) }
+    ensures none { D.honest disk → IfErr result (λ refused. IsNoAnswer refused.0 ⊎ ((refused.0 ≡ Refusal.NotAStore) × AreOfTwo (D.page_count disk) (seen (D.state disk)))) }
     ensures cause { IfErr result (λ refused. refused.0 ≡ Refusal.DeviceFault → Rises (D.failure_count disk) (D.failure_count refused.1)) }
     ensures failures { IfOk result (λ shown. D.failure_count disk ≤ D.failure_count (disk_below (shown_below shown.0))) }
     ensures unrefused { IfOk result (λ shown. (refusals_of (shown_below shown.0) ≡ 0) × (refused_of shown.0 ≡ 0)) }
@@ -79,18 +82,18 @@ fn show_older<D: PageDisk + Drop>(
             let root = newest_root(&found);
             Ok((AsOf::new(alloc, paired, geometry, root), found))
         }
-        Err((fault, disk)) => Err((refusal_of_disk(fault), disk)),
+        Err((refusal, disk)) => Err((refusal, disk)),
     }
 }
 
 impl MountOptions {
-    /// Opens the store of format 3 on a disk as of the newest root that is whole, though a newer one was persistent: so
-    /// some commands that were acknowledged are lost. It returns what the pages hold of which the store has two.
-    /// Nothing is written, here or through the core.
+    /// Opens the store on a disk as of the newest root that is whole, though a newer one was persistent: so some
+    /// commands that were acknowledged are lost. It returns what the pages hold of which the store has two. Nothing is
+    /// written, here or through the core.
     ///
     /// What that root names may have been written over since: then the opening is refused, or reading the shards that
-    /// are so. If the call is refused, it returns the disk. 43 NotAStore: there is no store of format 3. The other
-    /// refusals are those of `open`, but for 27 RootLost.
+    /// are so. If the call is refused, it returns the disk. 43 NotAStore: there is no store of format 4, or
+    /// page 0 and the last page are of different stores. The other refusals are those of `open`, but for 27 RootLost.
     pub fn open_older<D: PageDisk + Drop>(
         self,
         disk: D,
@@ -101,7 +104,7 @@ impl MountOptions {
         ensures store { IfOk result (λ opened. IsOpened (D.honest disk) opened.0.opened opened.0.found opened.0.store) }
         ensures there { D.honest disk → OnOk result (dimensions_on (D.page_count disk) (seen (D.state disk)) ≢ None) }
         ensures findings { D.honest disk → IfOk result (λ opened. opened.1.items ≡ findings_on (D.page_count disk) (seen (D.state disk))) }
-        // No store of format 3 is there, or what it shows is refused by the first test that fails.
+        // No store of format 4 is there, or what it shows is refused by the first test that fails.
         ensures refusals { D.honest disk → IfErr result (λ refused. IsNoAnswer refused.0 ⊎ ((refused.0 ≡ Refusal.NotAStore) × (dimensions_on (D.page_count disk) (seen (D.state disk)) ≡ None)) ⊎ IsWhyNotOpened (D.page_count disk) (page (older_on (D.page_count disk) (seen (D.state disk)))) refused.0) }
         ensures number { IfErr result (λ refused. IsOpeningRefusal refused.0) }
         ensures small { D.page_count disk < 10 → result ≡ Err (Refusal.NotAStore, disk) }

@@ -1,66 +1,69 @@
 //! The pairs of a store.
-ghost use Rattle.std.specs.Prelude.{◌&&◌, ◌+◌, ◌-◌, ◌<◌, ◌==◌, ◌↔◌, ◌≡◌, ◌≢◌, ◌≤◌, ◌⊎◌, IfErr, IfOk, IfSome, IsTrue, MatchResult, None, [], ℕ};
+ghost use Rattle.std.specs.Prelude.{◌+◌, ◌-◌, ◌<◌, ◌↔◌, ◌≡◌, ◌≢◌, ◌≤◌, ◌⊎◌, IfErr, IfOk, IfSome, IsTrue, MatchBool, MatchResult, None, OnOk, [], ℕ};
+ghost use Rattle.cs_core.specs.cs_chunk.Reads.{IsCaused, IsNoAnswer};
 ghost use Rattle.cs_disk.specs.Disk.{HasCause, Image, LeavesOnly, MayLeave, Rises, flushed, page, seen};
 ghost use Rattle.cs_disk.specs.Reads.{OnlyReads};
 ghost use Rattle.cs_frame.specs.FirstFormat.{page_zero_fault};
-ghost use Rattle.cs_frame.specs.Geometries.{IsGeometry, IsKnown};
+ghost use Rattle.cs_frame.specs.Geometries.{IsGeometry};
+ghost use Rattle.cs_frame.specs.Roots.{identity_in, identity_of};
+ghost use Rattle.cs_reader.specs.Openings.{HasNumbers};
+ghost use Rattle.cs_mount.specs.Identities.{AreOfTwo, IsOfOne};
 ghost use Rattle.cs_mount.specs.OfStores.{IsOfStore, is_allowed};
 ghost use Rattle.cs_mount.specs.Showing.{ShowsOn, findings_on, shown_on};
-ghost use Rattle.cs_mount.specs.StorePairs.{IsOnPageZero, dimensions_on, first_says, geometry_of_first, pages_of, pairs_where, root_version, section_at, section_version, store_pair, store_pairs, store_version};
+ghost use Rattle.cs_mount.specs.StorePairs.{IsOnPageZero, dimensions_on, first_says, geometry_of_first, pages_of, pairs_where, root_version, said_on, section_at, section_version, store_pair, store_pairs, store_version};
 ghost use Rattle.cs_twin.specs.Paired.{IsSound, disk_below, left_as_shown, pairs_of, refusals_of, rules_of, state_shown};
 ghost use Rattle.cs_twin.specs.Pairs.{ArePairs};
 
-use cs_disk::{DiskFault, PageDisk};
+use crate::identities::{two_stores, unless_memory};
+use cs_disk::{DiskFault, PageDisk, refusal_of_disk};
 use cs_frame::{
-    Format, FormatFault, Geometry, Superblock, decode_root, decode_section, decode_superblock,
+    Format, FormatNumber, Geometry, Root, Superblock, decode_root, decode_section,
+    decode_superblock,
 };
+use cs_refusal::Refusal;
 use cs_twin::{Finding, PageRules, Pair, Paired};
 use std::alloc::{AllocError, Global};
 
-/// What tells of the pages of a store that lie in pairs whether they are whole: the root of its format, and of each
-/// section of its superblock that it is that section of a store of these dimensions. Where there is no store no page
-/// is.
+/// What tells of the pages of a store that lie in pairs whether they are whole: of the root, and of each section of its
+/// superblock, that it is of this store. By the identity a page of another store is no page of this one. Where there
+/// is no store no page is whole.
 #[derive(Clone, Copy, Drop)]
 pub struct StoreRules {
     pub alloc: Global,
     pub geometry: Option<Geometry>,
 }
 
-/// What stands for a page with this fault, as it spells nothing; refused if memory ran out.
-pub fn unless_memory<T: Drop>(fault: FormatFault, none: T) -> Result<T, DiskFault>
-    ensures none { IfOk result (λ it. (it ≡ none) × (fault ≢ FormatFault.OutOfMemory)) }
-    ensures memory { IfErr result (λ refused. refused ≡ DiskFault.OutOfMemory) }
+/// Whether a root has the identity of the store of this format.
+fn is_its_root(root: &Root, format: Format) -> bool
+    ensures { MatchBool result (identity_of root.now ≡ identity_in format) (identity_of root.now ≢ identity_in format) }
 {
-    match fault {
-        FormatFault::OutOfMemory => Err(DiskFault::OutOfMemory),
-        FormatFault::BadGeometry
-        | FormatFault::BadMagic
-        | FormatFault::BadDigest
-        | FormatFault::BadLength
-        | FormatFault::BadPadding
-        | FormatFault::BadVersion
-        | FormatFault::OutOfOrder
-        | FormatFault::Misplaced => Ok(none),
-    }
+    root.store == format.store()
 }
 
-/// The version of the root that these bytes spell in this format, and 0 where they spell none.
+/// The version of the root of the store of this format that these bytes spell, and 0 where they spell none.
 fn root_version(alloc: Global, bytes: &[u8; 4096], format: Format) -> Result<u64, DiskFault>
-    requires { IsKnown format }
     ensures version { IfOk result (λ found. found ≡ root_version format bytes.now) }
     ensures memory { IfErr result (λ fault. fault ≡ DiskFault.OutOfMemory) }
 {
-    match decode_root(alloc, bytes, format) {
-        Ok(root) => Ok(root.version),
+    match decode_root(alloc, bytes, format.number()) {
+        Ok(root) => {
+            if is_its_root(&root, format) {
+                Ok(root.version)
+            } else {
+                Ok(0)
+            }
+        }
         Err(fault) => unless_memory(fault, 0),
     }
 }
 
-/// Whether a section is this one of a store of this geometry.
+/// Whether a section is this one of the store of this geometry. The format has the store's identity, and the pages of
+/// the device.
 fn is_of(superblock: &Superblock, geometry: Geometry, section: u64) -> bool
-    ensures { result ≡ (superblock.now.extent_count == geometry.extents && superblock.now.pages == geometry.pages && superblock.now.sections == geometry.sections && superblock.now.section == section) }
+    ensures { MatchBool result (HasNumbers geometry.format geometry.extents geometry.pages geometry.sections section superblock.now) (¬ HasNumbers geometry.format geometry.extents geometry.pages geometry.sections section superblock.now) }
 {
-    superblock.extent_count == geometry.extents()
+    superblock.format == geometry.format()
+        && superblock.extent_count == geometry.extents()
         && superblock.pages == geometry.pages()
         && superblock.sections == geometry.sections()
         && u64::from(superblock.section) == section
@@ -76,7 +79,7 @@ fn section_version(
     ensures version { IfOk result (λ found. found ≡ section_version geometry section bytes.now) }
     ensures memory { IfErr result (λ fault. fault ≡ DiskFault.OutOfMemory) }
 {
-    match decode_section(alloc, bytes, geometry.format()) {
+    match decode_section(alloc, bytes, geometry.format().number()) {
         Ok(superblock) => {
             if is_of(&superblock, geometry, section) {
                 Ok(superblock.version)
@@ -135,7 +138,7 @@ impl PageRules for StoreRules {
     }
 
     fn allows(&self, number: u64, bytes: &[u8; 4096]) -> bool {
-        !(number == 0 && bytes[3] == b'3')
+        !(number == 0 && bytes[3] == b'4')
     }
 
     fn keep(&self) {}
@@ -143,7 +146,8 @@ impl PageRules for StoreRules {
     ghost fence_is_none = { λ r number. no_fence r.geometry number };
 }
 
-/// A pair of a store of format 3, from 0 on: that of section 0, that of the root, those of the other sections.
+/// A pair of a store, from 0 on: that of section 0, that of the root, those of the other sections. The twins are the
+/// last pages of the device.
 pub fn store_pair(geometry: Geometry, k: u64) -> Pair
     requires { k ≤ geometry.sections }
     ensures { result ≡ store_pair geometry k }
@@ -156,7 +160,7 @@ pub fn store_pair(geometry: Geometry, k: u64) -> Pair
 }
 
 /// The pairs of a store: those of section 0, of the root, and of the other sections, whose twins are the last pages
-/// of the device, from the very last on downwards. Before format 3 there are none.
+/// of the device, from the very last on downwards. In format 2 there are none.
 pub fn pairs_of_store(alloc: Global, geometry: Geometry) -> Result<Vec<Pair>, AllocError>
     ensures pairs { IfOk result (λ pairs. pairs.items ≡ store_pairs geometry) }
     ensures are { IfOk result (λ pairs. ArePairs pairs.items (pages_of geometry)) }
@@ -172,7 +176,8 @@ pub fn pairs_of_store(alloc: Global, geometry: Geometry) -> Result<Vec<Pair>, Al
     Ok(pairs)
 }
 
-/// The geometry of the store of format 3 whose first section this is, if the device has so many pages as that store.
+/// The geometry of the store whose first section this is, if the device has so many pages as that store: none in format
+/// 2.
 fn geometry_of_first(pages: u64, superblock: &Superblock) -> Option<Geometry>
     requires { IsGeometry superblock.now.format superblock.now.extent_count superblock.now.pages superblock.now.sections }
     ensures geometry { result ≡ geometry_of_first pages superblock.now.format superblock.now.extent_count superblock.now.pages superblock.now.sections superblock.now.section }
@@ -184,7 +189,7 @@ fn geometry_of_first(pages: u64, superblock: &Superblock) -> Option<Geometry>
     let extents = u64::from(superblock.extent_count);
     let extent_pages = u64::from(superblock.pages);
     let sections = u64::from(superblock.sections);
-    match Geometry::of_format(Format::three(), extents, extent_pages, Some(sections)) {
+    match Geometry::of_format(superblock.format, extents, extent_pages, Some(sections)) {
         Ok(geometry) => {
             if geometry.device_pages() == pages {
                 Some(geometry)
@@ -208,7 +213,7 @@ fn first_on(alloc: Global, bytes: &[u8; 4096]) -> Result<Option<Superblock>, Dis
     }
 }
 
-/// The geometry that these bytes of the last page spell; none if they aren't whole in format 3.
+/// The geometry that these bytes of the last page spell; none if they aren't whole in format 4.
 fn geometry_on_last(
     alloc: Global,
     pages: u64,
@@ -218,7 +223,7 @@ fn geometry_on_last(
     ensures pages { IfOk result (λ found. IfSome found (λ d. pages_of d ≡ pages)) }
     ensures memory { IfErr result (λ fault. fault ≡ DiskFault.OutOfMemory) }
 {
-    match decode_section(alloc, bytes, Format::three()) {
+    match decode_section(alloc, bytes, FormatNumber::Four) {
         Ok(superblock) => Ok(geometry_of_first(pages, &superblock)),
         Err(fault) => unless_memory(fault, None),
     }
@@ -272,8 +277,8 @@ pub fn holds_superblock<D: PageDisk>(alloc: Global, disk: &mut D) -> Result<bool
     }
 }
 
-/// The geometry of the store of format 3 whose first section the last page holds, whatever is on page 0; nothing
-/// where it holds none of a store with the device's pages.
+/// The geometry of the store whose first section the last page holds, whatever is on page 0; nothing if it holds none
+/// of a store of format 4 with the device's pages.
 pub fn find_last<D: PageDisk>(alloc: Global, disk: &mut D) -> Result<Option<Geometry>, DiskFault>
     requires { 0 < D.page_count disk.old }
     ensures found { D.honest disk.old → IfOk result (λ found. found ≡ first_says (D.page_count disk.old) (page (seen (D.state disk.old)) (D.page_count disk.old - 1))) }
@@ -284,14 +289,11 @@ pub fn find_last<D: PageDisk>(alloc: Global, disk: &mut D) -> Result<Option<Geom
     read_last(alloc, disk, pages)
 }
 
-/// The geometry of the store on a device whose pages lie in pairs, where there is one, of format 3: that which page 0
-/// says where it is whole, in whatever format, and else that which the last page says.
-pub fn find_geometry<D: PageDisk>(
-    alloc: Global,
-    disk: &mut D,
-) -> Result<Option<Geometry>, DiskFault>
+/// The geometry that page 0 says if it is whole, in whatever format, and else that which the last page says. There is
+/// none of a store of format 2.
+fn find_said<D: PageDisk>(alloc: Global, disk: &mut D) -> Result<Option<Geometry>, DiskFault>
     requires { 0 < D.page_count disk.old }
-    ensures found { D.honest disk.old → IfOk result (λ found. found ≡ dimensions_on (D.page_count disk.old) (seen (D.state disk.old))) }
+    ensures found { D.honest disk.old → IfOk result (λ found. found ≡ said_on (D.page_count disk.old) (seen (D.state disk.old))) }
     ensures pages { IfOk result (λ found. IfSome found (λ d. pages_of d ≡ D.page_count disk.old)) }
     ensures disk { OnlyReads D.PageDisk disk.old disk.new }
     ensures cause { HasCause (D.failure_count disk.old) (D.failure_count disk.new) result }
@@ -304,14 +306,60 @@ pub fn find_geometry<D: PageDisk>(
     }
 }
 
+/// The geometry of the store of format 4 on a device, if there is one. Page 0 says it if it is whole, in whatever format,
+/// and else the last page does. There is none if the two pages are of different stores.
+pub fn find_geometry<D: PageDisk>(
+    alloc: Global,
+    disk: &mut D,
+) -> Result<Option<Geometry>, DiskFault>
+    requires { 0 < D.page_count disk.old }
+    ensures found { D.honest disk.old → IfOk result (λ found. found ≡ dimensions_on (D.page_count disk.old) (seen (D.state disk.old))) }
+    ensures pages { IfOk result (λ found. IfSome found (λ d. pages_of d ≡ D.page_count disk.old)) }
+    ensures disk { OnlyReads D.PageDisk disk.old disk.new }
+    ensures cause { HasCause (D.failure_count disk.old) (D.failure_count disk.new) result }
+{
+    match two_stores(alloc, disk) {
+        Ok(None) => find_said(alloc, disk),
+        Ok(Some(_)) => Ok(None),
+        Err(fault) => Err(fault),
+    }
+}
+
+/// The geometry of the store that is opened, if there is one. Refused 43 NotAStore if page 0 and the last page are of
+/// different stores.
+fn find_one<D: PageDisk>(alloc: Global, disk: &mut D) -> Result<Option<Geometry>, Refusal>
+    requires { 0 < D.page_count disk.old }
+    ensures found { D.honest disk.old → IfOk result (λ found. found ≡ dimensions_on (D.page_count disk.old) (seen (D.state disk.old))) }
+    ensures one { D.honest disk.old → OnOk result (IsOfOne (D.page_count disk.old) (seen (D.state disk.old))) }
+    ensures pages { IfOk result (λ found. IfSome found (λ d. pages_of d ≡ D.page_count disk.old)) }
+    ensures disk { OnlyReads D.PageDisk disk.old disk.new }
+    ensures refusals { D.honest disk.old → IfErr result (λ refusal. IsNoAnswer refusal ⊎ ((refusal ≡ Refusal.NotAStore) × AreOfTwo (D.page_count disk.old) (seen (D.state disk.old)))) }
+    ensures number { IfErr result (λ refusal. IsNoAnswer refusal ⊎ (refusal ≡ Refusal.NotAStore)) }
+    ensures cause { IsCaused (D.failure_count disk.old) (D.failure_count disk.new) result }
+{
+    match two_stores(alloc, disk) {
+        Ok(None) => match find_said(alloc, disk) {
+            Ok(geometry) => Ok(geometry),
+            Err(fault) => Err(refusal_of_disk(fault)),
+        },
+        Ok(Some(_)) => Err(Refusal::NotAStore),
+        Err(fault) => Err(refusal_of_disk(fault)),
+    }
+}
+
 /// Opens the disk of a store whose pages lie in pairs, and tells what the halves hold: the disk below is flushed.
-/// Where there is no store of format 3, there are no pairs, and the disk passes all calls through. Where neither half
-/// of a pair is whole, it shows what one of them holds.
+/// If there is no store of format 4, there are no pairs, and the disk passes all calls through. If neither half of a
+/// pair is whole, it shows what one of them holds.
+///
+/// Refused 43 NotAStore if page 0 and the last page are of different stores: then nothing is flushed. Refused 1
+/// DeviceFault, and 9 OutOfMemory. If the call is refused, it returns the disk.
 pub fn open_pairs<D: PageDisk>(
     alloc: Global,
     disk: D,
-) -> Result<(Paired<D, StoreRules>, Vec<Finding>), (DiskFault, D)>
+) -> Result<(Paired<D, StoreRules>, Vec<Finding>), (Refusal, D)>
     requires { 0 < D.page_count disk }
+    ensures one { D.honest disk → OnOk result (IsOfOne (D.page_count disk) (seen (D.state disk))) }
+    ensures two { D.honest disk → AreOfTwo (D.page_count disk) (seen (D.state disk)) → MatchResult result (λ opened. ⊥) (λ refused. D.state refused.1 ≡ D.state disk) }
     ensures pairs { D.honest disk → IfOk result (λ opened. pairs_of opened.0 ≡ pairs_where (dimensions_on (D.page_count disk) (seen (D.state disk)))) }
     ensures rules { D.honest disk → IfOk result (λ opened. (rules_of opened.0).geometry ≡ dimensions_on (D.page_count disk) (seen (D.state disk))) }
     ensures findings { D.honest disk → IfOk result (λ opened. opened.1.items ≡ findings_on (D.page_count disk) (seen (D.state disk))) }
@@ -325,20 +373,26 @@ pub fn open_pairs<D: PageDisk>(
     ensures calls { D.honest disk → MatchResult result (λ opened. D.moment (disk_below opened.0) ≡ D.moment disk + 1) (λ refused. D.moment refused.1 ≤ D.moment disk + 1) }
     ensures honest { MatchResult result (λ opened. D.honest disk ↔ D.honest (disk_below opened.0)) (λ refused. D.honest disk ↔ D.honest refused.1) }
     ensures pages { MatchResult result (λ opened. D.page_count (disk_below opened.0) ≡ D.page_count disk) (λ refused. D.page_count refused.1 ≡ D.page_count disk) }
-    ensures cause { IfErr result (λ refused. refused.0 ≡ DiskFault.DeviceFault → Rises (D.failure_count disk) (D.failure_count refused.1)) }
+    // Page 0 and the last page are of different stores, or the device or the memory refused a call.
+    ensures why { D.honest disk → IfErr result (λ refused. IsNoAnswer refused.0 ⊎ ((refused.0 ≡ Refusal.NotAStore) × AreOfTwo (D.page_count disk) (seen (D.state disk)))) }
+    ensures number { IfErr result (λ refused. IsNoAnswer refused.0 ⊎ (refused.0 ≡ Refusal.NotAStore)) }
+    ensures cause { IfErr result (λ refused. refused.0 ≡ Refusal.DeviceFault → Rises (D.failure_count disk) (D.failure_count refused.1)) }
     ensures failures { IfOk result (λ opened. D.failure_count disk ≤ D.failure_count (disk_below opened.0)) }
     // It refused no call yet, and will refuse no read and no flush.
     ensures refusals { IfOk result (λ opened. refusals_of opened.0 ≡ 0) }
     ensures sound { IfOk result (λ opened. IsSound opened.0) }
 {
     let mut disk = disk;
-    let geometry = match find_geometry(alloc, &mut disk) {
+    let geometry = match find_one(alloc, &mut disk) {
         Ok(geometry) => geometry,
-        Err(fault) => return Err((fault, disk)),
+        Err(refusal) => return Err((refusal, disk)),
     };
     let rules = StoreRules { alloc, geometry };
     match rules.pairs() {
-        Ok(pairs) => Paired::open(alloc, disk, rules, pairs),
-        Err(_) => Err((DiskFault::OutOfMemory, disk)),
+        Ok(pairs) => match Paired::open(alloc, disk, rules, pairs) {
+            Ok(opened) => Ok(opened),
+            Err((fault, disk)) => Err((refusal_of_disk(fault), disk)),
+        },
+        Err(_) => Err((Refusal::OutOfMemory, disk)),
     }
 }

@@ -113,8 +113,8 @@ acknowledged_once n f handed ps le all within x = dite (dec_le x f)
     (λ up. acknowledged_up f x handed ps up ∙ all x ∙ once_up n f x le up)
     (λ not_up. let lt : f < x = omega arith in acknowledged_above f x handed ps lt within ∙ sym (once_above f x lt))
 
--- what four tests find is what accounts for a core, with n accepted commands, f persistent ones, and `base` events that were replaced, where a list has
--- just the numbers that are held
+-- what four tests find is what accounts for a core, with n accepted commands, f persistent ones, and `base` events that
+-- were replaced, where a list has just the numbers that are held
 module _ {D : Type 0} (core : View D) (given n f base : ℕ) (all handed : List Stretch) (ps : List Holdings) (accepted : n ≡ core.store.accepted) (frontier : f ≡ core.store.frontier) (replaced : base ≡ core.base)
     (same : (x : ℕ) → times x all ≡ held x handed ps) where
   pub accounted : length ps ≡ given → AreCalls base core.history ps → numbers.AreNumbers n all → AcksWithin f handed ps → Accounted core given handed ps

@@ -29,8 +29,8 @@ times_at place calls = count_by (λ c. c.place == place) calls
 abbrev pub called_at : ℕ → List Holdings → ℕ
 called_at place purses = sum_by (λ h. times_at place h.calls) purses
 
--- From the place `base` on the calls are those of the history: each stands in it, and each event of a client is one of them. Of places below
--- nothing is asked: the events there were replaced.
+-- From the place `base` on the calls are those of the history: each stands in it, and each event of a client is one of
+-- them. Of places below nothing is asked: the events there were replaced.
 pub record AreCalls (base : ℕ) (history : List (Event × Reply)) (purses : List Holdings) : Type 0 where
   pub stand : All (λ h. All (λ c. base ≤ c.place → Stands history c) h.calls) purses
   pub once : (place : ℕ) (d : Event × Reply) → base ≤ place → place < length history → called_at place purses ≡ wanted (slice_index_or history place d).0
@@ -47,8 +47,9 @@ AreAllNumbers n handed purses = (x : ℕ) → held x handed purses ≡ once_to n
 abbrev pub AcksWithin : ℕ → (handed : List Stretch) → List Holdings → Type 0
 AcksWithin f handed purses = Within f handed × All (λ h. Within f h.acks) purses
 
--- the tests of `close`: all purses that were given are there, the calls are those of the history as far as it is kept, what was handed in, the
--- tickets and the acks are the numbers of all accepted commands, each once, and no ack is for a command that isn't persistent
+-- the tests of `close`: all purses that were given are there, the calls are those of the history as far as it is kept,
+-- what was handed in, the tickets and the acks are the numbers of all accepted commands, each once, and no ack is for a
+-- command that isn't persistent
 pub record Accounted {D : Type 0} (core : View D) (given : ℕ) (handed : List Stretch) (purses : List Holdings) : Type 0 where
   pub here : length purses ≡ given
   pub calls : AreCalls core.base core.history purses

@@ -34,8 +34,8 @@ IsOfRound s asked.Issue = s.issued < length (members_of s.out)
 IsOfRound s asked.End = (s.out ≢ None) × (length (members_of s.out) ≤ s.issued)
 IsOfRound s event = ⊥
 
--- the event of writeback that is due: what is left of the round that is out, else a new round where something waits, else to stage where
--- there is something to stage
+-- the event of writeback that is due: what is left of the round that is out, else a new round where something waits,
+-- else to stage where there is something to stage
 abbrev pub IsDue : Stored → Event → Type 0
 IsDue s asked.Begin = (s.out ≡ None) × (s.graph.staging.pending.waiting ≢ [])
 IsDue s asked.Stage = (s.out ≡ None) × (s.graph.staging.pending.waiting ≡ []) × MayStage s
@@ -62,7 +62,8 @@ IsTurn disks old result new = MatchResult result (λ step. Turns disks old step 
 abbrev pub IsStaged : {D : Type 0} → (disks : PageDisk D) → (old : View D) → Result ℕ Refusal → (new : View D) → Type 0
 IsStaged disks old result new = MatchResult result (λ accepted. (reply : Reply) × IsStep disks old asked.Stage reply new × IsDone reply × (accepted ≡ new.store.accepted)) (λ r. IsRefused disks old asked.Stage r new)
 
--- as many commands as were wanted are persistent, and nothing was done; or fewer are, and at most one event was done, or it was refused
+-- as many commands as were wanted are persistent, and nothing was done; or fewer are, and at most one event was done,
+-- or it was refused
 abbrev pub IsAdvance : {D A : Type 0} → (disks : PageDisk D) → (old : View D) → ℕ → Result A Refusal → (new : View D) → Type 0
 IsAdvance disks old target result new = MatchResult result
     (λ _. ((target ≤ old.store.frontier) × (new ≡ old)) ⊎ ((old.store.frontier < target) × ((step : Step) × Turns disks old step new)))

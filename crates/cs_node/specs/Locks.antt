@@ -18,13 +18,13 @@ use Rattle.cs_node.specs.Behind.{IsBehind}
 use Rattle.cs_node.specs.Starts.{Start}
 use Rattle.cs_node.specs.Told.{Holdings, call, is_unrecorded}
 
--- There is a core such as lies behind the lock, of this start, and one that it was after the call, of which `goes` holds. Which cores these
--- were isn't told: the first may be an earlier one than the call found.
+-- There is a core such as lies behind the lock, of this start, and one that it was after the call, of which `goes`
+-- holds. Which cores these were isn't told: the first may be an earlier one than the call found.
 abbrev pub WhileLocked : {D : Type 0} → (disks : PageDisk D) → Start → (View D → View D → Type 0) → Type 0
 WhileLocked {D} disks start goes = (old new : View D) × IsBehind disks start old × goes old new
 
--- An event that no history records: memory was refused, and nothing but rooms has changed; or, where the disk is honest, it is an event that is
--- refused where as many are kept as may be, which so many were, and nothing has changed.
+-- An event that no history records: memory was refused, and nothing but rooms has changed; or, where the disk is
+-- honest, it is an event that is refused where as many are kept as may be, which so many were, and nothing has changed.
 abbrev pub Declines : {D : Type 0} → (disks : PageDisk D) → (old : View D) → Event → Refusal → (new : View D) → Type 0
 Declines disks old event OutOfMemory new = IsUntouched disks old new
 Declines disks old event HistoryFull new = disks.honest old.disk → IsLimited event × (old.limit ≤ length (kept old)) × (new ≡ old)
@@ -38,8 +38,8 @@ IsDone reply = (r : Refusal) → reply ≢ Refused r
 abbrev pub IsRefused : {D : Type 0} → (disks : PageDisk D) → (old : View D) → Event → Refusal → (new : View D) → Type 0
 IsRefused disks old event r new = MatchBool (is_unrecorded r) (Declines disks old event r new) (IsStep disks old event (Refused r) new)
 
--- One event for a purse: the core went on by it with this reply, and by no other, and the purse has it with that reply as one call
--- more, at the place that it has in the history.
+-- One event for a purse: the core went on by it with this reply, and by no other, and the purse has it with that reply
+-- as one call more, at the place that it has in the history.
 pub record IsCalled {D : Type 0} (disks : PageDisk D) (old : View D) (purse : Holdings) (event : Event) (reply : Reply) (new : View D) (after : Holdings) : Type 0 where
   pub step : IsStep disks old event reply new
   pub calls : after.calls ≡ purse.calls ++ call (length old.history) event reply ∷ []

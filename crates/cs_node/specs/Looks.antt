@@ -4,7 +4,8 @@ use Rattle.cs_extent.specs.State.{extents_of}
 use Rattle.cs_core.specs.Views.{View, kept}
 use Rattle.cs_node.specs.declared.nodes.Look.{Look}
 
--- This is what the core has: so many commands accepted and persistent, events kept, replaced and allowed; and the lowest extent that is being swept.
+-- This is what the core has: so many commands accepted and persistent, events kept, replaced and allowed; and the
+-- lowest extent that is being swept.
 pub record IsLookAt {D : Type 0} (v : View D) (look : Look) : Type 0 where
   pub accepted : look.accepted ≡ v.store.accepted
   pub frontier : look.frontier ≡ v.store.frontier

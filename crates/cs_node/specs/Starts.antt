@@ -4,14 +4,15 @@ use Rattle.cs_disk.specs.Disk.{Image}
 use Rattle.cs_extent.specs.State.{shape}
 use Rattle.cs_frame.specs.Geometries.{section_size}
 use Rattle.law_machine.specs.Device.{Shape}
+use Rattle.law_machine.specs.Format.{Format, Two}
 use Rattle.law_machine.specs.Geometry.{shape_of}
 use Rattle.cs_core.specs.Views.{View}
 
--- the image that was on the disk when the core was opened, the format of the store, how many extents it has, of how many pages, in how many sections of the
--- superblock, and how many events its history may have
+-- the image that was on the disk when the core was opened, the format of the store, how many extents it has, of how
+-- many pages, in how many sections of the superblock, and how many events its history may have
 pub record Start : Type 0 where
   pub opened : Image
-  pub format : ℕ
+  pub format : Format
   pub extents : ℕ
   pub pages : ℕ
   pub sections : ℕ
@@ -34,4 +35,4 @@ start_of v = record {
 
 -- the start of no core
 abbrev pub no_start : Start
-no_start = record { opened = []; format = 2; extents = 4; pages = 2; sections = 1; limit = 0 }
+no_start = record { opened = []; format = Two; extents = 4; pages = 2; sections = 1; limit = 0 }

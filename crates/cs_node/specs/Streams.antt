@@ -13,8 +13,8 @@ use Rattle.cs_node.specs.declared.gates.Step.TheVariants.{Idle}
 use Rattle.cs_node.specs.Dues.{IsAtRest, IsOfRound, step_of}
 use Rattle.cs_node.specs.Locks.{IsDone, IsRefused}
 
--- the event that is due: what is left of the round that is out, else to stage where there is something to stage, else a new round where
--- something waits
+-- the event that is due: what is left of the round that is out, else to stage where there is something to stage, else a
+-- new round where something waits
 abbrev pub IsNext : Stored → Event → Type 0
 IsNext s Stage = (s.out ≡ None) × MayStage s
 IsNext s Begin = (s.out ≡ None) × NothingToStage s × (s.graph.staging.pending.waiting ≢ [])

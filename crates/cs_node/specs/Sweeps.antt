@@ -29,7 +29,8 @@ pub record IsLeastFrom (s : Stored) (from e : ℕ) : Type 0 where
 abbrev pub NoneFrom : Stored → ℕ → Type 0
 NoneFrom s from = (k : ℕ) → from ≤ k → k < (shape_of s.extents).extents → IsUnsweepable s k
 
--- the extent whose sweep begins next: the least above the one that was begun last that may be swept, else the least of all
+-- the extent whose sweep begins next: the least above the one that was begun last that may be swept, else the least of
+-- all
 abbrev pub IsNextAfter : Stored → (last : Option ℕ) → ℕ → Type 0
 IsNextAfter s None e = IsLeastFrom s 0 e
 IsNextAfter s (Some last) e = IsLeastFrom s (last + 1) e ⊎ (NoneFrom s (last + 1) × IsLeastFrom s 0 e)
@@ -48,8 +49,9 @@ unbegun n = record { left = n; begun = None; next = Begin }
 abbrev pub only_of : ℕ → Reclaiming
 only_of e = record { left = 0; begun = None; next = BeginAt e }
 
--- the event that comes next: one more sweep begins, where one is left, of the extent that is next after the last, or of the one that was asked
--- for; or the sweep that is going on is moved, retired or abandoned, of the very extent that it began with
+-- the event that comes next: one more sweep begins, where one is left, of the extent that is next after the last, or of
+-- the one that was asked for; or the sweep that is going on is moved, retired or abandoned, of the very extent that it
+-- began with
 abbrev pub IsNextEvent : Stored → Reclaiming → Event → Type 0
 IsNextEvent s w (asked.BeginSweep e) = ((w.next ≡ Begin) × (1 ≤ w.left) × IsNextAfter s w.begun e) ⊎ (w.next ≡ BeginAt e)
 IsNextEvent s w (asked.MoveOne e) = w.next ≡ Move e
@@ -70,7 +72,8 @@ abbrev pub moved : Reclaiming → ℕ → Reply → Reclaiming
 moved w e NoneLive = record w { next = Retire e }
 moved w e reply = w
 
--- the reclaimer after an event with this reply: a sweep that began is one less and is moved, one that was retired or abandoned is over
+-- the reclaimer after an event with this reply: a sweep that began is one less and is moved, one that was retired or
+-- abandoned is over
 abbrev pub after_event : Reclaiming → Event → Reply → Reclaiming
 after_event w (asked.BeginSweep e) reply = record { left = w.left - 1; begun = Some e; next = Move e }
 after_event w (asked.MoveOne e) reply = moved w e reply
@@ -78,14 +81,15 @@ after_event w (asked.Retire e) reply = record w { next = Begin }
 after_event w (asked.Abandon e) reply = record w { next = Begin }
 after_event w event reply = w
 
--- the reclaimer after an event that was refused: a sweep that can't be moved or retired is abandoned. One that can't be begun or abandoned is
--- over, but comes again where no history recorded the refusal
+-- the reclaimer after an event that was refused: a sweep that can't be moved or retired is abandoned. One that can't be
+-- begun or abandoned is over, but comes again where no history recorded the refusal
 abbrev pub after_refusal : Reclaiming → Event → Refusal → Reclaiming
 after_refusal w (asked.MoveOne e) r = record w { next = Abandon e }
 after_refusal w (asked.Retire e) r = record w { next = Abandon e }
 after_refusal w event r = if is_unrecorded r then w else record w { next = Begin }
 
--- one event was done, which this step names and which came next, and the reclaimer is what it is after it; or none came next
+-- one event was done, which this step names and which came next, and the reclaimer is what it is after it; or none came
+-- next
 abbrev pub Sweeps : {D : Type 0} → (disks : PageDisk D) → (old : View D) → (was : Reclaiming) → Step → (new : View D) → (is : Reclaiming) → Type 0
 Sweeps disks old was step new is = ((step ≡ Idle) × IsIdle old.store was × (new ≡ old) × (is ≡ was))
     ⊎ ((event : Event) × (reply : Reply) × (step ≡ step_of event) × IsNextEvent old.store was event × IsStep disks old event reply new × IsDone reply × (is ≡ after_event was event reply))

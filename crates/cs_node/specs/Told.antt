@@ -52,16 +52,16 @@ from_place n calls = filter (λ c. nat_le n c.place) calls
 abbrev pub Rising : List Call → Type 0
 Rising calls = (k : ℕ) (d : Call) → k + 1 < length calls → (slice_index_or calls k d).place < (slice_index_or calls (k + 1) d).place
 
--- calls as they are kept, the greatest number that these and the forgotten ones told of, the place behind that of the last call, a forgotten one
--- too, and for how many more there is room
+-- calls as they are kept, the greatest number that these and the forgotten ones told of, the place behind that of the
+-- last call, a forgotten one too, and for how many more there is room
 pub record Logged : Type 0 where
   pub calls : List Call
   pub floor : ℕ
   pub next : ℕ
   pub room : ℕ
 
--- a purse: its calls but for those that it forgot, the numbers of its tickets and of its acks, up to which command it was told that all are
--- persistent, and the view of its seat at the board
+-- a purse: its calls but for those that it forgot, the numbers of its tickets and of its acks, up to which command it
+-- was told that all are persistent, and the view of its seat at the board
 pub record Holdings : Type 0 where
   pub calls : List Call
   pub tickets : List Stretch

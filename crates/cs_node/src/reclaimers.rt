@@ -214,8 +214,7 @@ fn is_recorded(refusal: Refusal) -> bool
 }
 
 /// The lowest extent above the last one that may be swept, else the lowest that may. It goes by numbers alone and looks
-/// at no garbage: an extent full of live chunks is swept too, also the one that is being filled (but in the older
-/// formats).
+/// at no garbage: an extent full of live chunks is swept too, also the one that is being filled (but in format 2).
 fn next_extent<D: PageDisk>(core: &Core<D>, last: Option<usize>) -> Option<usize>
     ensures { MatchOption result (NoneFrom core.now.store 0) (λ e. IsNextAfter core.now.store last e) }
 {

@@ -1,8 +1,9 @@
 -- How many extents a device has room for, and how few pages they need.
-use Rattle.std.proofs.Common.{◌≡◌, ℕ, ◌+◌, ◌*◌, ◌-◌, ◌/◌, ◌%◌, ◌^◌, ◌<◌, ◌≤◌, arith, inl, inr, refl, subst}
+use Rattle.std.proofs.Common.{◌≡◌, ℕ, ◌+◌, ◌*◌, ◌-◌, ◌/◌, ◌%◌, ◌^◌, ◌<◌, ◌≤◌, List, arith, inl, inr, le_refl, subst, sym, true≢false}
 use Rattle.std.specs.Prelude.{◌⊎◌, min, max}
 use Rattle.std.proofs.Math.Nat.{div-mul-le_self, le-div_iff_mul-le, le-min, mul-le-mul_left, mul-le-mul_right}
-use Rattle.cs_frame.specs.Geometries.{IsGeometry}
+use Rattle.cs_frame.specs.Geometries.{IsGeometry, IsIdentity, file_format, file_pages}
+use Rattle.law_machine.specs.Format.{Four, Two}
 use Rattle.cs_options.specs.Wishes.{Holds, NoneSuits}
 
 -- what is at most one number or above it
@@ -31,11 +32,11 @@ extents_enough device pages most superblock extents two few room most_is superbl
 pub needed_least : (shard_size shards chunks piece run pieces_pages run_pages pages : ℕ)
     → ((n : ℕ) → shard_size ≤ chunks * n → piece ≤ n)
     → run ≡ min (shards * 33) (2 ^ 64 - 1)
-    → ((n : ℕ) → min (piece + 67) (2 ^ 64 - 1) ≤ 4096 * n → pieces_pages ≤ n)
-    → ((n : ℕ) → min (run + 45) (2 ^ 64 - 1) ≤ 4096 * n → run_pages ≤ n)
+    → ((n : ℕ) → min (piece + 75) (2 ^ 64 - 1) ≤ 4096 * n → pieces_pages ≤ n)
+    → ((n : ℕ) → min (run + 53) (2 ^ 64 - 1) ≤ 4096 * n → run_pages ≤ n)
     → Holds shard_size shards chunks pages → max (max pieces_pages run_pages) 2 ≤ pages
 needed_least shard_size shards chunks piece run pieces_pages run_pages pages piece_least run_is pages_least run_least holds =
-    let short : piece ≤ 4096 * pages - 67 = piece_least (4096 * pages - 67) holds.2 in
+    let short : piece ≤ 4096 * pages - 75 = piece_least (4096 * pages - 75) holds.2 in
     let one : pieces_pages ≤ pages = pages_least pages (omega (arith, short, holds.0)) in
     let two : run_pages ≤ pages = run_least pages (omega (arith, holds.3, holds.0, run_is)) in
     omega (arith, one, two, holds.0)
@@ -46,12 +47,13 @@ pub none_suits : (size shard_size shards chunks needed : ℕ) → 1 ≤ chunks �
     → ((pages : ℕ) → Holds shard_size shards chunks pages → needed ≤ pages)
     → (Holds shard_size shards chunks needed → ((2 * chunks + 4) * needed + 4) * 4096 ≤ size → ⊥)
     → NoneSuits size shard_size shards chunks
-none_suits size shard_size shards chunks needed some most enough least none extents pages sections geometry suits =
+none_suits size shard_size shards chunks needed some most enough least none Two extents pages sections geometry suits = absurd (true≢false (sym suits.0))
+none_suits size shard_size shards chunks needed some most enough least none (Four store device) extents pages sections geometry suits =
     let holds : Holds shard_size shards chunks pages = suits.5 in
     let fewer : needed ≤ pages = least pages holds in
     let counted : (2 * chunks + 4) * needed ≤ (2 * chunks + 4) * pages = mul-le-mul_left (2 * chunks + 4) fewer in
     let all : (2 * chunks + 4) * pages ≤ extents * pages = mul-le-mul_right pages suits.4 in
-    none (enough (omega (arith, fewer, holds.1))) (omega (arith, counted, all, suits.1, geometry.fewest_sections))
+    none (enough (omega (arith, fewer, holds.1))) (omega (arith, counted, all, suits.1, geometry.fewest_sections, geometry.fits_device))
 
 -- what holds of all numbers above one, up to 8, and of that one
 pub one_more : (P : ℕ → Type 0) (fewer : ℕ) → fewer < 8 → ((n : ℕ) → 8 - fewer < n → n ≤ 8 → P n) → P (8 - fewer)
@@ -63,15 +65,19 @@ one_more P fewer lt above here n low most = by_place (either n (8 - fewer))
     by_place (inr gt) = above n gt most
 
 -- twice as many extents as chunks and four more, in one section, are a geometry
-pub few_are_one : (chunks pages : ℕ) → 1 ≤ chunks → chunks ≤ 8 → 2 ≤ pages → pages ≤ 65535 → IsGeometry 3 (2 * chunks + 4) pages 1
-few_are_one chunks pages some most two few = record {
-  known = inr refl;
-  fewest_extents = omega (arith, some);
-  most_extents = omega (arith, most);
-  fewest_pages = two;
-  most_pages = few;
-  fewest_sections = omega arith;
-  most_sections = omega arith;
-  section_fits = omega (arith, most);
-  none_empty = omega (arith, some);
-}
+pub few_are_one : (store : List ℕ) → IsIdentity store → (chunks pages : ℕ) → 1 ≤ chunks → chunks ≤ 8 → 2 ≤ pages → pages ≤ 65535
+    → IsGeometry (file_format store (2 * chunks + 4) pages 1) (2 * chunks + 4) pages 1
+few_are_one store identity chunks pages some most two few =
+    let counted : (2 * chunks + 4) * pages ≤ 20 * pages = mul-le-mul_right pages (omega (arith, most)) in
+    record {
+      fits_format = (identity, omega (arith, counted, few));
+      fewest_extents = omega (arith, some);
+      most_extents = omega (arith, most);
+      fewest_pages = two;
+      most_pages = few;
+      fewest_sections = omega arith;
+      most_sections = omega arith;
+      section_fits = omega (arith, most);
+      none_empty = omega (arith, some);
+      fits_device = le_refl (file_pages (2 * chunks + 4) pages 1);
+    }

@@ -1,4 +1,5 @@
 pub mod Asked
+pub mod Devices
 pub mod Files
 pub mod Sizes
 pub mod Sizings

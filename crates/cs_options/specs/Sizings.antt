@@ -2,7 +2,8 @@
 use Rattle.std.specs.Prelude.{ℕ, ◌≢◌, ◌||◌, Bool, true, false, List, Option, None, Some, codes, is_some, unwrap_or}
 use Rattle.clap.specs.declared.parser.matches.ArgMatches.{ArgMatches}
 use Rattle.clap.specs.Words.{first_value, found_of, matched_of}
-use Rattle.cs_frame.specs.Geometries.{sections_needed}
+use Rattle.cs_frame.specs.Geometries.{file_format, sections_needed}
+use Rattle.law_machine.specs.Format.{Format}
 use Rattle.cs_options.specs.Asked.{number_at}
 use Rattle.cs_options.specs.Sizes.{size_of}
 use Rattle.cs_options.specs.declared.sizings.Sizing.{Sizing}
@@ -21,11 +22,11 @@ size_at options name usual = size_or usual (first_value (found_of options) name)
 abbrev pub shards_asked : ArgMatches → ℕ
 shards_asked options = unwrap_or (number_at options (codes "shards")) 1
 
--- both texts, where they are there, are sizes
-abbrev pub IsWished : ArgMatches → Type 0
-IsWished options = (size_at options (codes "size") 67108864 ≢ None) × (size_at options (codes "shard-size") 1048576 ≢ None)
+-- both texts, where they are there, are sizes; so large is what is made where no size is given
+abbrev pub IsWished : ArgMatches → (usual : ℕ) → Type 0
+IsWished options usual = (size_at options (codes "size") usual ≢ None) × (size_at options (codes "shard-size") 1048576 ≢ None)
 
--- the numbers of a geometry of format 3: 64 extents of 256 pages where none are there, and as few sections as may be
+-- the numbers of a geometry: 64 extents of 256 pages where none are there, and as few sections as may be
 abbrev pub extents_given : ArgMatches → ℕ
 extents_given options = unwrap_or (number_at options (codes "extents")) 64
 
@@ -45,6 +46,10 @@ sizes_given options = is_given options (codes "size") || (is_given options (code
 
 abbrev pub numbers_given : ArgMatches → Bool
 numbers_given options = is_given options (codes "extents") || (is_given options (codes "pages") || is_given options (codes "sections"))
+
+-- the format of a store of these numbers with this identity, in a file as large as it needs
+abbrev pub format_given : (store : List ℕ) → ArgMatches → Format
+format_given store options = file_format store (extents_given options) (pages_given options) (sections_given options)
 
 -- by what a store is asked for, where sizes are given or not, and numbers are
 abbrev pub sizing_by : (sizes numbers : Bool) → Sizing

@@ -17,8 +17,8 @@ pub const FILE: Choice = Choice {
 };
 
 /// The identifier of a shard.
-pub const ID: Choice = Choice {
-    name: "id",
+pub const SHARD: Choice = Choice {
+    name: "shard",
     takes: Takes::Word("ID"),
     help: "The identifier, a UUID",
 };
@@ -42,6 +42,20 @@ pub const NO_LOCK: Choice = Choice {
     name: "no-lock",
     takes: Takes::Nothing,
     help: "Takes no lock, for file systems that have none; if another process writes, what is read may be wrong",
+};
+
+/// Which of two stores on one device is read.
+pub const IDENTITY: Choice = Choice {
+    name: "id",
+    takes: Takes::Text("IDENTITY"),
+    help: "Of two stores on one device reads the one with this identity, 32 hex digits or a UUID",
+};
+
+/// The pages of a device that has more now.
+pub const DEVICE_PAGES: Choice = Choice {
+    name: "device-pages",
+    takes: Takes::NumberOrNone,
+    help: "How many pages of 4,096 bytes the store's device has; for one that is longer now and whose page 0 is damaged",
 };
 
 /// The option for lines that programs read.
@@ -72,6 +86,13 @@ pub const SALVAGE_FRAMES: Choice = Choice {
     help: "Prints the newest whole shard of each identifier that the frames in the file have, whatever the index says",
 };
 
+/// The option for frames of other stores.
+pub const ANY_STORE: Choice = Choice {
+    name: "any-store",
+    takes: Takes::Nothing,
+    help: "With --salvage: prints also what frames of other stores have that lie in the file",
+};
+
 /// The option for pages that aren't whole.
 pub const REPAIR: Choice = Choice {
     name: "repair",
@@ -90,7 +111,7 @@ pub const ACCEPT_LOSS: Choice = Choice {
 pub const SIZE: Choice = Choice {
     name: "size",
     takes: Takes::Text("SIZE"),
-    help: "The most that the file may have in all: a number of bytes, or of K, M, G or T [default: 64M]",
+    help: "The most that the file may have in all: a number of bytes, or of K, M, G or T [default: 64M, or all of a device]",
 };
 
 /// The largest shard that has to fit.
@@ -107,7 +128,7 @@ pub const SHARDS: Choice = Choice {
     help: "How many identifiers of one chunk each the index has to have room for [default: 1]",
 };
 
-/// The extents of a new store of format 3.
+/// The extents of a new store.
 pub const EXTENTS: Choice = Choice {
     name: "extents",
     takes: Takes::NumberOrNone,
@@ -126,6 +147,20 @@ pub const SECTIONS: Choice = Choice {
     name: "sections",
     takes: Takes::NumberOrNone,
     help: "How many sections the superblock has, 1 to 15 [default: as few as the extents need]",
+};
+
+/// The option for a store on a device.
+pub const DEVICE: Choice = Choice {
+    name: "device",
+    takes: Takes::Nothing,
+    help: "FILE is a block device, or a file that plays one: its size stays, and the store takes all of it by default",
+};
+
+/// The option for a store over what is there.
+pub const FORCE: Choice = Choice {
+    name: "force",
+    takes: Takes::Nothing,
+    help: "Makes the store over what is in FILE, also over a store, and reports what that was; it is lost",
 };
 
 /// The permissions of a new file.

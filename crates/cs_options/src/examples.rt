@@ -51,7 +51,8 @@ pub const EXPORT: &str = "Example, all shards as a script:
 
 To copy a store use `copy`. To go on after an export that ended early use --from with the last identifier it printed.
 A shard that cannot be read becomes a remark in the script, `# ID refused N Name`, and the exit status is 5.
-With --salvage the script may have shards that were deleted later, or never acknowledged.";
+With --salvage the script may have shards that were deleted later, or never acknowledged. Frames of another store that
+lay on the device before are left out, unless --any-store is given.";
 
 /// Of `stat`.
 pub const STAT: &str = "Example:
@@ -82,12 +83,14 @@ pub const CREATE: &str = "Examples:
   cs_cli create s.store --size 10G --shard-size 4M       larger
   cs_cli create s.store --size 1G --shards 1000000       for a million identifiers
   cs_cli create s.store --extents 64 --pages 256         this geometry
+  cs_cli create --device /dev/sdx                        all of a block device
 
-It prints the geometry that it chose. A file that is there and is not empty is refused (46 NotEmpty), and stays as it is.";
+It prints the geometry that it chose, and the identity of the store. A file that is there and is not empty is refused
+(46 NotEmpty), and stays as it is. So does a device, if one of its first or last 256 pages is not zeros.";
 
 /// Of `copy`.
 pub const COPY: &str = "Examples:
-  cs_cli copy old.store new.store                in format 3, as large as the old one or as its shards need
+  cs_cli copy old.store new.store                in format 4, as large as the old one or as its shards need
   cs_cli copy old.store new.store --size 10G     larger
 
 It writes TO.copying, reads back all of it and compares, and then gives it the name TO. Status 0: all shards are in TO and

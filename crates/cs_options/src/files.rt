@@ -1,11 +1,12 @@
 //! Which file a command is about, and how it is opened or made.
-ghost use Rattle.std.specs.Prelude.{◌≡◌, ◌↔◌, ◌≤◌, Err, IfOk, IfSome, None, Some, codes, is_some, option_map, unwrap_or};
+ghost use Rattle.std.specs.Prelude.{◌≡◌, ◌↔◌, ◌≤◌, Err, IfErr, IfOk, IfSome, None, Ok, Some, codes, is_some, option_map, unwrap_or};
 ghost use Rattle.clap.specs.Words.{found_of, first_value, matched_of};
-ghost use Rattle.cs_options.specs.Asked.{number_at};
+ghost use Rattle.cs_options.specs.Asked.{id_at, number_at};
 ghost use Rattle.cs_options.specs.Files.{NamesTwo, file_asked};
 
 use crate::options::number_given;
 use clap::ArgMatches;
+use cs_frame::{ShardId, StoreId};
 
 /// Why it isn't known which file a command is about.
 #[derive(Clone, Copy, Debug, PartialEq, Eq)]
@@ -34,6 +35,32 @@ pub fn file_of<'a>(
             None => Err(NoFile::NotNamed),
         },
     }
+}
+
+/// The text of `--id` is no identity.
+#[derive(Clone, Copy, Debug, PartialEq, Eq)]
+pub struct NoIdentity;
+
+/// The identity of the store that is asked for; none if `--id` isn't given.
+pub fn identity_of(options: &ArgMatches) -> Result<Option<StoreId>, NoIdentity>
+    ensures none { (result ≡ Ok None) ↔ (first_value (found_of options.now) (codes "id") ≡ None) }
+    ensures value { IfOk result (λ store. option_map (λ store. store.0) store ≡ id_at options.now (codes "id")) }
+    ensures refused { IfErr result (λ _. id_at options.now (codes "id") ≡ None) }
+{
+    match options.get_str("id") {
+        Some(text) => match ShardId::parse(text) {
+            Ok(id) => Ok(Some(StoreId(id.bytes()))),
+            Err(_) => Err(NoIdentity),
+        },
+        None => Ok(None),
+    }
+}
+
+/// How many pages the store's device is said to have; none if `--device-pages` isn't given.
+pub fn device_pages_of(options: &ArgMatches) -> Option<u64>
+    ensures { result ≡ number_at options.now (codes "device-pages") }
+{
+    number_given(options, "device-pages")
 }
 
 /// How many seconds to wait at most for a file that is in use. Default: 0.

@@ -1,9 +1,9 @@
 //! Which geometry a new store gets.
 ghost use Rattle.std.specs.Prelude.{◌≡◌, ◌↔◌, ◌⊎◌, ◌*◌, ◌/◌, ◌+◌, ◌<◌, ◌≤◌, ℕ, IfErr, IfOk, IfSome, IsNone, IsSome, IsTrue};
-ghost use Rattle.cs_frame.specs.Geometries.{device_pages, sections_needed};
+ghost use Rattle.cs_frame.specs.Geometries.{file_format, file_pages, sections_needed};
 ghost use Rattle.cs_options.specs.Wishes.{Holds, IsEnough, NoneSuits, Suits};
 
-use cs_frame::{Format, Geometry};
+use cs_frame::{Geometry, StoreId};
 
 /// What a new store is to hold, and how large it may be.
 #[derive(Clone, Copy, Debug, PartialEq, Eq)]
@@ -33,10 +33,10 @@ const LEFT_BY_PUTS: u64 = 4;
 /// The pages that a superblock of one section and the root have, with their second copies.
 const PAIRED_PAGES: u64 = 4;
 
-/// The most extents of a store of format 3.
+/// The most extents of a store.
 const MOST_EXTENTS: u64 = 7_680;
 
-/// The most pages of an extent of format 3.
+/// The most pages of an extent.
 const MOST_PAGES: u64 = 65_535;
 
 /// How many extents a store gets if nothing asks for larger ones.
@@ -46,19 +46,21 @@ const USUAL_EXTENTS: u64 = 64;
 /// most.
 const USUAL_PAGES: u64 = 1_024;
 
-/// The bytes of a page that no chunk has: the header of a frame and the head of a chunk.
-const CHUNK_OVERHEAD: u64 = 67;
+/// The bytes of an extent that no piece of a shard has: the header of a frame and the head of a chunk.
+const CHUNK_OVERHEAD: u64 = 75;
 
-/// The bytes of an extent that no entry of the index has: the header of a frame and the count of a run.
-const RUN_OVERHEAD: u64 = 45;
+/// The bytes of an extent that no entry of the index has: the header of a frame, the front of the store's identity and
+/// the count of a run.
+const RUN_OVERHEAD: u64 = 53;
 
 /// The bytes of an entry of the index for a shard of one chunk.
 const ENTRY_BYTES: u64 = 33;
 
-/// The geometry of format 3 that a new store gets: some 64 extents; more, of 1,024 pages, from 256 MiB on; and larger
-/// ones if the shards ask for them, or if there would be too many. If none does what is wished, the least size comes
-/// with which one does.
-pub fn geometry_for(wish: Wish) -> Result<Geometry, TooSmall>
+/// The geometry that a new store with this identity gets, in a file as large as the store needs. It has some 64
+/// extents, and from 256 MiB on more, of 1,024 pages. They are larger if the shards ask for it, or if there would be
+/// too many. If no geometry does what is wished, the least size comes with which one does.
+pub fn geometry_for(wish: Wish, store: StoreId) -> Result<Geometry, TooSmall>
+    ensures format { IfOk result (λ geometry. geometry.format ≡ file_format store.0 geometry.extents geometry.pages geometry.sections) }
     ensures suits { IfOk result (λ geometry. (chunks : ℕ) × Suits wish.size wish.shard_size wish.shards geometry.format geometry.extents geometry.pages geometry.sections chunks) }
     ensures none { IfErr result (λ _. (chunks : ℕ) → NoneSuits wish.size wish.shard_size wish.shards chunks) }
     ensures enough { IfErr result (λ small. IfSome small.least (IsEnough wish.shard_size wish.shards)) }
@@ -66,11 +68,11 @@ pub fn geometry_for(wish: Wish) -> Result<Geometry, TooSmall>
 {
     let pages = usual_pages(wish.size).max(pages_needed(wish, MOST_CHUNKS));
     let chunks = chunks_of(wish.shard_size, pages);
-    if let Some(geometry) = with_pages(wish, pages, chunks) {
+    if let Some(geometry) = with_pages(wish, store, pages, chunks) {
         return Ok(geometry);
     }
     for fewer in 0..MOST_CHUNKS {
-        if let Some(geometry) = with_chunks(wish, MOST_CHUNKS - fewer) {
+        if let Some(geometry) = with_chunks(wish, store, MOST_CHUNKS - fewer) {
             return Ok(geometry);
         }
     }
@@ -124,24 +126,28 @@ fn chunks_of(shard_size: u64, pages: u64) -> u64 {
 }
 
 /// The geometry with as few pages an extent as so many chunks need, and as many extents as the size allows.
-fn with_chunks(wish: Wish, chunks: u64) -> Option<Geometry>
+fn with_chunks(wish: Wish, store: StoreId, chunks: u64) -> Option<Geometry>
     requires some { 1 ≤ chunks }
     requires most { chunks ≤ 8 }
+    ensures format { IfSome result (λ geometry. geometry.format ≡ file_format store.0 geometry.extents geometry.pages geometry.sections) }
     ensures suits { IfSome result (λ geometry. Suits wish.size wish.shard_size wish.shards geometry.format geometry.extents geometry.pages geometry.sections chunks) }
     ensures none { IsNone result → NoneSuits wish.size wish.shard_size wish.shards chunks }
 {
-    with_pages(wish, pages_needed(wish, chunks), chunks)
+    with_pages(wish, store, pages_needed(wish, chunks), chunks)
 }
 
 /// The geometry with so many pages an extent, and as many extents as the size allows; none if that doesn't do what is
 /// wished with so many chunks.
-fn with_pages(wish: Wish, pages: u64, chunks: u64) -> Option<Geometry>
+fn with_pages(wish: Wish, store: StoreId, pages: u64, chunks: u64) -> Option<Geometry>
     requires { 2 ≤ pages }
+    ensures format { IfSome result (λ geometry. geometry.format ≡ file_format store.0 geometry.extents geometry.pages geometry.sections) }
     ensures suits { IfSome result (λ geometry. Suits wish.size wish.shard_size wish.shards geometry.format geometry.extents geometry.pages geometry.sections chunks) }
     ensures some { 1 ≤ chunks → chunks ≤ 8 → Holds wish.shard_size wish.shards chunks pages → ((2 * chunks + 4) * pages + 4) * 4096 ≤ wish.size → IsSome result }
 {
     let extents = extents_on(wish.size, pages);
-    let geometry = Geometry::of_format(Format::three(), extents, pages, None).ok()?;
+    // Called for its contract alone: an identity has 16 bytes.
+    store.bytes();
+    let geometry = Geometry::for_file(store, extents, pages, None).ok()?;
     if suits(wish, geometry, chunks) {
         Some(geometry)
     } else {
@@ -153,7 +159,7 @@ fn with_pages(wish: Wish, pages: u64, chunks: u64) -> Option<Geometry>
 fn extents_on(size: u64, pages: u64) -> u64
     requires { 2 ≤ pages }
     ensures most { result ≤ 7680 }
-    ensures room { 1 ≤ result → device_pages 3 result pages (sections_needed result) ≤ size / 4096 }
+    ensures room { 1 ≤ result → file_pages result pages (sections_needed result) ≤ size / 4096 }
     // As many as a shard of 8 chunks asks for at most are found where one section is enough for them.
     ensures enough { (extents : ℕ) → extents ≤ 20 → extents * pages + 4 ≤ size / 4096 → extents ≤ result }
 {
@@ -170,7 +176,7 @@ fn suits(wish: Wish, geometry: Geometry, chunks: u64) -> bool
 {
     let extents = u64::from(geometry.extents());
     geometry.format().has_twins()
-        && geometry.device_pages() * 4096 <= wish.size
+        && geometry.device_pages() <= wish.size / 4096
         && 1 <= chunks
         && chunks <= MOST_CHUNKS
         && 2 * chunks + LEFT_BY_PUTS <= extents

@@ -3,6 +3,7 @@
 
 mod choices;
 mod commands;
+mod devices;
 mod examples;
 mod files;
 mod forms;
@@ -14,8 +15,9 @@ mod tables;
 
 pub use commands::command;
 pub use cs_script as script;
-pub use files::{NoFile, file_of, mode_of, wait_of};
+pub use devices::on_device;
+pub use files::{NoFile, NoIdentity, device_pages_of, file_of, identity_of, mode_of, wait_of};
 pub use geometry_options::{TooSmall, Wish, geometry_for};
 pub use options::{Listing, Measure, from_of, geometry_of, id_of, listing_of, measure_of, race_of};
 pub use sizes::size_of;
-pub use sizings::{Sizing, exact_of, sizing_of, wish_of};
+pub use sizings::{Sizing, USUAL_SIZE, exact_of, sizing_of, wish_of};

@@ -1,11 +1,12 @@
 //! What the options of a command ask for.
-ghost use Rattle.std.specs.Prelude.{◌≡◌, ◌↔◌, IfErr, IfOk, IfSome, IsOk, MatchBool, MatchOption, codes, option_map};
-ghost use Rattle.cs_frame.specs.Geometries.{IsGeometry};
-ghost use Rattle.cs_options.specs.Asked.{IsMeasurable, TellsFlag, batch_asked, bytes_asked, calls_asked, drops_asked, extents_asked, format_asked, from_asked, id_at, limit_asked, number_at, pages_asked, puts_asked, sections_asked, threads_asked};
+ghost use Rattle.std.specs.Prelude.{◌≡◌, ◌↔◌, IfErr, IfOk, IfSome, IsOk, MatchBool, MatchOption, Some, codes, option_map, unwrap_or};
+ghost use Rattle.cs_frame.specs.FormatNumbers.{counted_as};
+ghost use Rattle.cs_frame.specs.Geometries.{sections_needed};
+ghost use Rattle.cs_options.specs.Asked.{IsGeometryAsked, IsGeometryOf, IsMeasurable, TellsFlag, batch_asked, bytes_asked, calls_asked, drops_asked, extents_asked, format_asked, format_numbered, from_asked, id_at, limit_asked, number_at, pages_asked, puts_asked, sections_asked, threads_asked};
 ghost use Rattle.cs_words.specs.RaceNumbers.{IsRaceable};
 
 use clap::ArgMatches;
-use cs_frame::{Format, Geometry, ShardId};
+use cs_frame::{Format, FormatFault, FormatNumber, Geometry, ShardId, StoreId};
 use cs_refusal::Refusal;
 use cs_words::Race;
 
@@ -17,10 +18,11 @@ pub fn number_given(options: &ArgMatches, name: &str) -> Option<u64>
 }
 
 /// The geometry that the options ask for. Defaults: format 2, 6 extents of 2 pages, and as few sections as the extents
-/// need. It is refused 7 BadGeometry alone, if there is no such geometry.
-pub fn geometry_of(options: &ArgMatches) -> Result<Geometry, Refusal>
-    ensures valid { IsOk result ↔ IsGeometry (format_asked options.now) (extents_asked options.now) (pages_asked options.now) (sections_asked options.now) }
-    ensures format { IfOk result (λ geometry. geometry.format ≡ format_asked options.now) }
+/// need. In format 4 it is that of a store with this identity, in a file as large as it needs. It is refused 7
+/// BadGeometry alone, if there is no such geometry.
+pub fn geometry_of(options: &ArgMatches, store: StoreId) -> Result<Geometry, Refusal>
+    ensures valid { IsOk result ↔ IsGeometryAsked store.0 options.now }
+    ensures format { IfOk result (λ geometry. Some geometry.format ≡ format_asked store.0 options.now) }
     ensures extents { IfOk result (λ geometry. geometry.extents ≡ extents_asked options.now) }
     ensures pages { IfOk result (λ geometry. geometry.pages ≡ pages_asked options.now) }
     ensures sections { IfOk result (λ geometry. geometry.sections ≡ sections_asked options.now) }
@@ -30,12 +32,33 @@ pub fn geometry_of(options: &ArgMatches) -> Result<Geometry, Refusal>
     let extents = number_given(options, "extents").unwrap_or(6);
     let pages = number_given(options, "pages").unwrap_or(2);
     let sections = number_given(options, "sections");
-    let Some(format) = Format::numbered(format) else {
+    let Some(format) = FormatNumber::of(format) else {
         return Err(Refusal::BadGeometry);
     };
-    match Geometry::of_format(format, extents, pages, sections) {
+    match geometry_in(format, store, extents, pages, sections) {
         Ok(geometry) => Ok(geometry),
         Err(_) => Err(Refusal::BadGeometry),
+    }
+}
+
+/// The geometry of a store of the format of this number. In format 4 the store has this identity, and lies in a file as
+/// large as it needs.
+fn geometry_in(
+    format: FormatNumber,
+    store: StoreId,
+    extents: u64,
+    pages: u64,
+    sections: Option<u64>,
+) -> Result<Geometry, FormatFault>
+    ensures valid { IsOk result ↔ IsGeometryOf (format_numbered (counted_as format) store.0 extents pages (unwrap_or sections (sections_needed extents))) extents pages (unwrap_or sections (sections_needed extents)) }
+    ensures format { IfOk result (λ geometry. Some geometry.format ≡ format_numbered (counted_as format) store.0 extents pages (unwrap_or sections (sections_needed extents))) }
+    ensures extents { IfOk result (λ geometry. geometry.extents ≡ extents) }
+    ensures pages { IfOk result (λ geometry. geometry.pages ≡ pages) }
+    ensures sections { IfOk result (λ geometry. geometry.sections ≡ unwrap_or sections (sections_needed extents)) }
+{
+    match format {
+        FormatNumber::Two => Geometry::of_format(Format::two(), extents, pages, sections),
+        FormatNumber::Four => Geometry::for_file(store, extents, pages, sections),
     }
 }
 
@@ -54,9 +77,9 @@ pub fn race_of(options: &ArgMatches) -> Option<Race>
 
 /// The identifier that stands as a word. It returns None if the word is no identifier, or isn't there.
 pub fn id_of(options: &ArgMatches) -> Option<ShardId>
-    ensures { option_map (λ id. id.0) result ≡ id_at options.now (codes "id") }
+    ensures { option_map (λ id. id.0) result ≡ id_at options.now (codes "shard") }
 {
-    match options.get_str("id") {
+    match options.get_str("shard") {
         Some(text) => ShardId::parse(text).ok(),
         None => None,
     }

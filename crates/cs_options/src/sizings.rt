@@ -2,17 +2,17 @@
 ghost use Rattle.std.specs.Prelude.{◌≡◌, ◌↔◌, IfErr, IfOk, IsOk, MatchOption, Some, codes};
 ghost use Rattle.cs_frame.specs.Geometries.{IsGeometry};
 ghost use Rattle.cs_options.specs.Asked.{number_at};
-ghost use Rattle.cs_options.specs.Sizings.{IsWished, extents_given, numbers_given, pages_given, sections_given, shards_asked, size_at, sizes_given, sizing_by};
+ghost use Rattle.cs_options.specs.Sizings.{IsWished, extents_given, format_given, numbers_given, pages_given, sections_given, shards_asked, size_at, sizes_given, sizing_by};
 
 use crate::geometry_options::Wish;
 use crate::options::number_given;
 use crate::sizes::size_of;
 use clap::ArgMatches;
-use cs_frame::{Format, Geometry};
+use cs_frame::{Geometry, StoreId};
 use cs_refusal::Refusal;
 
-/// The bytes of a new store's device where no size is given: 64 MiB.
-const USUAL_SIZE: u64 = 67_108_864;
+/// The bytes of a new file where no size is given: 64 MiB.
+pub const USUAL_SIZE: u64 = 67_108_864;
 
 /// The bytes of the largest shard that has to fit where none is given: 1 MiB.
 const USUAL_SHARD: u64 = 1_048_576;
@@ -60,13 +60,13 @@ fn are_numbers_given(options: &ArgMatches) -> bool
         || options.contains_id("sections")
 }
 
-/// What the sizes ask for, by default 64 MiB for shards of 1 MiB and one identifier. It returns None if a text is no
+/// What the sizes ask for. Defaults: this size, shards of 1 MiB, and one identifier. It returns None if a text is no
 /// size.
-pub fn wish_of(options: &ArgMatches) -> Option<Wish>
-    ensures { MatchOption result (¬ IsWished options.now) (λ wish. (size_at options.now (codes "size") 67108864 ≡ Some wish.size)
+pub fn wish_of(options: &ArgMatches, usual: u64) -> Option<Wish>
+    ensures { MatchOption result (¬ IsWished options.now usual) (λ wish. (size_at options.now (codes "size") usual ≡ Some wish.size)
         × (size_at options.now (codes "shard-size") 1048576 ≡ Some wish.shard_size) × (shards_asked options.now ≡ wish.shards)) }
 {
-    let size = size_given(options, "size", USUAL_SIZE)?;
+    let size = size_given(options, "size", usual)?;
     let shard_size = size_given(options, "shard-size", USUAL_SHARD)?;
     Some(Wish {
         size,
@@ -85,10 +85,11 @@ fn size_given(options: &ArgMatches, name: &str, usual: u64) -> Option<u64>
     }
 }
 
-/// The geometry that the numbers ask for, by default 64 extents of 256 pages. It is refused 7 BadGeometry alone.
-pub fn exact_of(options: &ArgMatches) -> Result<Geometry, Refusal>
-    ensures valid { IsOk result ↔ IsGeometry 3 (extents_given options.now) (pages_given options.now) (sections_given options.now) }
-    ensures format { IfOk result (λ geometry. geometry.format ≡ 3) }
+/// The geometry that the numbers ask for, by default 64 extents of 256 pages. It is that of a store with this identity,
+/// in a file as large as the store needs. It is refused 7 BadGeometry alone.
+pub fn exact_of(options: &ArgMatches, store: StoreId) -> Result<Geometry, Refusal>
+    ensures valid { IsOk result ↔ IsGeometry (format_given store.0 options.now) (extents_given options.now) (pages_given options.now) (sections_given options.now) }
+    ensures format { IfOk result (λ geometry. geometry.format ≡ format_given store.0 options.now) }
     ensures extents { IfOk result (λ geometry. geometry.extents ≡ extents_given options.now) }
     ensures pages { IfOk result (λ geometry. geometry.pages ≡ pages_given options.now) }
     ensures sections { IfOk result (λ geometry. geometry.sections ≡ sections_given options.now) }
@@ -97,7 +98,7 @@ pub fn exact_of(options: &ArgMatches) -> Result<Geometry, Refusal>
     let extents = number_given(options, "extents").unwrap_or(64);
     let pages = number_given(options, "pages").unwrap_or(256);
     let sections = number_given(options, "sections");
-    match Geometry::of_format(Format::three(), extents, pages, sections) {
+    match Geometry::for_file(store, extents, pages, sections) {
         Ok(geometry) => Ok(geometry),
         Err(_) => Err(Refusal::BadGeometry),
     }

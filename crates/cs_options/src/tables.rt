@@ -1,8 +1,9 @@
 //! The commands, each with its options.
 
 use crate::choices::{
-    ACCEPT_LOSS, AS_OF, EXTENTS, FILE, FROM, ID, JSON, MODE, NO_LOCK, PAGES, REPAIR, SALVAGE,
-    SALVAGE_FRAMES, SECTIONS, SHARD_SIZE, SHARDS, SIZE, STORE, WAIT,
+    ACCEPT_LOSS, ANY_STORE, AS_OF, DEVICE, DEVICE_PAGES, EXTENTS, FILE, FORCE, FROM, IDENTITY,
+    JSON, MODE, NO_LOCK, PAGES, REPAIR, SALVAGE, SALVAGE_FRAMES, SECTIONS, SHARD, SHARD_SIZE,
+    SHARDS, SIZE, STORE, WAIT,
 };
 use crate::examples;
 use crate::forms::{Choice, Form, Takes};
@@ -11,29 +12,41 @@ use crate::forms::{Choice, Form, Takes};
 pub const SHARD_FORMS: &[Form] = &[
     Form {
         name: "create",
-        about: "Makes a new store in a file",
+        about: "Makes a new store in a file, or on a block device",
         after: Some(examples::CREATE),
         options: &[
-            STORE, SIZE, SHARD_SIZE, SHARDS, EXTENTS, PAGES, SECTIONS, MODE, JSON, FILE,
+            STORE, SIZE, SHARD_SIZE, SHARDS, EXTENTS, PAGES, SECTIONS, DEVICE, FORCE, MODE, JSON,
+            FILE,
         ],
     },
     Form {
         name: "put",
         about: "Puts the bytes of standard input under an identifier, and makes that persistent",
         after: Some(examples::PUT),
-        options: &[ID, STORE, WAIT, JSON, FILE],
+        options: &[SHARD, STORE, DEVICE_PAGES, WAIT, JSON, FILE],
     },
     Form {
         name: "get",
         about: "Writes the bytes under an identifier to standard output",
         after: Some(examples::GET),
-        options: &[ID, STORE, AS_OF, SALVAGE, WAIT, NO_LOCK, JSON, FILE],
+        options: &[
+            SHARD,
+            STORE,
+            IDENTITY,
+            AS_OF,
+            SALVAGE,
+            DEVICE_PAGES,
+            WAIT,
+            NO_LOCK,
+            JSON,
+            FILE,
+        ],
     },
     Form {
         name: "del",
         about: "Deletes a shard, and makes that persistent",
         after: Some(examples::DELETE),
-        options: &[ID, STORE, WAIT, JSON, FILE],
+        options: &[SHARD, STORE, DEVICE_PAGES, WAIT, JSON, FILE],
     },
 ];
 
@@ -51,8 +64,10 @@ pub const WHOLE_FORMS: &[Form] = &[
                 takes: Takes::NumberOrNone,
                 help: "Prints so many at most",
             },
+            IDENTITY,
             AS_OF,
             SALVAGE,
+            DEVICE_PAGES,
             WAIT,
             NO_LOCK,
             JSON,
@@ -63,19 +78,39 @@ pub const WHOLE_FORMS: &[Form] = &[
         name: "stat",
         about: "Prints the geometry of a store, and how full it is",
         after: Some(examples::STAT),
-        options: &[STORE, AS_OF, WAIT, NO_LOCK, JSON, FILE],
+        options: &[
+            STORE,
+            IDENTITY,
+            AS_OF,
+            DEVICE_PAGES,
+            WAIT,
+            NO_LOCK,
+            JSON,
+            FILE,
+        ],
     },
     Form {
         name: "scrub",
         about: "Reads all that a store has, and prints what cannot be read",
         after: Some(examples::SCRUB),
-        options: &[STORE, AS_OF, REPAIR, ACCEPT_LOSS, WAIT, NO_LOCK, JSON, FILE],
+        options: &[
+            STORE,
+            IDENTITY,
+            AS_OF,
+            REPAIR,
+            ACCEPT_LOSS,
+            DEVICE_PAGES,
+            WAIT,
+            NO_LOCK,
+            JSON,
+            FILE,
+        ],
     },
     Form {
         name: "reclaim",
         about: "Empties the extents that have the most garbage, and makes that persistent",
         after: Some(examples::RECLAIM),
-        options: &[STORE, WAIT, JSON, FILE],
+        options: &[STORE, DEVICE_PAGES, WAIT, JSON, FILE],
     },
 ];
 
@@ -102,6 +137,8 @@ pub const COPY_FORMS: &[Form] = &[
             EXTENTS,
             PAGES,
             SECTIONS,
+            IDENTITY,
+            DEVICE_PAGES,
             MODE,
             WAIT,
             NO_LOCK,
@@ -115,8 +152,11 @@ pub const COPY_FORMS: &[Form] = &[
         options: &[
             STORE,
             FROM,
+            IDENTITY,
             AS_OF,
             SALVAGE_FRAMES,
+            ANY_STORE,
+            DEVICE_PAGES,
             WAIT,
             NO_LOCK,
             JSON,
@@ -135,22 +175,22 @@ pub const OTHER_FORMS: &[Form] = &[
             Choice {
                 name: "format",
                 takes: Takes::Number("2"),
-                help: "The format of a new store: 2, or 3, which has more room and survives more damage",
+                help: "The format of a new store: 2, or 4, which has more room and survives more damage",
             },
             Choice {
                 name: "extents",
                 takes: Takes::Number("6"),
-                help: "How many extents a new store has, 4 to 2,048; in format 3 from 5 to 7,680",
+                help: "How many extents a new store has, 4 to 2,048; in format 4 from 5 to 7,680",
             },
             Choice {
                 name: "pages",
                 takes: Takes::Number("2"),
-                help: "How many pages of 4,096 bytes an extent of a new store has, 2 to 256; in format 3 to 65,535",
+                help: "How many pages of 4,096 bytes an extent of a new store has, 2 to 256; in format 4 to 65,535",
             },
             Choice {
                 name: "sections",
                 takes: Takes::NumberOrNone,
-                help: "How many sections the superblock of a new store has, 1 to 8, in format 3 to 15 [default: as few as its extents need]",
+                help: "How many sections the superblock of a new store has, 1 to 8, in format 4 to 15 [default: as few as its extents need]",
             },
             Choice {
                 name: "file",
@@ -163,6 +203,7 @@ pub const OTHER_FORMS: &[Form] = &[
                 help: "Makes a new store in the file, and loses what is in it",
             },
             AS_OF,
+            DEVICE_PAGES,
             Choice {
                 name: "strict",
                 takes: Takes::Nothing,
@@ -233,18 +274,18 @@ pub const OTHER_FORMS: &[Form] = &[
             },
             Choice {
                 name: "format",
-                takes: Takes::Number("3"),
-                help: "The format of the store: 3, or 2",
+                takes: Takes::Number("4"),
+                help: "The format of the store: 4, or 2",
             },
             Choice {
                 name: "extents",
                 takes: Takes::Number("64"),
-                help: "How many extents the store has, 4 to 2,048; in format 3 from 5 to 7,680",
+                help: "How many extents the store has, 4 to 2,048; in format 4 from 5 to 7,680",
             },
             Choice {
                 name: "pages",
                 takes: Takes::Number("256"),
-                help: "How many pages of 4,096 bytes an extent has, 2 to 256; in format 3 to 65,535",
+                help: "How many pages of 4,096 bytes an extent has, 2 to 256; in format 4 to 65,535",
             },
             JSON,
             FILE,

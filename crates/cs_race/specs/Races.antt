@@ -38,7 +38,8 @@ answer_status (Err why) = 1
 abbrev pub IsNoRace : Refusal → Type 0
 IsNoRace r = (r ≡ OutOfMemory) ⊎ (r ≡ WornOut)
 
--- a close over these purses answers so: they account for the core, of whose commands so many are persistent, or they don't
+-- a close over these purses answers so: they account for the core, of whose commands so many are persistent, or they
+-- don't
 abbrev pub CloseAnswers : {D : Type 0} → RestView D → List Holdings → Result ℕ Unclosed → Type 0
 CloseAnswers rest purses (Ok n) = Accounted rest.core rest.given rest.handed purses × (n ≡ rest.core.store.frontier)
 CloseAnswers rest purses (Err why) = Fails rest purses why

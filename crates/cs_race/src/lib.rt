@@ -1,5 +1,5 @@
-//! Races: threads put, get back and poll, beside a pilot and a reclaimer, on one node, which is closed then. What is printed goes to a stream
-//! that is given.
+//! Races: threads put, get back and poll, beside a pilot and a reclaimer, on one node, which is closed then. What is
+//! printed goes to a stream that is given.
 #![tactic(auto)]
 
 mod racers;

@@ -101,8 +101,8 @@ impl Drop for Finish {
     }
 }
 
-/// All that run in a race, each ahead of those that it waits for: where a thread can't be made what stands behind is done first, so
-/// all of them end then too. Refused 9 OutOfMemory, and 35 WornOut where the node has no purse left.
+/// All that run in a race, each ahead of those that it waits for: where a thread can't be made what stands behind is
+/// done first, so all of them end then too. Refused 9 OutOfMemory, and 35 WornOut where the node has no purse left.
 pub fn racers_of<D: PageDisk, K: Naming, R: Wait>(
     rt: &R,
     alloc: Global,

@@ -1,5 +1,5 @@
-//! Races: threads put, get back and poll, beside a pilot and a reclaimer, on one node, which is closed then. Where the writer fails, the
-//! status is 4.
+//! Races: threads put, get back and poll, beside a pilot and a reclaimer, on one node, which is closed then. Where the
+//! writer fails, the status is 4.
 ghost use Rattle.std.specs.Prelude.{◌≡◌, ◌⊎◌, ◌≤◌, ◌<◌, ℕ, List, [], IfErr, IfOk, OnOk};
 ghost use Rattle.std.specs.Io.KnownBytes.{Appends};
 ghost use Rattle.cs_node.specs.Starts.{start_of};
@@ -91,8 +91,8 @@ fn race_on<D: PageDisk + Send + Drop, K: Naming + Send + Sync, R: Threads + Wait
     }
 }
 
-/// Runs a race on a node, and then writes back what is left. Refused 9 OutOfMemory, and 35 WornOut where the node has no pilot or no
-/// purse left.
+/// Runs a race on a node, and then writes back what is left. Refused 9 OutOfMemory, and 35 WornOut where the node has
+/// no pilot or no purse left.
 fn run_on<D: PageDisk + Send + Drop, K: Naming + Send + Sync, R: Threads + Wait + Sync>(
     rt: &R,
     alloc: Global,

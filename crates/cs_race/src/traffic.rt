@@ -19,8 +19,9 @@ impl Traffic {
         }
     }
 
-    /// Counts a ticket, and says whether it may be sent where there are so many places: there is one for it, or somebody is there who
-    /// makes room. Where nobody is there yet, whoever waits for room might wait for a thread that is never made.
+    /// Counts a ticket, and says whether it may be sent where there are so many places: there is one for it, or
+    /// somebody is there who makes room. Where nobody is there yet, whoever waits for room might wait for a thread that
+    /// is never made.
     pub fn has_room(&self, places: usize) -> bool {
         let before = self.sent.fetch_add(1, Ordering::SeqCst);
         before < places as u64 || self.attended.load(Ordering::SeqCst) == 1

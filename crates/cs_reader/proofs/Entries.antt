@@ -1,24 +1,26 @@
 -- Entries that can be spelled, as a page has them and as the machine has them.
-use Rattle.std.proofs.Common.{◌≡◌, inl, inr, ℕ, ◌-◌, ◌*◌, ◌/◌, ◌<◌, ◌≤◌, ◌^◌, Bool, true, nat_le, nat_lt, List, [], ◌∷◌, ◌++◌, length, map, append-nil, append_assoc, if◌then◌else◌, false, subst, refl, sym, ap, ap₂, ◌∙◌, arith}
+use Rattle.std.proofs.Common.{◌≡◌, inl, inr, ℕ, ◌-◌, ◌*◌, ◌/◌, ◌<◌, ◌≤◌, ◌^◌, Bool, true, nat_le, nat_lt, List, [], ◌∷◌, ◌++◌, length, map, append-nil, append_assoc, false, subst, refl, sym, ap, ap₂, ◌∙◌, arith}
 use Rattle.std.specs.List.{AllByRecursion, flat_map, list_all}
 use Rattle.std.proofs.Math.Nat.{mod-eq_of_lt}
 use Rattle.std.proofs.lemmas.Bool.{and_from, and_parts, le-leb, leb-true, lt-ltb, ltb-true}
 use Rattle.std.proofs.lemmas.List.{length-map}
 use Rattle.byteorder.specs.Endian.{big_bytes, big_from}
 use Rattle.byteorder.specs.Numbers.{big_from-bytes}
-use Rattle.cs_frame.proofs.FormatLaws.{id_in_16}
 use Rattle.cs_frame.specs.declared.identifiers.ShardId.{ShardId}
 use Rattle.cs_frame.specs.declared.locators.Locator.{Locator}
 use Rattle.cs_frame.specs.Bytes.{IsBytes, zeros}
+use Rattle.cs_frame.specs.FormatRuns.{spelled_run}
 use Rattle.cs_frame.specs.Formats.{as_entry, as_locator, fits_entry, fits_locator, fits_run, id_bytes, place_of, rises}
 use Rattle.cs_frame.specs.Locators.{FitsLocator, most_mark, spelled_locators}
 use Rattle.cs_frame.specs.PackedRuns.{packed_entry, packed_run}
-use Rattle.cs_frame.specs.Runs.{Entry as SpelledEntry, FitsEntry, FitsRun, Rises, entries_of as spelled_entries, entry_of, is_before, plain_run, spelled_entry}
+use Rattle.cs_frame.specs.Runs.{Entry as SpelledEntry, FitsEntry, FitsRun, Rises, entries_of as spelled_entries, entry_of, is_before, spelled_entry}
 use Rattle.cs_frame.specs.Places.{Listed}
 use Rattle.cs_index.proofs.Numbers.{before_is}
 use Rattle.cs_frame.specs.Identifiers.{id_number}
 use Rattle.cs_index.specs.State.{named_entry}
 use Rattle.law_machine.specs.Element.{Entry, Locator as Place}
+use Rattle.law_machine.specs.Format.{Format, Four, Two}
+use Rattle.law_machine.specs.Geometry.{store_front}
 use Rattle.law_machine.specs.Index.{Ascending}
 use Rattle.law_machine.specs.Lists.{◌∈◌}
 use Rattle.cs_reader.proofs.Listed.{bytes_back, bytes_front}
@@ -102,10 +104,16 @@ tests_of marked entries fits =
 small : (id : ℕ) → IsBytes (id_bytes id) → id < 2 ^ 128
 small id are = let first : id / 256 ^ 15 < 256 = are 0 in omega (arith, first)
 
+-- so its bytes are those of the number, high byte first
+high_first : (id : ℕ) → id < 2 ^ 128 → id_bytes id ≡ big_bytes 16 id
+high_first id low =
+    let above : id / 256 ^ 15 < 256 = omega (arith, low) in
+    ap (λ (b : ℕ). b ∷ big_bytes 15 id) (sym (mod-eq_of_lt above))
+
 number_again : (id : ℕ) → IsBytes (id_bytes id) → id_number (record { 0 = id_bytes id }) ≡ id
 unfolding id_number
 number_again id are =
-    ap (big_from 0 16) (id_in_16 id (small id are) ∙ sym (append-nil (big_bytes 16 id))) ∙ big_from-bytes 16 id [] ∙ mod-eq_of_lt (let lt : id < 2 ^ 128 = small id are in omega (arith, lt))
+    ap (big_from 0 16) (high_first id (small id are) ∙ sym (append-nil (big_bytes 16 id))) ∙ big_from-bytes 16 id [] ∙ mod-eq_of_lt (let lt : id < 2 ^ 128 = small id are in omega (arith, lt))
 
 before_ids : (a b : ℕ) → IsBytes (id_bytes a) → IsBytes (id_bytes b) → a < b → is_before (id_bytes a) (id_bytes b) ≡ true
 before_ids a b are are' lt =
@@ -139,9 +147,11 @@ ids_of spell begins (x ∷ xs) are = (
 )
 
 -- the identifiers of a run whose payload's bytes are bytes
-pub ids_in_run : (marked : Bool) (xs : List Entry) → IsBytes (if marked then packed_run (map as_entry xs) else plain_run (map as_entry xs)) → AllByRecursion (λ x. IsBytes (id_bytes x.id)) xs
-ids_in_run true xs are = ids_of packed_entry packed_begins xs (bytes_back (big_bytes 4 (length (map as_entry xs))) (flat_map packed_entry (map as_entry xs)) are)
-ids_in_run false xs are = ids_of spelled_entry plain_begins xs (bytes_back (big_bytes 4 (length (map as_entry xs))) (flat_map spelled_entry (map as_entry xs)) are)
+pub ids_in_run : (format : Format) (xs : List Entry) → IsBytes (spelled_run format (map as_entry xs)) → AllByRecursion (λ x. IsBytes (id_bytes x.id)) xs
+ids_in_run Two xs are = ids_of spelled_entry plain_begins xs (bytes_back (big_bytes 4 (length (map as_entry xs))) (flat_map spelled_entry (map as_entry xs)) are)
+ids_in_run (Four store device) xs are = ids_of packed_entry packed_begins xs
+    (bytes_back (big_bytes 4 (length (map as_entry xs))) (flat_map packed_entry (map as_entry xs))
+    (bytes_back (store_front (Four store device)) (packed_run (map as_entry xs)) are))
 
 located_fit : (marked : Bool) (ls : List Place) → ((l : Place) → l ∈ ls → FitsLocator marked (as_locator l)) → AllByRecursion (FitsLocator marked) (map as_locator ls)
 located_fit marked [] all = tt

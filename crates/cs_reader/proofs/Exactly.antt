@@ -7,7 +7,7 @@ use Rattle.cs_chunk.specs.Reads.{IsOfFault, fault_in}
 use Rattle.cs_refusal.specs.declared.refusals.Refusal.{Refusal}
 use Rattle.cs_extent.specs.State.{IsWhole, State as ExtentsState, extents_at, section_rows, shape}
 use Rattle.cs_frame.proofs.FirstFormatLaws.{spelled_has_none as first_has_none, zero_of_first, zero_of_section}
-use Rattle.cs_frame.proofs.GeometryLaws.{bounds}
+use Rattle.cs_frame.proofs.GeometryLaws.{bounds, pages_on_device}
 use Rattle.cs_frame.proofs.RootLaws as roots
 use Rattle.cs_frame.proofs.FormatRunLaws.{fault-spelled}
 use Rattle.cs_frame.proofs.SuperblockLaws as superblocks
@@ -17,7 +17,9 @@ use Rattle.cs_frame.specs.declared.locators.Locator.{Locator}
 use Rattle.cs_frame.specs.FirstFormat.{SpellsPageZero, page_zero_fault}
 use Rattle.cs_frame.specs.Formats.{formats_of}
 use Rattle.cs_frame.specs.Geometries.{IsGeometry, device_pages, section_size}
-use Rattle.cs_frame.specs.Roots.{root_fault}
+use Rattle.cs_frame.specs.FormatNumbers.{number_in}
+use Rattle.cs_frame.specs.declared.formats.FormatNumber.{FormatNumber}
+use Rattle.cs_frame.specs.Roots.{SpellsRoot, identity_in, root_fault, root_identity}
 use Rattle.cs_frame.specs.FormatRuns.{run_fault}
 use Rattle.cs_frame.specs.Superblocks.{SpellsSuperblock, record_in, superblock_fault}
 use Rattle.cs_reader.proofs.OneByOne.{place_inside}
@@ -28,14 +30,23 @@ use Rattle.cs_index.proofs.Sorted.{all_at}
 use Rattle.cs_index.specs.State.{newest_first}
 use Rattle.law_machine.specs.Device.{Shape}
 use Rattle.law_machine.specs.Element.{Map}
+use Rattle.law_machine.specs.Format.{Format}
 use Rattle.law_machine.specs.Geometry.{most_weight_in, shape_of, weigh_in}
 use Rattle.law_machine.specs.Index.{entries_of, named_weight}
 use Rattle.law_machine.specs.Recovery.{Recovers}
-use Rattle.cs_reader.specs.Openings.{IsIndexDamaged, IsOtherDevice, IsOtherSection, IsOtherSpelled, IsRootDamaged, IsRootLost, IsRunDamaged, IsSectionDamaged, IsSuperblockDamaged, IsTooSmall, IsWhyNotOpened, IsWhyNotRead}
+use Rattle.cs_reader.specs.Openings.{IsIndexDamaged, IsOtherDevice, IsOtherRoot, IsOtherSection, IsOtherSpelled, IsRootDamaged, IsRootLost, IsRunDamaged, IsSectionDamaged, IsSuperblockDamaged, IsTooSmall, IsWhyNotOpened, IsWhyNotRead}
 use Rattle.cs_reader.proofs.SectionReads.{further_page}
 
 no_fault : (found : Option FormatFault) (x : Refusal) → found ≡ None → IsOfFault found x → ⊥
 no_fault found x none f = let clash : None ≡ Some f.0 = sym none ∙ f.1 in cc clash
+
+-- one page is the root of one store
+one_identity : (page : List ℕ) (store s : Option (List ℕ)) (version w commands k : ℕ) (runs ls : List Locator)
+    → SpellsRoot page store version commands runs → SpellsRoot page s w k ls → store ≡ s
+one_identity page store s version w commands k runs ls a b =
+    sym (roots.one_root page store version commands runs a).of_store
+    ∙ ap (λ (n : FormatNumber). root_identity n page) (roots.one_format page store s version w commands k runs ls a b)
+    ∙ (roots.one_root page s w k ls b).of_store
 
 -- a run that can be read is read
 read_there : (x : ExtentsState) (whole : IsWhole x) (view : ℕ → List ℕ) (place : Locator) (r : Refusal) → IsReadable x view place → IsWhyNotRead x view place r → ⊥
@@ -44,27 +55,27 @@ read_there x whole view place r has (inr (inl broken)) =
     no_fault (fault_in x view Run place) r (no_fault_there x whole view Run place (place_inside x place whole has.1.located).1 has.1.payload has.1.frame) broken.1
 read_there x whole view place r has (inr (inr spoiled)) =
     let same : has.1.payload ≡ spoiled.1.0 = one_frame x whole view Run place (place_inside x place whole has.1.located).1 has.1.payload spoiled.1.0 has.1.frame spoiled.1.1 in
-    no_fault (run_fault x.format spoiled.1.0) r (ap (run_fault x.format) (sym same) ∙ fault-spelled x.format has.1.payload has.0 has.1.spelled) spoiled.1.2
+    no_fault (run_fault x.format spoiled.1.0) r (ap (run_fault x.format) (sym same) ∙ fault-spelled x.format has.1.payload has.0 whole.geometry.fits_format has.1.spelled) spoiled.1.2
 
 -- a section that page 0 spells has no fault there
-no_zero_fault : (page : List ℕ) (format version recorded extents pages sections section : ℕ) (rows : List (ℕ × ℕ)) → SpellsPageZero page format version recorded extents pages sections section rows → page_zero_fault page ≡ None
-no_zero_fault page format version recorded extents pages sections section rows (inl is) = zero_of_section format page is.fits.geometry.known (superblocks.spelled_has_none page format version recorded extents pages sections section rows is)
+no_zero_fault : (page : List ℕ) (format : Format) (version recorded extents pages sections section : ℕ) (rows : List (ℕ × ℕ)) → SpellsPageZero page format version recorded extents pages sections section rows → page_zero_fault page ≡ None
+no_zero_fault page format version recorded extents pages sections section rows (inl is) = zero_of_section (number_in format) page (superblocks.spelled_has_none page format version recorded extents pages sections section rows is)
 no_zero_fault page format version recorded extents pages sections section rows (inr is) = zero_of_first page (first_has_none page version pages rows is.spells)
 
-module _ (count : ℕ) (view : ℕ → List ℕ) (format extents pages sections : ℕ) (is : IsGeometry format extents pages sections) (sized : count ≡ device_pages format extents pages sections) (are : ArePages count view) (n : ℕ) (m : Map)
+module _ (count : ℕ) (view : ℕ → List ℕ) (format : Format) (extents pages sections : ℕ) (is : IsGeometry format extents pages sections) (sized : count ≡ device_pages format extents pages sections) (are : ArePages count view) (n : ℕ) (m : Map)
     (r : Recovers (shape_of extents pages sections (section_size extents sections) format) (formats_of (shape_of extents pages sections (section_size extents sections) format)) view n m) where
   abbrev S : Shape
   S = shape_of extents pages sections (section_size extents sections) format
 
   -- in the words of sections that were read
-  pub recovers_here : (f k p : ℕ) (written : List (ℕ × ℕ)) → f ≡ format → length written ≡ extents → p ≡ pages → k ≡ sections → Recovers (shape (extents_at f p k written)) (formats_of (shape (extents_at f p k written))) view n m
-  recovers_here f k p written c l e d = subst (λ (i : ℕ). Recovers (shape_of (length written) p k (section_size (length written) k) i) (formats_of (shape_of (length written) p k (section_size (length written) k) i)) view n m) (sym c)
+  pub recovers_here : (f : Format) (k p : ℕ) (written : List (ℕ × ℕ)) → f ≡ format → length written ≡ extents → p ≡ pages → k ≡ sections → Recovers (shape (extents_at f p k written)) (formats_of (shape (extents_at f p k written))) view n m
+  recovers_here f k p written c l e d = subst (λ (i : Format). Recovers (shape_of (length written) p k (section_size (length written) k) i) (formats_of (shape_of (length written) p k (section_size (length written) k) i)) view n m) (sym c)
       (subst (λ (i : ℕ). Recovers (shape_of i p k (section_size i k) format) (formats_of (shape_of i p k (section_size i k) format)) view n m) (sym l)
       (subst (λ (q : ℕ). Recovers (shape_of extents q k (section_size extents k) format) (formats_of (shape_of extents q k (section_size extents k) format)) view n m) (sym e)
       (subst (λ (j : ℕ). Recovers (shape_of extents pages j (section_size extents j) format) (formats_of (shape_of extents pages j (section_size extents j) format)) view n m) (sym d) r)))
 
   -- whatever sections are read have these numbers
-  pub same_numbers : (f : ℕ) (versions records : List ℕ) (p : ℕ) (written : List (ℕ × ℕ)) → AreSectionsRead view f versions records p written → (f ≡ format) × (length written ≡ extents) × (p ≡ pages) × (length versions ≡ sections)
+  pub same_numbers : (f : Format) (versions records : List ℕ) (p : ℕ) (written : List (ℕ × ℕ)) → AreSectionsRead view f versions records p written → (f ≡ format) × (length written ≡ extents) × (p ≡ pages) × (length versions ≡ sections)
   same_numbers f versions records p written read =
       let same = zero_same format extents pages sections is view n m r f (slice_index versions 0) (slice_index records 0) (length written) p (length versions) 0 (section_rows (extents_at f p (length versions) written) 0)
       (read.each 0 read.geometry.fewest_sections) in
@@ -72,7 +83,8 @@ module _ (count : ℕ) (view : ℕ → List ℕ) (format extents pages sections 
 
   not_small : (x : Refusal) → IsTooSmall count x → ⊥
   not_small x w = let many : extents * 2 ≤ extents * pages = mul-le-mul_left extents is.fewest_pages in let few : count < 10 = w.small in let four : 4 ≤ extents = (bounds format extents pages sections is).fewest_extents in let some : 1 ≤ sections = is.fewest_sections in
-      omega (arith, many, few, four, some, sized)
+      let on = pages_on_device format extents pages sections is in
+      omega (arith, many, few, four, some, on, sized)
 
   zero_there : SpellsAt 0 (view (S.section_page 0)) format (r.versions 0) (record_in format (r.recorded 0)) extents pages sections (part format extents pages sections is view n m r 0)
   zero_there = section_spelled format extents pages sections is view n m r 0 is.fewest_sections
@@ -87,7 +99,7 @@ module _ (count : ℕ) (view : ℕ → List ℕ) (format extents pages sections 
   this_device : (x : Refusal) → IsOtherDevice count view x → ⊥
   this_device x w =
       let same = zero_same format extents pages sections is view n m r w.format w.version w.recorded w.extents w.pages w.sections 0 w.rows w.superblock in
-      w.other (sized ∙ ap (λ (k : ℕ). device_pages k extents pages sections) (sym same.0) ∙ ap (λ (k : ℕ). device_pages w.format k pages sections) (sym same.1)
+      w.other (sized ∙ ap (λ (k : Format). device_pages k extents pages sections) (sym same.0) ∙ ap (λ (k : ℕ). device_pages w.format k pages sections) (sym same.1)
       ∙ ap (λ (k : ℕ). device_pages w.format w.extents k sections) (sym same.2) ∙ ap (λ (k : ℕ). device_pages w.format w.extents w.pages k) (sym same.3))
 
   -- the page of a further section spells it
@@ -112,18 +124,26 @@ module _ (count : ℕ) (view : ℕ → List ℕ) (format extents pages sections 
       let spelled : SpellsSuperblock (view (1 + w.extents * w.pages + y.section)) format there.0 there.1 extents pages sections y.section there.2 =
       subst (λ (p : ℕ). SpellsSuperblock (view p) format there.0 there.1 extents pages sections y.section there.2) (sym number) there.3 in
       ⊎_elim
-      (λ (f : IsOfFault (superblock_fault w.format (view (1 + w.extents * w.pages + y.section))) x).
-      no_fault (superblock_fault w.format (view (1 + w.extents * w.pages + y.section))) x (subst (λ (i : ℕ). superblock_fault i (view (1 + w.extents * w.pages + y.section)) ≡ None) (sym same.0) (superblocks.spelled_has_none (view (1 + w.extents * w.pages + y.section)) format there.0 there.1 extents pages sections y.section there.2 spelled)) f)
+      (λ (f : IsOfFault (superblock_fault (number_in w.format) (view (1 + w.extents * w.pages + y.section))) x).
+      no_fault (superblock_fault (number_in w.format) (view (1 + w.extents * w.pages + y.section))) x (subst (λ (i : Format). superblock_fault (number_in i) (view (1 + w.extents * w.pages + y.section)) ≡ None) (sym same.0) (superblocks.spelled_has_none (view (1 + w.extents * w.pages + y.section)) format there.0 there.1 extents pages sections y.section there.2 spelled)) f)
       (λ (o : IsOtherSpelled w.format w.extents w.pages w.sections y.section (view (1 + w.extents * w.pages + y.section)) x).
-      let one = section_one (view (1 + w.extents * w.pages + y.section)) w.format o.version o.recorded o.their_extents o.their_pages o.their_sections o.their_section o.rows format there.0 there.1 extents pages sections y.section there.2 o.spelled spelled in
-      o.other (one.1 ∙ sym same.1, one.2 ∙ sym same.2, one.3 ∙ sym same.3, one.4))
+      let one = section_one (view (1 + w.extents * w.pages + y.section)) o.their_format o.version o.recorded o.their_extents o.their_pages o.their_sections o.their_section o.rows format there.0 there.1 extents pages sections y.section there.2 o.spelled spelled in
+      o.other (one.0 ∙ sym same.0, one.1 ∙ sym same.1, one.2 ∙ sym same.2, one.3 ∙ sym same.3, one.4))
       y.why
 
   root_there : (x : Refusal) → IsRootDamaged count view x → ⊥
   root_there x w =
       let spelled = root_spelled format extents pages sections is view n m r in
       let same = same_numbers w.format w.versions w.records w.pages w.written w.extents.sections in
-      no_fault (root_fault w.format (view 1)) x (subst (λ (i : ℕ). root_fault i (view 1) ≡ None) (sym same.0) (roots.spelled_has_none (view 1) _ _ _ _ spelled)) w.fault
+      no_fault (root_fault (number_in w.format) (view 1)) x (subst (λ (i : FormatNumber). root_fault i (view 1) ≡ None) (roots.number_of_identity format ∙ ap number_in (sym same.0)) (roots.spelled_has_none (view 1) _ _ _ _ spelled)) w.fault
+
+  -- and the root that page 1 spells is the store's
+  own_root : (x : Refusal) → IsOtherRoot count view x → ⊥
+  own_root x w =
+      let spelled = root_spelled format extents pages sections is view n m r in
+      let same = same_numbers w.format w.versions w.records w.pages w.written w.extents.sections in
+      let o = w.spelled in
+      o.other (one_identity (view 1) o.store (identity_in format) o.version r.version o.commands n o.places _ o.root spelled ∙ ap identity_in (sym same.0))
 
   -- no section records a later root
   root_kept : (x : Refusal) → IsRootLost count view x → ⊥
@@ -136,7 +156,7 @@ module _ (count : ℕ) (view : ℕ → List ℕ) (format extents pages sections 
       let later : w.root.version < slice_index w.records w.section = w.later in
       omega (arith, low, later)
 
-  pages_there : (f k p : ℕ) (written : List (ℕ × ℕ)) → count ≡ device_pages f (length written) p k → ArePages (device_pages f (length written) p k) view
+  pages_there : (f : Format) (k p : ℕ) (written : List (ℕ × ℕ)) → count ≡ device_pages f (length written) p k → ArePages (device_pages f (length written) p k) view
   pages_there f k p written size = subst (λ (i : ℕ). ArePages i view) size are
 
   runs_there : (x : Refusal) → IsRunDamaged count view x → ⊥
@@ -172,6 +192,7 @@ module _ (count : ℕ) (view : ℕ → List ℕ) (format extents pages sections 
   none_fails x (inr (inr (inr (inl w)))) = this_device x w
   none_fails x (inr (inr (inr (inr (inl w))))) = sections_there x w
   none_fails x (inr (inr (inr (inr (inr (inl w)))))) = root_there x w
-  none_fails x (inr (inr (inr (inr (inr (inr (inl w))))))) = root_kept x w
-  none_fails x (inr (inr (inr (inr (inr (inr (inr (inl w)))))))) = runs_there x w
-  none_fails x (inr (inr (inr (inr (inr (inr (inr (inr w)))))))) = index_there x w
+  none_fails x (inr (inr (inr (inr (inr (inr (inl w))))))) = own_root x w
+  none_fails x (inr (inr (inr (inr (inr (inr (inr (inl w)))))))) = root_kept x w
+  none_fails x (inr (inr (inr (inr (inr (inr (inr (inr (inl w))))))))) = runs_there x w
+  none_fails x (inr (inr (inr (inr (inr (inr (inr (inr (inr w))))))))) = index_there x w

@@ -1,5 +1,5 @@
 -- The runs that are read as a store is opened, and what a reading is refused for.
-use Rattle.std.proofs.Common.{◌≡◌, ◌≢◌, ◌⊎◌, inl, inr, ⊎_elim, ◌∙◌, ℕ, suc, ◌+◌, ◌<◌, ◌≤◌, Bool, true, false, List, [], ◌∷◌, ◌++◌, Some, Result, Ok, Err, IfOk, IfErr, Vec, length, map, take, refl, sym, ap, subst, arith}
+use Rattle.std.proofs.Common.{◌≡◌, ◌≢◌, ◌⊎◌, inl, inr, ⊎_elim, ◌∙◌, ℕ, suc, ◌+◌, ◌<◌, ◌≤◌, Bool, true, false, List, [], ◌∷◌, ◌++◌, Some, Err, Vec, length, map, take, refl, sym, ap, subst, arith}
 use Rattle.std.specs.Prelude.{MatchBool, Option, slice_get}
 use Rattle.std.specs.List.{AllByRecursion}
 use Rattle.std.specs.declared.alloc.Global.{Global}
@@ -23,9 +23,10 @@ use Rattle.cs_frame.specs.FormatRuns.{SpellsRun, run_fault}
 use Rattle.cs_frame.specs.Locators.{FitsLocator, KeepFormat}
 use Rattle.cs_frame.specs.Runs.{FitsEntry, IsRun, entries_of as spelled_entries, entry_of}
 use Rattle.cs_frame.specs.Places.{Listed}
-use Rattle.cs_reader.specs.ImageReads.{AreRunsRead, HasRunAt, IsLocated, IsRunRead}
+use Rattle.cs_reader.specs.ImageReads.{AreRunsRead, HasRunAt, IsLocated}
 use Rattle.cs_index.proofs.Sorted.{all_append, take_at_get}
 use Rattle.cs_index.specs.declared.stored_runs.StoredRun.{StoredRun}
+use Rattle.law_machine.specs.Format.{Format}
 use Rattle.law_machine.specs.Formats.{RunFrame}
 use Rattle.law_machine.specs.Geometry.{marks_in}
 use Rattle.cs_reader.specs.Openings.{IsWhyNoRuns, IsWhyNotRead}
@@ -101,14 +102,14 @@ none_marked : (ls : List Locator) → AllByRecursion (FitsLocator false) ls → 
 none_marked [] all = tt
 none_marked (l ∷ ls) all = ((let low : l.mark ≤ 0 = all.0.mark in omega arith), none_marked ls all.1)
 
-pub fits_keep : (format : ℕ) (ls : List Locator) → AllByRecursion (FitsLocator (marks_in format)) ls → KeepFormat format ls
+pub fits_keep : (format : Format) (ls : List Locator) → AllByRecursion (FitsLocator (marks_in format)) ls → KeepFormat format ls
 fits_keep format ls all = λ off. none_marked ls (subst (λ (b : Bool). AllByRecursion (FitsLocator b) ls) off all)
 
-marks_of : (format : ℕ) (xs : List (ShardId × Listed)) → AllByRecursion (FitsEntry (marks_in format)) (spelled_entries xs) → AllByRecursion (λ entry. KeepFormat format entry.1.items) xs
+marks_of : (format : Format) (xs : List (ShardId × Listed)) → AllByRecursion (FitsEntry (marks_in format)) (spelled_entries xs) → AllByRecursion (λ entry. KeepFormat format entry.1.items) xs
 marks_of format [] all = tt
 marks_of format (x ∷ xs) all = (fits_keep format x.1.items all.0.each, marks_of format xs all.1)
 
-pub is_run : (format : ℕ) (entries : Vec (ShardId × Listed) Global) (payload : List ℕ) → SpellsRun payload format (spelled_entries entries.items) → IsRun format (record { entries = entries })
+pub is_run : (format : Format) (entries : Vec (ShardId × Listed) Global) (payload : List ℕ) → SpellsRun payload format (spelled_entries entries.items) → IsRun format (record { entries = entries })
 is_run format entries payload is = record {
   some = (let e : length (spelled_entries entries.items) ≡ length entries.items = length-map entries.items entry_of in let some : 1 ≤ length (spelled_entries entries.items) = is.fits.some in omega arith);
   most = (let e : length (spelled_entries entries.items) ≡ length entries.items = length-map entries.items entry_of in omega (arith, is.fits.most, e));
@@ -118,19 +119,19 @@ is_run format entries payload is = record {
 }
 
 module _ (x : ExtentsState) (view : ℕ → List ℕ) (place : Locator) (located : IsLocated x place) (payload given : List ℕ) (same : given ≡ payload) (frame : IsFrameIn x view RunFrame place payload)
-    (format : ℕ) (of_format : format ≡ x.format) where
+    (format : Format) (of_format : format ≡ x.format) where
   pub run_read : (entries : Vec (ShardId × Listed) Global) → SpellsRun given format (spelled_entries entries.items) → HasRunAt x view place (spelled_entries entries.items)
   run_read entries spelled = record {
     located = located;
     payload = payload;
     frame = frame;
-    spelled = subst (λ (f : ℕ). SpellsRun payload f (spelled_entries entries.items)) of_format
+    spelled = subst (λ (f : Format). SpellsRun payload f (spelled_entries entries.items)) of_format
         (subst (λ (b : List ℕ). SpellsRun b format (spelled_entries entries.items)) same spelled);
   }
 
   pub run_not_read : (r : Refusal) → IsNoAnswer r ⊎ IsOfFault (run_fault format given) r → IsNoAnswer r ⊎ IsWhyNotRead x view place r
   run_not_read r why =
-      ⊎_elim inl (λ f. inr (inr (inr (located, (payload, frame, subst (λ (n : ℕ). IsOfFault (run_fault n payload) r) of_format (subst (λ (b : List ℕ). IsOfFault (run_fault format b) r) same f)))))) why
+      ⊎_elim inl (λ f. inr (inr (inr (located, (payload, frame, subst (λ (n : Format). IsOfFault (run_fault n payload) r) of_format (subst (λ (b : List ℕ). IsOfFault (run_fault format b) r) same f)))))) why
 
 pub frame_not_read : (x : ExtentsState) (view : ℕ → List ℕ) (place : Locator) (r : Refusal) → IsLocated x place → IsNoAnswer r ⊎ IsOfFault (fault_in x view Run place) r → IsNoAnswer r ⊎ IsWhyNotRead x view place r
 frame_not_read x view place r located why = ⊎_elim (λ n. inl n) (λ f. inr (inr (inl (located, f)))) why

@@ -12,18 +12,21 @@ use Rattle.cs_frame.specs.declared.faults.FormatFault.TheVariants.{BadDigest, Ba
 use Rattle.cs_frame.specs.Bytes.{all_zero, field, number}
 use Rattle.cs_frame.specs.Faults.{fault_number, first_fault, unless}
 use Rattle.cs_frame.specs.FirstFormat.{first_format_end, first_format_fault, first_format_tests, page_zero_fault, zero_format}
-use Rattle.cs_frame.specs.FormatRuns.{run_fault}
+use Rattle.cs_frame.specs.declared.formats.FormatNumber.{FormatNumber}
+use Rattle.cs_frame.specs.FormatNumbers.{greatest_runs, page_digit}
+use Rattle.cs_frame.specs.FormatRuns.{front_length_test, front_test, run_fault, stored_fault}
 use Rattle.cs_frame.specs.Geometries.{run_bytes}
 use Rattle.cs_frame.specs.PackedRuns.{packed_end, packed_fault, packed_tests}
 use Rattle.cs_frame.specs.Pages.{digest_test}
-use Rattle.cs_frame.specs.Roots.{greatest_runs, root_digit, root_end, root_fault, root_tests}
+use Rattle.cs_frame.specs.Roots.{root_count, root_end, root_fault, root_tests}
 use Rattle.cs_frame.specs.Runs.{entries_tests, entry_end, id_in, is_before, order_test, pieces_in, plain_fault, plain_tests}
 use Rattle.cs_frame.specs.Superblocks.{superblock_end, superblock_fault, superblock_tests}
-use Rattle.law_machine.specs.Geometry.{marks_in}
+use Rattle.law_machine.specs.Format.{Format, Four, Two}
+use Rattle.law_machine.specs.Geometry.{store_front}
 use Rattle.cs_reader.specs.Openings.{IsOpeningRefusal}
 
 abbrev InRange : FormatFault → Type 0
-InRange f = (20 ≤ fault_number f) × (fault_number f ≤ 25)
+InRange f = (20 ≤ fault_number f) × (fault_number f ≤ 26)
 
 -- whatever this test finds is in range
 abbrev FindsInRange : Option FormatFault → Type 0
@@ -49,15 +52,15 @@ all_find (x ∷ xs) ys a b = (a.0, all_find xs ys a.1 b)
 digest : (end : ℕ) (bytes : List ℕ) → FindsInRange (digest_test end bytes)
 digest end bytes = finds _ BadDigest (omega arith, omega arith)
 
-superblock_finds : (format : ℕ) (bytes : List ℕ) → FindsInRange (superblock_fault format bytes)
-superblock_finds format bytes = first_finds (superblock_tests format bytes) (
+superblock_finds : (n : FormatNumber) (bytes : List ℕ) → FindsInRange (superblock_fault n bytes)
+superblock_finds n bytes = first_finds (superblock_tests n bytes) (
   finds _ BadMagic (omega arith, omega arith),
   (
     finds _ BadVersion (omega arith, omega arith),
     (
       finds _ BadLength (omega arith, omega arith),
       (
-        digest (superblock_end format bytes) bytes,
+        digest (superblock_end n bytes) bytes,
         (
           finds _ BadVersion (omega arith, omega arith),
           (
@@ -105,19 +108,19 @@ page_zero_finds bytes = go (slice_index bytes 3 == 49)
     go true = first_format_finds bytes
     go false = superblock_finds (zero_format bytes) bytes
 
-root_finds : (format : ℕ) (bytes : List ℕ) → FindsInRange (root_fault format bytes)
-root_finds format bytes = first_finds (root_tests format bytes) (
+root_finds : (n : FormatNumber) (bytes : List ℕ) → FindsInRange (root_fault n bytes)
+root_finds n bytes = first_finds (root_tests n bytes) (
   finds (bytes_eq (field 0 3 bytes) (codes "CSR")) BadMagic (omega arith, omega arith),
   (
-    finds (slice_index bytes 3 == root_digit format) BadVersion (omega arith, omega arith),
+    finds (slice_index bytes 3 == page_digit n) BadVersion (omega arith, omega arith),
     (
-      finds (nat_le (slice_index bytes 20) (greatest_runs format)) BadLength (omega arith, omega arith),
+      finds (nat_le (root_count n bytes) (greatest_runs n)) BadLength (omega arith, omega arith),
       (
-        digest (root_end format bytes) bytes,
+        digest (root_end n bytes) bytes,
         (
           finds (nat_le 1 (number 4 12 bytes) && nat_lt (number 4 12 bytes) (2 ^ 63) && nat_lt (number 12 20 bytes) (2 ^ 63)) BadVersion (omega arith, omega arith),
           (
-            finds (all_zero (drop (root_end format bytes + 32) bytes)) BadPadding (omega arith, omega arith),
+            finds (all_zero (drop (root_end n bytes + 32) bytes)) BadPadding (omega arith, omega arith),
             tt,
           ),
         ),
@@ -171,12 +174,16 @@ packed_finds payload = first_finds (unless (nat_le 4 (length payload) && nat_le 
   packed_find (number 0 4 payload) None (drop 4 payload),
 )
 
-run_finds : (format : ℕ) (payload : List ℕ) → FindsInRange (run_fault format payload)
-run_finds format payload = go (marks_in format)
-  where
-    go : (b : Bool) → FindsInRange (if b then packed_fault payload else plain_fault payload)
-    go true = packed_finds payload
-    go false = plain_finds payload
+-- a run that has the front of the store's identity
+stored_finds : (front payload : List ℕ) → FindsInRange (stored_fault front payload)
+stored_finds front payload = first_finds (front_length_test payload ∷ front_test front payload ∷ packed_fault (drop 8 payload) ∷ []) (
+  finds (nat_le 8 (length payload)) BadLength (omega arith, omega arith),
+  (finds (bytes_eq (field 0 8 payload) front) Misplaced (omega arith, omega arith), (packed_finds (drop 8 payload), tt)),
+)
+
+run_finds : (format : Format) (payload : List ℕ) → FindsInRange (run_fault format payload)
+run_finds Two payload = plain_finds payload
+run_finds (Four store device) payload = stored_finds (store_front (Four store device)) payload
 
 -- the refusal has the fault's number
 same_number : (f : FormatFault) → number_of (refusal_for f) ≡ fault_number f
@@ -197,16 +204,16 @@ of_fault found range r (inr fault) =
     let number : number_of (refusal_for fault.0) ≡ fault_number fault.0 = same_number fault.0 in
     inr (inl (subst (λ (k : Refusal). (20 ≤ number_of k) × (number_of k ≤ 27)) (sym fault.2) (omega (arith, number, there.0), omega (arith, number, there.1))))
 
-pub superblock_refused : (format : ℕ) (bytes : List ℕ) (r : Refusal) → (r ≡ NoMemory) ⊎ IsOfFault (superblock_fault format bytes) r → IsOpeningRefusal r
-superblock_refused format bytes r why = of_fault (superblock_fault format bytes) (superblock_finds format bytes) r why
+pub superblock_refused : (n : FormatNumber) (bytes : List ℕ) (r : Refusal) → (r ≡ NoMemory) ⊎ IsOfFault (superblock_fault n bytes) r → IsOpeningRefusal r
+superblock_refused n bytes r why = of_fault (superblock_fault n bytes) (superblock_finds n bytes) r why
 
 pub page_zero_refused : (bytes : List ℕ) (r : Refusal) → (r ≡ NoMemory) ⊎ IsOfFault (page_zero_fault bytes) r → IsOpeningRefusal r
 page_zero_refused bytes r why = of_fault (page_zero_fault bytes) (page_zero_finds bytes) r why
 
-pub root_refused : (format : ℕ) (bytes : List ℕ) (r : Refusal) → (r ≡ NoMemory) ⊎ IsOfFault (root_fault format bytes) r → IsOpeningRefusal r
-root_refused format bytes r why = of_fault (root_fault format bytes) (root_finds format bytes) r why
+pub root_refused : (n : FormatNumber) (bytes : List ℕ) (r : Refusal) → (r ≡ NoMemory) ⊎ IsOfFault (root_fault n bytes) r → IsOpeningRefusal r
+root_refused n bytes r why = of_fault (root_fault n bytes) (root_finds n bytes) r why
 
-pub run_refused : (format : ℕ) (payload : List ℕ) (r : Refusal) → (r ≡ NoMemory) ⊎ IsOfFault (run_fault format payload) r → IsOpeningRefusal r
+pub run_refused : (format : Format) (payload : List ℕ) (r : Refusal) → (r ≡ NoMemory) ⊎ IsOfFault (run_fault format payload) r → IsOpeningRefusal r
 run_refused format payload r why = of_fault (run_fault format payload) (run_finds format payload) r why
 
 -- a frame is refused so

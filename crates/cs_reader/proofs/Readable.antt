@@ -1,5 +1,5 @@
 -- What an image recovers can be read.
-use Rattle.std.proofs.Common.{◌≡◌, inl, inr, ℕ, zero, suc, ◌+◌, ◌/◌, ◌<◌, ◌≤◌, List, [], ◌∷◌, ◌++◌, length, map, take, drop, Option, Some, None, Bool, true, false, if◌then◌else◌, le_of_eq, le_trans, refl, sym, ap, ◌∙◌, subst, arith}
+use Rattle.std.proofs.Common.{◌≡◌, inl, inr, ℕ, zero, suc, ◌+◌, ◌/◌, ◌<◌, ◌≤◌, List, [], ◌∷◌, ◌++◌, length, map, take, drop, Option, Some, None, Bool, true, le_of_eq, le_trans, refl, sym, ap, ◌∙◌, subst, arith}
 use Rattle.std.specs.Prelude.{reverse, slice_index, slice_index_or}
 use Rattle.std.specs.List.{AllByRecursion}
 use Rattle.std.proofs.lemmas.Grind.{reverse_onto}
@@ -23,7 +23,8 @@ use Rattle.cs_frame.specs.Geometries.{IsGeometry, device_pages, section_length, 
 use Rattle.cs_frame.specs.FormatRuns.{spelled_run}
 use Rattle.cs_frame.specs.Locators.{FitsLocator, most_mark}
 use Rattle.cs_frame.specs.Pointers.{FitsExtent as FitsPair}
-use Rattle.cs_frame.specs.Roots.{SpellsRoot}
+use Rattle.cs_frame.specs.FormatNumbers.{greatest_runs, is_marked, number_in}
+use Rattle.cs_frame.specs.Roots.{SpellsRoot, identity_in, root_number}
 use Rattle.cs_frame.specs.Superblocks.{FitsSuperblock, SpellsSuperblock, record_in}
 use Rattle.cs_frame.specs.Places.{Listed}
 use Rattle.cs_index.proofs.Newest.{all_oldest}
@@ -33,8 +34,9 @@ use Rattle.cs_index.specs.State.{named_entry, newest_first, run_of}
 use Rattle.law_machine.proofs.Counting.{ascending_lookup}
 use Rattle.law_machine.specs.Device.{Page, Shape}
 use Rattle.law_machine.specs.Element.{Entry, Locator as Place, Map, Run}
+use Rattle.law_machine.specs.Format.{Format, Four, Two}
 use Rattle.law_machine.specs.Formats.{Stand, limit_in, places}
-use Rattle.law_machine.specs.Geometry.{marks_in, shape_of, weigh_in}
+use Rattle.law_machine.specs.Geometry.{greatest_mark_in, marks_in, most_runs_in, shape_of, weigh_in}
 use Rattle.law_machine.specs.Index.{AllPass, Passes, entries_of, live, live_at, lookup, named_weight}
 use Rattle.law_machine.specs.Lists.{◌∈◌}
 use Rattle.law_machine.specs.Recovery.{Recovers}
@@ -82,7 +84,7 @@ length-places (run ∷ runs) = ap suc (length-places runs)
 
 -- ---- superblock and root
 
-module _ (format extents pages sections : ℕ) (is : IsGeometry format extents pages sections) (view : ℕ → List ℕ) (n : ℕ) (m : Map)
+module _ (format : Format) (extents pages sections : ℕ) (is : IsGeometry format extents pages sections) (view : ℕ → List ℕ) (n : ℕ) (m : Map)
     (r : Recovers (shape_of extents pages sections (section_size extents sections) format) (formats_of (shape_of extents pages sections (section_size extents sections) format)) view n m) where
   abbrev S : Shape
   S = shape_of extents pages sections (section_size extents sections) format
@@ -99,12 +101,12 @@ module _ (format extents pages sections : ℕ) (is : IsGeometry format extents p
     extent = (let few : extents ≤ 7680 = (bounds format extents pages sections is).most_extents in let lt : l.extent < extents = passes.inside.0 in omega (arith, lt));
     page = (let few : pages ≤ 65535 = (bounds format extents pages sections is).most_pages in let lt : l.page < pages = passes.inside.1 in omega (arith, lt));
     generation = (let low : r.generations l.extent ≤ 4294967295 = (r.extents_fit l.extent).1 in let same : r.generations l.extent ≡ l.generation = passes.generation in omega (arith, low, same));
-    mark = by (marks_in format) passes.mark;
+    mark = by format passes.mark;
   }
     where
-      by : (b : Bool) → l.mark ≤ (if b then 18446744073709551615 else 0) → l.mark ≤ most_mark b
-      by true low = low
-      by false low = low
+      by : (f : Format) → l.mark ≤ greatest_mark_in f → l.mark ≤ most_mark (marks_in f)
+      by Two low = low
+      by (Four store device) low = low
 
   rows_length : length rows ≡ extents
   rows_length = length-rows r.pointers r.generations 0 extents
@@ -142,37 +144,45 @@ module _ (format extents pages sections : ℕ) (is : IsGeometry format extents p
       (subst (λ (rs : List (ℕ × ℕ)). FitsSuperblock format (r.versions j) (record_in format (r.recorded j)) extents pages sections j rs) (sym (rows_listed j)) (part_fits j lt)))
 
   -- another reading of page 0 has the same numbers
-  pub zero_same : (f version recorded e p s j : ℕ) (written : List (ℕ × ℕ)) → SpellsPageZero (view 0) f version recorded e p s j written
+  pub zero_same : (f : Format) (version recorded e p s j : ℕ) (written : List (ℕ × ℕ)) → SpellsPageZero (view 0) f version recorded e p s j written
       → (f ≡ format) × (e ≡ extents) × (p ≡ pages) × (s ≡ sections) × (j ≡ 0)
   zero_same f version recorded e p s j written spelled =
       let one = zero_one (view 0) f version recorded e p s j written format (r.versions 0) (record_in format (r.recorded 0)) extents pages sections 0 (part 0) spelled (section_spelled 0 is.fewest_sections) in
       (one.0, one.1, one.2, one.3, one.4)
 
   -- and another reading of a further section's page
-  pub section_same : (k f version recorded e p s j : ℕ) (written : List (ℕ × ℕ)) → 0 < k → k < sections → SpellsSuperblock (view (S.section_page k)) f version recorded e p s j written
+  pub section_same : (k : ℕ) (f : Format) (version recorded e p s j : ℕ) (written : List (ℕ × ℕ)) → 0 < k → k < sections → SpellsSuperblock (view (S.section_page k)) f version recorded e p s j written
       → (f ≡ format) × (e ≡ extents) × (p ≡ pages) × (s ≡ sections) × (j ≡ k)
   section_same zero f version recorded e p s j written some lt spelled = absurd (omega (arith, some))
   section_same (suc k) f version recorded e p s j written some lt spelled =
       let one = section_one (view (S.section_page (suc k))) f version recorded e p s j written format (r.versions (suc k)) (record_in format (r.recorded (suc k))) extents pages sections (suc k) (part (suc k)) spelled (section_spelled (suc k) lt) in
       (one.0, one.1, one.2, one.3, one.4)
 
-  pub root_spelled : SpellsRoot (view 1) format r.version n (map as_locator (reverse (places r.runs)))
+  -- a root of the format has as many runs as may be, and marks where the format has them
+  most_here : greatest_runs (root_number (identity_in format)) ≡ most_runs_in format
+  most_here = ap greatest_runs (roots.number_of_identity format) ∙ roots.most_by_number format
+
+  marks_here : is_marked (root_number (identity_in format)) ≡ marks_in format
+  marks_here = ap is_marked (roots.number_of_identity format) ∙ roots.marked_by_number format
+
+  pub root_spelled : SpellsRoot (view 1) (identity_in format) r.version n (map as_locator (reverse (places r.runs)))
   root_spelled = record {
     fits = record {
-      known = is.known;
+      identity = roots.identity_of_format format is.fits_format;
       first_version = r.bounds.some_version;
       last_version = (let high = r.bounds.version_fits in omega (arith, high));
       last_command = (let high = r.bounds.commands_fit in omega (arith, high));
-      count = (let few = r.bounds.few_runs in omega (arith, few, length-map (reverse (places r.runs)) as_locator, length-reverse (places r.runs), length-places r.runs));
-      each = AllByRecursion-map (FitsLocator (marks_in format)) as_locator (reverse (places r.runs)) (all_reverse (λ (l : Place). FitsLocator (marks_in format) (as_locator l)) (places r.runs)
-          (all_places (λ (l : Place). FitsLocator (marks_in format) (as_locator l)) r.runs (λ run has. fits_located run.place (r.gives.runs_read run has).passes)));
+      count = (let few = r.bounds.few_runs in omega (arith, few, most_here, length-map (reverse (places r.runs)) as_locator, length-reverse (places r.runs), length-places r.runs));
+      each = subst (λ (b : Bool). AllByRecursion (FitsLocator b) (map as_locator (reverse (places r.runs)))) (sym marks_here)
+          (AllByRecursion-map (FitsLocator (marks_in format)) as_locator (reverse (places r.runs)) (all_reverse (λ (l : Place). FitsLocator (marks_in format) (as_locator l)) (places r.runs)
+          (all_places (λ (l : Place). FitsLocator (marks_in format) (as_locator l)) r.runs (λ run has. fits_located run.place (r.gives.runs_read run has).passes))));
     };
     spelled = r.root;
   }
 
 -- ---- runs
 
-module _ (view : ℕ → List ℕ) (format : ℕ) (versions records : List ℕ) (pages : ℕ) (written : List (ℕ × ℕ)) (superblock : AreSectionsRead view format versions records pages written)
+module _ (view : ℕ → List ℕ) (format : Format) (versions records : List ℕ) (pages : ℕ) (written : List (ℕ × ℕ)) (superblock : AreSectionsRead view format versions records pages written)
     (n : ℕ) (m : Map) (r : Recovers (shape (extents_at format pages (length versions) written)) (formats_of (shape (extents_at format pages (length versions) written))) view n m) where
   -- a section's page spells one section
   sections_one : (j : ℕ) → j < length versions
@@ -184,17 +194,17 @@ module _ (view : ℕ → List ℕ) (format : ℕ) (versions records : List ℕ) 
       (superblock.each j lt) (section_spelled format (length written) pages (length versions) superblock.geometry view n m r j lt)
 
   -- so none of them records a later root than the one of the root's page
-  pub records_low : (root commands : ℕ) (listed : List Locator) → SpellsRoot (view 1) format root commands listed
+  pub records_low : (root commands : ℕ) (listed : List Locator) → SpellsRoot (view 1) (identity_in format) root commands listed
       → (j : ℕ) → j < length versions → slice_index records j ≤ root
   records_low root commands listed root_page j lt =
       let one = (sections_one j lt).1 in
       let fits = r.recorded_fit j lt in
       let low : record_in format (r.recorded j) ≤ r.recorded j = recorded_below_root format (r.recorded j) in
-      let same : r.version ≡ root = sym (roots.one_root (view 1) format r.version n (map as_locator (reverse (places r.runs))) (root_spelled format (length written) pages (length versions) superblock.geometry view n m r)).of_version
-      ∙ (roots.one_root (view 1) format root commands listed root_page).of_version in
+      let same : r.version ≡ root = sym (roots.one_root (view 1) (identity_in format) r.version n (map as_locator (reverse (places r.runs))) (root_spelled format (length written) pages (length versions) superblock.geometry view n m r)).of_version
+      ∙ (roots.one_root (view 1) (identity_in format) root commands listed root_page).of_version in
       omega (arith, one, low, fits, same)
 
-module _ (view : ℕ → List ℕ) (format : ℕ) (versions records : List ℕ) (pages : ℕ) (written : List (ℕ × ℕ)) (superblock : AreSectionsRead view format versions records pages written)
+module _ (view : ℕ → List ℕ) (format : Format) (versions records : List ℕ) (pages : ℕ) (written : List (ℕ × ℕ)) (superblock : AreSectionsRead view format versions records pages written)
     (are : ArePages (device_pages format (length written) pages (length versions)) view) (n : ℕ) (m : Map)
     (r : Recovers (shape (extents_at format pages (length versions) written)) (formats_of (shape (extents_at format pages (length versions) written))) view n m) where
   abbrev x : ExtentsState
@@ -233,17 +243,17 @@ module _ (view : ℕ → List ℕ) (format : ℕ) (versions records : List ℕ) 
     pages_stand e (suc i) bs there (omega (arith, fits)) stand.1,
   )
 
-  payload_bytes : (e i : ℕ) (payload : List ℕ) → e < length written → i + length (spelled_frame 1 payload) ≤ pages
-      → Stand (shape x) (formats_of (shape x)) view e i (spelled_frame 1 payload) → IsBytes payload
+  payload_bytes : (e i : ℕ) (payload : List ℕ) → e < length written → i + length (spelled_frame (number_in format) 1 payload) ≤ pages
+      → Stand (shape x) (formats_of (shape x)) view e i (spelled_frame (number_in format) 1 payload) → IsBytes payload
   payload_bytes e i payload there fits stand =
-      let size : length (spelled_frame 1 payload) ≡ page_count (length payload) = length-first_chunks 4096 (page_count (length payload)) (frame_bytes 1 payload) in
+      let size : length (spelled_frame (number_in format) 1 payload) ≡ page_count (length payload) = length-first_chunks 4096 (page_count (length payload)) (frame_bytes (number_in format) 1 payload) in
       let most : pages ≤ 65535 = (bounds format (length written) pages (length versions) sizes).most_pages in
       let few : (41 + length payload + 4095) / 4096 ≤ 65535 = omega (arith, size, fits, most) in
-      let all : AllByRecursion IsPage (spelled_frame 1 payload ++ []) = all_append IsPage (spelled_frame 1 payload) [] (pages_stand e i (spelled_frame 1 payload) there fits stand) tt in
-      let whole : IsBytes (bytes_in (spelled_frame 1 payload ++ [])) = bytes_joined (take (frame_count (spelled_frame 1 payload ++ [])) (spelled_frame 1 payload ++ []))
-      (all_take IsPage (frame_count (spelled_frame 1 payload ++ [])) (spelled_frame 1 payload ++ []) all) in
-      subst IsBytes (payload_is_read 1 (spelled_frame 1 payload ++ []) payload (stands 1 payload [] (omega (arith, few))))
-      (IsBytes-field (bytes_in (spelled_frame 1 payload ++ [])) 41 (41 + payload_length (first_page (spelled_frame 1 payload ++ []))) whole)
+      let all : AllByRecursion IsPage (spelled_frame (number_in format) 1 payload ++ []) = all_append IsPage (spelled_frame (number_in format) 1 payload) [] (pages_stand e i (spelled_frame (number_in format) 1 payload) there fits stand) tt in
+      let whole : IsBytes (bytes_in (spelled_frame (number_in format) 1 payload ++ [])) = bytes_joined (take (frame_count (spelled_frame (number_in format) 1 payload ++ [])) (spelled_frame (number_in format) 1 payload ++ []))
+      (all_take IsPage (frame_count (spelled_frame (number_in format) 1 payload ++ [])) (spelled_frame (number_in format) 1 payload ++ []) all) in
+      subst IsBytes (payload_is_read (number_in format) 1 (spelled_frame (number_in format) 1 payload ++ []) payload (stands (number_in format) 1 payload [] (omega (arith, few))))
+      (IsBytes-field (bytes_in (spelled_frame (number_in format) 1 payload ++ [])) 41 (41 + payload_length (first_page (spelled_frame (number_in format) 1 payload ++ []))) whole)
 
   entry_located : (shape x).hidden_stand ≡ true → (run : Run) → run ∈ r.runs → (e : Entry) → e ∈ run.entries → (l : Place) → l ∈ e.locators → Located l
   entry_located stand run has e there = subst (AllPass (shape x) (formats_of (shape x)) view r.pointers r.generations)
@@ -255,36 +265,36 @@ module _ (view : ℕ → List ℕ) (format : ℕ) (versions records : List ℕ) 
       record {
         located = located run.place reads.passes;
         payload = spelled_run format (map as_entry run.entries);
-        frame = (le_trans reads.within (le_of_eq (sym (end_there run.place reads.passes))), reads.stand, reads.marked);
+        frame = (le_trans reads.within (le_of_eq (sym (end_there run.place reads.passes))), reads.stand, reads.marked, reads.long);
         spelled = record {
           fits = named_fit (marks_in format) run.entries (tests_of (marks_in format) run.entries (r.runs_fit run has))
-              (ids_in_run (marks_in format) run.entries
+              (ids_in_run format run.entries
               (payload_bytes run.place.extent run.place.page (spelled_run format (map as_entry run.entries)) reads.passes.inside.0 reads.inside reads.stand));
           spelled = refl;
         };
       }
 
-  module _ (root commands : ℕ) (listed : List Locator) (root_page : SpellsRoot (view 1) format root commands listed) where
+  module _ (root commands : ℕ) (listed : List Locator) (root_page : SpellsRoot (view 1) (identity_in format) root commands listed) where
     pub same_commands : commands ≡ n
-    same_commands = sym (roots.one_root (view 1) format root commands listed root_page).of_commands
-        ∙ (roots.one_root (view 1) format r.version n (map as_locator (reverse (places r.runs))) (root_spelled format (length written) pages (length versions) sizes view n m r)).of_commands
+    same_commands = sym (roots.one_root (view 1) (identity_in format) root commands listed root_page).of_commands
+        ∙ (roots.one_root (view 1) (identity_in format) r.version n (map as_locator (reverse (places r.runs))) (root_spelled format (length written) pages (length versions) sizes view n m r)).of_commands
 
     pub same_places : map as_locator (reverse (places r.runs)) ≡ listed
-    same_places = sym (roots.one_root (view 1) format r.version n (map as_locator (reverse (places r.runs))) (root_spelled format (length written) pages (length versions) sizes view n m r)).of_runs
-        ∙ (roots.one_root (view 1) format root commands listed root_page).of_runs
+    same_places = sym (roots.one_root (view 1) (identity_in format) r.version n (map as_locator (reverse (places r.runs))) (root_spelled format (length written) pages (length versions) sizes view n m r)).of_runs
+        ∙ (roots.one_root (view 1) (identity_in format) root commands listed root_page).of_runs
 
     pub all_readable : AllByRecursion (λ place. IsReadable x view place) listed
     all_readable = subst (AllByRecursion (λ place. IsReadable x view place)) same_places
         (AllByRecursion-map (λ place. IsReadable x view place) as_locator (reverse (places r.runs)) (all_reverse (λ (l : Place). IsReadable x view (as_locator l)) (places r.runs)
         (all_places (λ (l : Place). IsReadable x view (as_locator l)) r.runs (λ run has. (map as_entry run.entries, has_run run has)))))
 
-  module _ (root commands : ℕ) (runs : List StoredRun) (root_page : SpellsRoot (view 1) format root commands (map (λ run. run.place) runs))
+  module _ (root commands : ℕ) (runs : List StoredRun) (root_page : SpellsRoot (view 1) (identity_in format) root commands (map (λ run. run.place) runs))
       (read : AllByRecursion (IsRunRead (extents_at format pages (length versions) written) view) runs) where
     -- the runs that were read are those that are recovered
     runs_are : newest_first runs ≡ r.runs
     runs_are = same_runs (shape x) view (read_format view format versions records pages written superblock) (newest_first runs) r.runs
         (same_listed r.runs runs (same_places root commands (map (λ run. run.place) runs) root_page))
-        (all_stand x (read_whole view format versions records pages written superblock).found_pages view runs read)
+        (all_stand x sizes.fits_format (read_whole view format versions records pages written superblock).found_pages view runs read)
         (to_all (StandsAt (shape x) view) r.runs (λ run has. record { fits = r.runs_fit run has; inside = (r.gives.runs_read run has).inside; stand = (r.gives.runs_read run has).stand }))
 
     -- what an entry has passes where the entry does

@@ -5,10 +5,13 @@ use Rattle.std.specs.List.{AllByRecursion}
 use Rattle.std.proofs.lemmas.List.{length-map, reverse-reverse}
 use Rattle.cs_chunk.specs.Chunks.{end_in}
 use Rattle.cs_extent.specs.State.{State as ExtentsState, extents_of, shape}
+use Rattle.cs_frame.proofs.RootLaws.{runs_of_format}
 use Rattle.cs_frame.specs.declared.identifiers.ShardId.{ShardId}
 use Rattle.cs_frame.specs.Formats.{as_locator, formats_of, place_of}
 use Rattle.cs_frame.specs.Frames.{spelled_frame}
-use Rattle.cs_frame.specs.Roots.{SpellsRoot}
+use Rattle.cs_frame.specs.Geometries.{FitsFormat}
+use Rattle.cs_frame.specs.FormatNumbers.{number_in}
+use Rattle.cs_frame.specs.Roots.{SpellsRoot, identity_in}
 use Rattle.cs_frame.specs.declared.locators.Locator.{Locator}
 use Rattle.cs_frame.specs.FormatRuns.{SpellsRun}
 use Rattle.cs_frame.specs.Locators.{FitsLocator, KeepFormat}
@@ -23,7 +26,8 @@ use Rattle.cs_index.specs.State.{IsId, IsStored, named_entry, newest_first, run_
 use Rattle.law_machine.proofs.Filled.{reach_low}
 use Rattle.law_machine.specs.Device.{Page, Shape, is_meant}
 use Rattle.law_machine.specs.Element.{Locator as Place, Run}
-use Rattle.law_machine.specs.Formats.{RunFrame, Stand, places}
+use Rattle.law_machine.specs.Format.{Format}
+use Rattle.law_machine.specs.Formats.{RunFrame, Stand, is_long_frame, places}
 use Rattle.law_machine.specs.Geometry.{marks_in}
 use Rattle.law_machine.specs.Frames.{IsFormat}
 use Rattle.cs_reader.specs.ImageReads.{IsRunRead}
@@ -48,17 +52,17 @@ unmarked [] all = tt
 unmarked (l ∷ ls) all = ((let low : l.mark ≤ 0 = all.0.mark in omega arith), unmarked ls all.1)
 
 -- locators that have a spelling keep to the format
-fits_keep : (format : ℕ) (ls : List Locator) → AllByRecursion (FitsLocator (marks_in format)) ls → KeepFormat format ls
+fits_keep : (format : Format) (ls : List Locator) → AllByRecursion (FitsLocator (marks_in format)) ls → KeepFormat format ls
 fits_keep format ls all = λ off. unmarked ls (subst (λ (b : Bool). AllByRecursion (FitsLocator b) ls) off all)
 
-pub places_keep : (page : List ℕ) (format version commands : ℕ) (ls : List Locator) → SpellsRoot page format version commands ls → KeepFormat format ls
-places_keep page format version commands ls is = fits_keep format ls is.fits.each
+pub places_keep : (page : List ℕ) (format : Format) (version commands : ℕ) (ls : List Locator) → SpellsRoot page (identity_in format) version commands ls → KeepFormat format ls
+places_keep page format version commands ls is = fits_keep format ls (runs_of_format format version commands ls is.fits).1
 
-marks_of : (format : ℕ) (xs : Stored) → AllByRecursion (FitsEntry (marks_in format)) (spelled_entries xs) → AllByRecursion (λ entry. KeepFormat format entry.1.items) xs
+marks_of : (format : Format) (xs : Stored) → AllByRecursion (FitsEntry (marks_in format)) (spelled_entries xs) → AllByRecursion (λ entry. KeepFormat format entry.1.items) xs
 marks_of format [] all = tt
 marks_of format (x ∷ xs) all = (fits_keep format x.1.items all.0.each, marks_of format xs all.1)
 
-is_run : (format : ℕ) (run : StoredRun) (payload : List ℕ) → SpellsRun payload format (spelled_entries run.entries.items) → IsRun format (record { entries = run.entries })
+is_run : (format : Format) (run : StoredRun) (payload : List ℕ) → SpellsRun payload format (spelled_entries run.entries.items) → IsRun format (record { entries = run.entries })
 is_run format run payload is = record {
   some = (let e : length (spelled_entries run.entries.items) ≡ length run.entries.items = length-map run.entries.items entry_of in let some : 1 ≤ length (spelled_entries run.entries.items) = is.fits.some in omega arith);
   most = (let e : length (spelled_entries run.entries.items) ≡ length run.entries.items = length-map run.entries.items entry_of in omega (arith, is.fits.most, e));
@@ -89,38 +93,45 @@ pub record StandsAt (S : Shape) (view : ℕ → List ℕ) (run : Run) : Type 0 w
   pub stand : Stand S (formats_of S) view run.place.extent run.place.page ((formats_of S).frame RunFrame ((formats_of S).run run.entries))
 
 -- it reaches no further than it may
-pub stands_reach : (x : ExtentsState) (view : ℕ → List ℕ) (run : StoredRun) → IsRunRead x view run
+pub stands_reach : (x : ExtentsState) → FitsFormat x.format → (view : ℕ → List ℕ) (run : StoredRun) → IsRunRead x view run
     → run.place.page + length ((formats_of (shape x)).frame RunFrame ((formats_of (shape x)).run (run_of run).entries)) ≤ end_in x run.place
 unfolding run_frame
-stands_reach x view run is = subst (λ (bs : List Page). run.place.page + length bs ≤ end_in x run.place)
-    (payload_frame x.format run.entries.items is.payload is.payload refl is.spelled x refl) is.frame.0
+stands_reach x fits view run is = subst (λ (bs : List Page). run.place.page + length bs ≤ end_in x run.place)
+    (payload_frame x.format fits run.entries.items is.payload is.payload refl is.spelled (number_in x.format) refl x refl) is.frame.0
 
 -- and it is the one that its place means
-pub stands_meant : (x : ExtentsState) (view : ℕ → List ℕ) (run : StoredRun) → IsRunRead x view run
+pub stands_meant : (x : ExtentsState) → FitsFormat x.format → (view : ℕ → List ℕ) (run : StoredRun) → IsRunRead x view run
     → is_meant (shape x) run.place.mark ((formats_of (shape x)).frame RunFrame ((formats_of (shape x)).run (run_of run).entries)) ≡ true
 unfolding run_frame
-stands_meant x view run is = subst (λ (bs : List Page). is_meant (shape x) run.place.mark bs ≡ true)
-    (payload_frame x.format run.entries.items is.payload is.payload refl is.spelled x refl) is.frame.2
+stands_meant x fits view run is = subst (λ (bs : List Page). is_meant (shape x) run.place.mark bs ≡ true)
+    (payload_frame x.format fits run.entries.items is.payload is.payload refl is.spelled (number_in x.format) refl x refl) is.frame.2
 
-pub stands_read : (x : ExtentsState) → ((e : ℕ) → (extents_of x).found e ≤ (shape x).pages) → (view : ℕ → List ℕ) (run : StoredRun)
+-- and it is long enough for what it holds
+pub stands_long : (x : ExtentsState) → FitsFormat x.format → (view : ℕ → List ℕ) (run : StoredRun) → IsRunRead x view run
+    → is_long_frame (formats_of (shape x)) ((formats_of (shape x)).frame RunFrame ((formats_of (shape x)).run (run_of run).entries)) ≡ true
+unfolding run_frame
+stands_long x fits view run is = subst (λ (bs : List Page). is_long_frame (formats_of (shape x)) bs ≡ true)
+    (payload_frame x.format fits run.entries.items is.payload is.payload refl is.spelled (number_in x.format) refl x refl) is.frame.3
+
+pub stands_read : (x : ExtentsState) → FitsFormat x.format → ((e : ℕ) → (extents_of x).found e ≤ (shape x).pages) → (view : ℕ → List ℕ) (run : StoredRun)
     → IsRunRead x view run → IsStored (run_of run) → StandsAt (shape x) view (run_of run)
 unfolding run_frame
-stands_read x low view run is stored =
-    let frame : spelled_frame 1 is.payload ≡ run_frame x (map named_entry run.entries.items) = payload_frame x.format run.entries.items is.payload is.payload refl is.spelled x refl in
+stands_read x fits low view run is stored =
+    let frame : spelled_frame (number_in x.format) 1 is.payload ≡ run_frame x (map named_entry run.entries.items) = payload_frame x.format fits run.entries.items is.payload is.payload refl is.spelled (number_in x.format) refl x refl in
     record {
       fits = spelled_fit (marks_in x.format) run.entries.items is.spelled.fits stored.0;
-      inside = le_trans (stands_reach x view run is)
+      inside = le_trans (stands_reach x fits view run is)
           (reach_low (shape x) ((extents_of x).found run.place.extent) run.place.page (low run.place.extent));
       stand = subst (λ (bs : List Page). Stand (shape x) (formats_of (shape x)) view run.place.extent run.place.page bs) frame is.frame.1;
     }
 
-pub all_stand : (x : ExtentsState) → ((e : ℕ) → (extents_of x).found e ≤ (shape x).pages) → (view : ℕ → List ℕ) (runs : List StoredRun) → AllByRecursion (IsRunRead x view) runs
+pub all_stand : (x : ExtentsState) → FitsFormat x.format → ((e : ℕ) → (extents_of x).found e ≤ (shape x).pages) → (view : ℕ → List ℕ) (runs : List StoredRun) → AllByRecursion (IsRunRead x view) runs
     → AllByRecursion (StandsAt (shape x) view) (newest_first runs)
-all_stand x low view runs read = all_newest (StandsAt (shape x) view) runs (go runs read (all_oldest IsStored runs (stored_read x view runs read)))
+all_stand x fits low view runs read = all_newest (StandsAt (shape x) view) runs (go runs read (all_oldest IsStored runs (stored_read x view runs read)))
   where
     go : (xs : List StoredRun) → AllByRecursion (IsRunRead x view) xs → AllByRecursion (λ run. IsStored (run_of run)) xs → AllByRecursion (λ run. StandsAt (shape x) view (run_of run)) xs
     go [] a b = tt
-    go (run ∷ xs) a b = (stands_read x low view run a.0 b.0, go xs a.1 b.1)
+    go (run ∷ xs) a b = (stands_read x fits low view run a.0 b.0, go xs a.1 b.1)
 
 -- runs that stand at the same places are the same
 pub same_runs : (S : Shape) (view : ℕ → List ℕ) → IsFormat S (formats_of S) → (xs ys : List Run) → places xs ≡ places ys

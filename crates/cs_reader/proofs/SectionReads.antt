@@ -12,12 +12,14 @@ use Rattle.cs_extent.specs.Sections.{AreSections, IsSectionAt, count_of, format_
 use Rattle.cs_frame.proofs.FirstFormatLaws.{page_zero_fits}
 use Rattle.cs_frame.specs.declared.superblocks.Superblock.{Superblock}
 use Rattle.cs_frame.specs.FirstFormat.{SpellsPageZero, page_zero_fault}
+use Rattle.cs_frame.specs.FormatNumbers.{number_in}
 use Rattle.cs_frame.specs.Geometries.{IsGeometry, device_pages, lengths_below, section_length, section_size, section_start}
 use Rattle.cs_frame.specs.Pointers.{FitsExtent}
 use Rattle.cs_frame.specs.Superblocks.{FitsSuperblock, IsSuperblock, SpellsSuperblock, superblock_fault}
 use Rattle.cs_reader.specs.ImageReads.{AreSectionsRead, SpellsAt}
 use Rattle.cs_index.proofs.Sorted.{all_map, some_at}
 use Rattle.cs_reader.specs.Openings.{HasNumbers, IsSectionThere, IsWhyNoFirst, IsWhyNoSection, IsWhyNoSections, SpellsFirst, SpellsFurther}
+use Rattle.law_machine.specs.Format.{Format}
 
 -- ---- one section
 
@@ -33,7 +35,7 @@ fits_is it fits = record {
   pointers = all_map (FitsExtent it.pages) (λ (extent : ℕ × ℕ). extent.0 ≤ it.pages) it.extents.items (λ extent fit. fit.pointer) fits.each;
 }
 
-module _ (format extents pages sections section : ℕ) (it : Superblock) (has : HasNumbers format extents pages sections section it) where
+module _ (format : Format) (extents pages sections section : ℕ) (it : Superblock) (has : HasNumbers format extents pages sections section it) where
   at_fits : FitsSuperblock it.format it.version it.recorded it.extent_count it.pages it.sections it.section it.extents.items → IsSectionAt format extents pages sections section it
   at_fits fits = record { is = fits_is it fits; of_format = has.of_format; of_extents = has.of_extents; of_pages = has.of_pages; of_sections = has.of_sections; place = has.place }
 
@@ -44,7 +46,7 @@ module _ (format extents pages sections section : ℕ) (it : Superblock) (has : 
   pub with_numbers : (bytes : List ℕ) → SpellsSuperblock bytes it.format it.version it.recorded it.extent_count it.pages it.sections it.section it.extents.items
       → SpellsSuperblock bytes format it.version it.recorded extents pages sections section it.extents.items
   with_numbers bytes spelled =
-      subst (λ (n : ℕ). SpellsSuperblock bytes n it.version it.recorded extents pages sections section it.extents.items) has.of_format
+      subst (λ (n : Format). SpellsSuperblock bytes n it.version it.recorded extents pages sections section it.extents.items) has.of_format
       (subst (λ (n : ℕ). SpellsSuperblock bytes it.format it.version it.recorded n pages sections section it.extents.items) has.of_extents
       (subst (λ (n : ℕ). SpellsSuperblock bytes it.format it.version it.recorded it.extent_count n sections section it.extents.items) has.of_pages
       (subst (λ (n : ℕ). SpellsSuperblock bytes it.format it.version it.recorded it.extent_count it.pages n section it.extents.items) has.of_sections
@@ -80,10 +82,11 @@ pub damaged_first : (bytes : List ℕ) (r : Refusal) → IsNoAnswer r ⊎ IsOfFa
 damaged_first bytes r why = ⊎_elim (λ n. inl n) (λ f. inr (inl f)) why
 
 -- a further page has another
-pub other_further : (format extents pages sections section : ℕ) (bytes : List ℕ) (it : Superblock) → it.format ≡ format → (HasNumbers format extents pages sections section it → ⊥)
+pub other_further : (format : Format) (extents pages sections section : ℕ) (bytes : List ℕ) (it : Superblock) → number_in it.format ≡ number_in format → (HasNumbers format extents pages sections section it → ⊥)
     → SpellsFurther bytes it
     → IsNoAnswer NotAStore ⊎ IsWhyNoSection format extents pages sections section bytes NotAStore
-other_further format extents pages sections section bytes it same_format other spelled = inr (inr (record {
+other_further format extents pages sections section bytes it same_number other spelled = inr (inr (record {
+  their_format = it.format;
   version = it.version;
   recorded = it.recorded;
   their_extents = it.extent_count;
@@ -91,12 +94,13 @@ other_further format extents pages sections section bytes it same_format other s
   their_sections = it.sections;
   their_section = it.section;
   rows = it.extents.items;
-  spelled = subst (λ (n : ℕ). SpellsSuperblock bytes n it.version it.recorded it.extent_count it.pages it.sections it.section it.extents.items) same_format spelled;
-  other = λ same. other (record { of_format = same_format; of_extents = same.0; of_pages = same.1; of_sections = same.2; place = same.3 });
+  number = same_number;
+  spelled = spelled;
+  other = λ same. other (record { of_format = same.0; of_extents = same.1; of_pages = same.2; of_sections = same.3; place = same.4 });
   refusal = refl;
 }))
 
-pub damaged_further : (format extents pages sections section : ℕ) (bytes : List ℕ) (r : Refusal) → IsNoAnswer r ⊎ IsOfFault (superblock_fault format bytes) r
+pub damaged_further : (format : Format) (extents pages sections section : ℕ) (bytes : List ℕ) (r : Refusal) → IsNoAnswer r ⊎ IsOfFault (superblock_fault (number_in format) bytes) r
     → IsNoAnswer r ⊎ IsWhyNoSection format extents pages sections section bytes r
 damaged_further format extents pages sections section bytes r why = ⊎_elim (λ n. inl n) (λ f. inr (inl f)) why
 
@@ -112,7 +116,7 @@ further_page extents pages sections j some =
     ap (λ (b : Bool). if b then 0 else 1 + extents * pages + j) (sym test)
 
 -- the first so many sections were read
-pub record AreReadTo (honest : Type 0) (view : ℕ → List ℕ) (format extents pages sections count : ℕ) (items : List Superblock) : Type 0 where
+pub record AreReadTo (honest : Type 0) (view : ℕ → List ℕ) (format : Format) (extents pages sections count : ℕ) (items : List Superblock) : Type 0 where
   pub places : (j : ℕ) (it : Superblock) → slice_get items j ≡ Some it → IsSectionAt format extents pages sections j it
   pub spelled : honest → (j : ℕ) (it : Superblock) → slice_get items j ≡ Some it
       → SpellsAt j (view (page_of extents pages sections j)) format it.version it.recorded extents pages sections it.extents.items
@@ -125,7 +129,7 @@ in_push [] y (suc k) x h = absurd (cc h)
 in_push (z ∷ xs) y zero x h = inl h
 in_push (z ∷ xs) y (suc k) x h = ⊎_elim (λ (l : slice_get xs k ≡ Some x). inl l) (λ (r : (k ≡ length xs) × (y ≡ x)). inr (ap suc r.0, r.1)) (in_push xs y k x h)
 
-further_spelled : (j : ℕ) (bytes : List ℕ) (format version recorded extents pages sections : ℕ) (rows : List (ℕ × ℕ)) → 0 < j
+further_spelled : (j : ℕ) (bytes : List ℕ) (format : Format) (version recorded extents pages sections : ℕ) (rows : List (ℕ × ℕ)) → 0 < j
     → SpellsSuperblock bytes format version recorded extents pages sections j rows → SpellsAt j bytes format version recorded extents pages sections rows
 further_spelled zero bytes format version recorded extents pages sections rows some spelled = absurd (omega (arith, some))
 further_spelled (suc j) bytes format version recorded extents pages sections rows some spelled = spelled
@@ -160,7 +164,7 @@ module _ (honest : Type 0) (view : ℕ → List ℕ) where
   }
 
   -- one more
-  pub more_read : (format extents pages sections count : ℕ) (items : List Superblock) → AreReadTo honest view format extents pages sections count items → length items ≡ count → 0 < count
+  pub more_read : (format : Format) (extents pages sections count : ℕ) (items : List Superblock) → AreReadTo honest view format extents pages sections count items → length items ≡ count → 0 < count
       → (it : Superblock) → HasNumbers format extents pages sections count it
       → (bytes : List ℕ) × SpellsFurther bytes it
       → (honest → SpellsFurther (view (1 + extents * pages + count)) it)
@@ -192,7 +196,7 @@ module _ (honest : Type 0) (view : ℕ → List ℕ) where
   }
 
   -- or not
-  pub none_more : (format extents pages sections count : ℕ) (items : List Superblock) (r : Refusal) → AreReadTo honest view format extents pages sections count items → honest → 0 < count → count < sections
+  pub none_more : (format : Format) (extents pages sections count : ℕ) (items : List Superblock) (r : Refusal) → AreReadTo honest view format extents pages sections count items → honest → 0 < count → count < sections
       → IsNoAnswer r ⊎ IsWhyNoSection format extents pages sections count (view (1 + extents * pages + count)) r
       → IsNoAnswer r ⊎ IsWhyNoSections view format extents pages sections r
   none_more format extents pages sections count items r so_far h some lt why = ⊎_elim (λ n. inl n)
@@ -240,7 +244,7 @@ before_is extents pages sections k (it ∷ items) each (suc j) le =
     omega (arith, here, next, end)
 
 -- where no section is empty but the last may be short, those before one are whole
-below_is : (format extents pages sections : ℕ) → IsGeometry format extents pages sections → (j : ℕ) → j < sections → lengths_below extents sections j ≡ section_start extents sections j
+below_is : (format : Format) (extents pages sections : ℕ) → IsGeometry format extents pages sections → (j : ℕ) → j < sections → lengths_below extents sections j ≡ section_start extents sections j
 below_is format extents pages sections g zero lt = omega arith
 below_is format extents pages sections g (suc j) lt =
     let so_far : lengths_below extents sections j ≡ section_start extents sections j = below_is format extents pages sections g j (omega (arith, lt)) in
@@ -249,7 +253,7 @@ below_is format extents pages sections g (suc j) lt =
     let last : (sections - 1) * section_size extents sections < extents = g.none_empty in
     omega (arith, so_far, next, low, last)
 
-module _ (honest : Type 0) (view : ℕ → List ℕ) (format extents pages sections : ℕ) (items : List Superblock) (are : AreReadTo honest view format extents pages sections sections items)
+module _ (honest : Type 0) (view : ℕ → List ℕ) (format : Format) (extents pages sections : ℕ) (items : List Superblock) (are : AreReadTo honest view format extents pages sections sections items)
     (long : length items ≡ sections) (some : 0 < sections) where
   first : (it : Superblock) × (slice_get items 0 ≡ Some it)
   first = some_at items 0 (omega (arith, long, some))
@@ -271,14 +275,14 @@ module _ (honest : Type 0) (view : ℕ → List ℕ) (format extents pages secti
   all_sections = record {
     some = omega (arith, long, some);
     each = λ k it at.
-        subst (λ (n : ℕ). IsSectionAt n (count_of items) (pages_of items) (length items) k it) (sym format_is)
+        subst (λ (n : Format). IsSectionAt n (count_of items) (pages_of items) (length items) k it) (sym format_is)
         (subst (λ (n : ℕ). IsSectionAt format n (pages_of items) (length items) k it) (sym count_is)
         (subst (λ (n : ℕ). IsSectionAt format extents n (length items) k it) (sym pages_are)
         (subst (λ (n : ℕ). IsSectionAt format extents pages n k it) (sym long) (are.places k it at))));
   }
 
   geometry : IsGeometry format extents pages sections
-  geometry = subst (λ (n : ℕ). IsGeometry n extents pages sections) format_is
+  geometry = subst (λ (n : Format). IsGeometry n extents pages sections) format_is
       (subst (λ (n : ℕ). IsGeometry (format_of items) n pages sections) count_is
       (subst (λ (n : ℕ). IsGeometry (format_of items) (count_of items) n sections) pages_are
       (subst (λ (n : ℕ). IsGeometry (format_of items) (count_of items) (pages_of items) n) long (geometry_is items all_sections))))
@@ -288,7 +292,7 @@ module _ (honest : Type 0) (view : ℕ → List ℕ) (format extents pages secti
 
   pub all_sized : (total : ℕ) → total ≡ device_pages format extents pages sections → total ≡ device_pages (format_of items) (length (rows_of items)) (pages_of items) (length items)
   all_sized total is = is
-      ∙ ap (λ (n : ℕ). device_pages n extents pages sections) (sym format_is)
+      ∙ ap (λ (n : Format). device_pages n extents pages sections) (sym format_is)
       ∙ ap (λ (n : ℕ). device_pages (format_of items) n pages sections) (sym rows_count)
       ∙ ap (λ (n : ℕ). device_pages (format_of items) (length (rows_of items)) n sections) (sym pages_are)
       ∙ ap (λ (n : ℕ). device_pages (format_of items) (length (rows_of items)) (pages_of items) n) (sym long)
@@ -323,12 +327,12 @@ module _ (honest : Type 0) (view : ℕ → List ℕ) (format extents pages secti
   versions_count = length-map items (λ (it : Superblock). it.version) ∙ long
 
   -- what a section's page spells, by the numbers of all
-  abbrev Spelled : (j f version recorded e p s : ℕ) → Type 0
+  abbrev Spelled : (j : ℕ) (f : Format) (version recorded e p s : ℕ) → Type 0
   Spelled j f version recorded e p s = SpellsAt j (view (page_of e p s j)) f version recorded e p s (take (section_length e s j) (drop (section_start e s j) (rows_of items)))
 
   pub all_read : honest → AreSectionsRead view (format_of items) versions records (pages_of items) (rows_of items)
   all_read h = record {
-    geometry = subst (λ (n : ℕ). IsGeometry n (length (rows_of items)) (pages_of items) (length versions)) (sym format_is)
+    geometry = subst (λ (n : Format). IsGeometry n (length (rows_of items)) (pages_of items) (length versions)) (sym format_is)
         (subst (λ (n : ℕ). IsGeometry format n (pages_of items) (length versions)) (sym rows_count)
         (subst (λ (n : ℕ). IsGeometry format extents n (length versions)) (sym pages_are)
         (subst (λ (n : ℕ). IsGeometry format extents pages n) (sym versions_count) geometry)));
@@ -342,7 +346,7 @@ module _ (honest : Type 0) (view : ℕ → List ℕ) (format extents pages secti
         subst (λ (rs : List (ℕ × ℕ)). SpellsAt j (view (page_of extents pages sections j)) format it.version it.recorded extents pages sections rs) (sym (part_is j it there.1)) spelled in
         subst (λ (v : ℕ). Spelled j (format_of items) v (slice_index records j) (length (rows_of items)) (pages_of items) (length versions)) (sym number)
         (subst (λ (v : ℕ). Spelled j (format_of items) it.version v (length (rows_of items)) (pages_of items) (length versions)) (sym record_is)
-        (subst (λ (n : ℕ). Spelled j n it.version it.recorded (length (rows_of items)) (pages_of items) (length versions)) (sym format_is)
+        (subst (λ (n : Format). Spelled j n it.version it.recorded (length (rows_of items)) (pages_of items) (length versions)) (sym format_is)
         (subst (λ (n : ℕ). Spelled j format it.version it.recorded (length (rows_of items)) (pages_of items) n) (sym versions_count)
         (subst (λ (n : ℕ). Spelled j format it.version it.recorded (length (rows_of items)) n sections) (sym pages_are)
         (subst (λ (n : ℕ). Spelled j format it.version it.recorded n pages sections) (sym rows_count) rows)))));

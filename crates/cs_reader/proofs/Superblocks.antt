@@ -1,17 +1,18 @@
 -- The extents that the sections of a superblock record.
-use Rattle.std.proofs.Common.{◌≡◌, inl, inr, ⊎_elim, ℕ, zero, suc, ◌+◌, ◌-◌, ◌/◌, ◌<◌, ◌≤◌, ◌^◌, Bool, true, false, List, [], ◌∷◌, length, take, drop, Some, None, nat_lt, ◌==◌, ◌&&◌, if◌then◌else◌, eq-eqb, le_trans, ne_eqb, true≢false, refl, sym, ap, ◌∙◌, subst, arith}
+use Rattle.std.proofs.Common.{◌≡◌, inl, inr, ⊎_elim, ℕ, zero, suc, ◌+◌, ◌-◌, ◌/◌, ◌<◌, ◌≤◌, ◌^◌, Bool, true, false, List, [], ◌∷◌, length, take, drop, Some, None, nat_lt, ◌==◌, if◌then◌else◌, eq-eqb, le_trans, ne_eqb, true≢false, refl, sym, ap, ◌∙◌, subst, arith}
 use Rattle.std.specs.Prelude.{◌↔◌, replicate, slice_index, slice_index_or}
 use Rattle.std.specs.List.{AllByRecursion}
-use Rattle.std.proofs.lemmas.Bool.{and_from, and_parts, and_right, cases_lt, eqb-true, lt-ltb}
+use Rattle.std.proofs.lemmas.Bool.{and_parts, and_right, cases_lt, eqb-true, lt-ltb}
 use Rattle.std.proofs.lemmas.List.{get_or-drop, get_or-take, get_or_past, length-replicate}
 use Rattle.cs_extent.proofs.Changes.{found_length, found_within}
 use Rattle.cs_extent.specs.State.{IsWhole, State as ExtentsState, extents_at, extents_of, found_at, section_rows, shape}
 use Rattle.cs_frame.proofs.FirstFormatLaws.{apart, one_of_first_format, page_zero_fits, spelled_has_none as first_has_none}
 use Rattle.cs_frame.proofs.FormatLaws.{is_format}
-use Rattle.cs_frame.proofs.GeometryLaws.{for_known, geometry_apart, lies_in_device, model_geometry, section_holds, section_inside, section_length-le}
-use Rattle.cs_frame.proofs.SuperblockLaws.{one_section as section_of_page, page_whatever_root, spelled_has_none}
+use Rattle.cs_frame.proofs.GeometryLaws.{geometry_apart, lies_in_device, model_geometry, section_holds, section_inside, section_length-le}
+use Rattle.cs_frame.proofs.SuperblockLaws.{one_format, one_section as section_of_page, page_whatever_root, spelled_has_none}
 use Rattle.cs_frame.specs.FirstFormat.{IsOfFirstFormat, SpellsPageZero, spelled_first_format}
-use Rattle.cs_frame.specs.Formats.{extents_of as listed_extents, formats_of}
+use Rattle.cs_frame.specs.FormatNumbers.{number_in}
+use Rattle.cs_frame.specs.Formats.{extents_of as listed_extents, formats_of, is_first_format}
 use Rattle.cs_frame.specs.Geometries.{IsGeometry, device_pages, section_length, section_size, section_start}
 use Rattle.cs_frame.specs.Pointers.{FitsExtent as FitsPair}
 use Rattle.cs_frame.specs.Superblocks.{FitsSuperblock, FitsRecord, SpellsSuperblock, record_in, spelled_superblock, superblock_extents, superblock_record}
@@ -20,6 +21,7 @@ use Rattle.law_machine.specs.Apart.{any_run_on}
 use Rattle.law_machine.specs.Device.{IsShape, Shape}
 use Rattle.law_machine.specs.Element.{Run}
 use Rattle.law_machine.specs.Extents.{Extents}
+use Rattle.law_machine.specs.Format.{Format, Four, Two, number_of}
 use Rattle.law_machine.specs.Frames.{IsFormat}
 use Rattle.law_machine.specs.Geometry.{apart_in, shape_of}
 use Rattle.law_machine.specs.Local.{LiesBelow}
@@ -90,7 +92,7 @@ listed_part speaks pointers generations j zero (suc count) first (row ∷ rows) 
     )))
     (next_rows pointers generations first row rows each))
 
-module _ (format extents pages sections : ℕ) (g : IsGeometry format extents pages sections) where
+module _ (format : Format) (extents pages sections : ℕ) (g : IsGeometry format extents pages sections) where
   abbrev divided : Shape
   divided = shape_of extents pages sections (section_size extents sections) format
 
@@ -142,36 +144,36 @@ module _ (format extents pages sections : ℕ) (g : IsGeometry format extents pa
 -- ---- what a page spells
 
 -- it can be spelled
-pub at_fits : (j : ℕ) (page : List ℕ) (format version recorded extents pages sections : ℕ) (rows : List (ℕ × ℕ)) → SpellsAt j page format version recorded extents pages sections rows
+pub at_fits : (j : ℕ) (page : List ℕ) (format : Format) (version recorded extents pages sections : ℕ) (rows : List (ℕ × ℕ)) → SpellsAt j page format version recorded extents pages sections rows
     → FitsSuperblock format version recorded extents pages sections j rows
 at_fits zero page format version recorded extents pages sections rows is = page_zero_fits page format version recorded extents pages sections 0 rows is
 at_fits (suc j) page format version recorded extents pages sections rows is = is.fits
 
 -- and it is one section
-pub section_one : (page : List ℕ) (format version recorded extents pages sections section : ℕ) (rows : List (ℕ × ℕ)) (f w r e p s j : ℕ) (others : List (ℕ × ℕ))
+pub section_one : (page : List ℕ) (format : Format) (version recorded extents pages sections section : ℕ) (rows : List (ℕ × ℕ)) (f : Format) (w r e p s j : ℕ) (others : List (ℕ × ℕ))
     → SpellsSuperblock page format version recorded extents pages sections section rows → SpellsSuperblock page f w r e p s j others
     → (format ≡ f) × (extents ≡ e) × (pages ≡ p) × (sections ≡ s) × (section ≡ j) × (rows ≡ others) × (recorded ≡ r)
 section_one page format version recorded extents pages sections section rows f w r e p s j others a b =
     let x = section_of_page page format version recorded extents pages sections section rows a in
     let y = section_of_page page f w r e p s j others b in
-    let same : format ≡ f = omega (arith, x.of_format, y.of_format) in (
+    let same : format ≡ f = one_format page format f x.of_digit x.of_format y.of_digit y.of_format in (
       same,
       sym x.of_extents ∙ y.of_extents,
       sym x.of_pages ∙ y.of_pages,
       sym x.of_sections ∙ y.of_sections,
       sym x.of_section ∙ y.of_section,
-      sym x.of_written ∙ ap (λ (n : ℕ). superblock_extents n page) same ∙ y.of_written,
-      sym x.of_record ∙ ap (λ (n : ℕ). superblock_record n page) same ∙ y.of_record,
+      sym x.of_written ∙ ap (λ (n : Format). superblock_extents (number_in n) page) same ∙ y.of_written,
+      sym x.of_record ∙ ap (λ (n : Format). superblock_record (number_in n) page) same ∙ y.of_record,
     )
 
-pub zero_one : (page : List ℕ) (format version recorded extents pages sections section : ℕ) (rows : List (ℕ × ℕ)) (f w r e p s j : ℕ) (others : List (ℕ × ℕ))
+pub zero_one : (page : List ℕ) (format : Format) (version recorded extents pages sections section : ℕ) (rows : List (ℕ × ℕ)) (f : Format) (w r e p s j : ℕ) (others : List (ℕ × ℕ))
     → SpellsPageZero page format version recorded extents pages sections section rows → SpellsPageZero page f w r e p s j others
     → (format ≡ f) × (extents ≡ e) × (pages ≡ p) × (sections ≡ s) × (section ≡ j) × (rows ≡ others) × (recorded ≡ r)
 zero_one page format version recorded extents pages sections section rows f w r e p s j others (inl a) (inl b) = section_one page format version recorded extents pages sections section rows f w r e p s j others a b
 zero_one page format version recorded extents pages sections section rows f w r e p s j others (inl a) (inr b) =
-    absurd (apart format page a.fits.geometry.known (first_has_none page w p others b.spells) (spelled_has_none page format version recorded extents pages sections section rows a))
+    absurd (apart (number_in format) page (first_has_none page w p others b.spells) (spelled_has_none page format version recorded extents pages sections section rows a))
 zero_one page format version recorded extents pages sections section rows f w r e p s j others (inr a) (inl b) =
-    absurd (apart f page b.fits.geometry.known (first_has_none page version pages rows a.spells) (spelled_has_none page f w r e p s j others b))
+    absurd (apart (number_in f) page (first_has_none page version pages rows a.spells) (spelled_has_none page f w r e p s j others b))
 zero_one page format version recorded extents pages sections section rows f w r e p s j others (inr a) (inr b) =
     let x = one_of_first_format page version pages rows a.spells in
     let y = one_of_first_format page w p others b.spells in
@@ -185,35 +187,49 @@ zero_one page format version recorded extents pages sections section rows f w r 
       a.no_record ∙ sym b.no_record,
     )
 
-pub at_one : (j : ℕ) (page : List ℕ) (format version recorded extents pages sections : ℕ) (rows : List (ℕ × ℕ)) (f w r e p s : ℕ) (others : List (ℕ × ℕ))
+pub at_one : (j : ℕ) (page : List ℕ) (format : Format) (version recorded extents pages sections : ℕ) (rows : List (ℕ × ℕ)) (f : Format) (w r e p s : ℕ) (others : List (ℕ × ℕ))
     → SpellsAt j page format version recorded extents pages sections rows → SpellsAt j page f w r e p s others → (rows ≡ others) × (recorded ≡ r)
 at_one zero page format version recorded extents pages sections rows f w r e p s others a b =
     let one = zero_one page format version recorded extents pages sections 0 rows f w r e p s 0 others a b in (one.5, one.6)
 at_one (suc j) page format version recorded extents pages sections rows f w r e p s others a b =
     let one = section_one page format version recorded extents pages sections (suc j) rows f w r e p s (suc j) others a b in (one.5, one.6)
 
-pub of_section : (j : ℕ) (page : List ℕ) (format version recorded extents pages sections : ℕ) (rows : List (ℕ × ℕ)) → SpellsSuperblock page format version recorded extents pages sections j rows
+pub of_section : (j : ℕ) (page : List ℕ) (format : Format) (version recorded extents pages sections : ℕ) (rows : List (ℕ × ℕ)) → SpellsSuperblock page format version recorded extents pages sections j rows
     → SpellsAt j page format version recorded extents pages sections rows
 of_section zero page format version recorded extents pages sections rows is = inl is
 of_section (suc j) page format version recorded extents pages sections rows is = is
 
-of_first : (j : ℕ) (page : List ℕ) (format version recorded extents pages sections : ℕ) (rows : List (ℕ × ℕ)) → j ≡ 0 → IsOfFirstFormat page format version recorded extents pages sections j rows
+of_first : (j : ℕ) (page : List ℕ) (format : Format) (version recorded extents pages sections : ℕ) (rows : List (ℕ × ℕ)) → j ≡ 0 → IsOfFirstFormat page format version recorded extents pages sections j rows
     → SpellsAt j page format version recorded extents pages sections rows
 of_first zero page format version recorded extents pages sections rows first is = inr is
 of_first (suc j) page format version recorded extents pages sections rows first is = absurd (omega (arith, first))
 
 -- ---- in the words of the machine's formats
 
--- no store is of the first format
-pub not_first : (format extents pages sections : ℕ) → IsGeometry format extents pages sections → (format == 1) ≡ false
-not_first format extents pages sections is = for_known (λ f. (f == 1) ≡ false) refl refl format is.known
+-- no store writes its sections in the first format
+own_number : (format : Format) (sections : ℕ) → is_first_format format (number_of format) sections ≡ false
+own_number Two sections = refl
+own_number (Four store device) sections = refl
+
+-- nor is a section of several in it
+several_apart : (format : Format) (number sections : ℕ) → (sections == 1) ≡ false → is_first_format format number sections ≡ false
+several_apart Two number sections several = and_right (number == 1) (sections == 1) several
+several_apart (Four store device) number sections several = refl
+
+-- what is in it is the one section of a store of format 2
+first_parts : (format : Format) (number sections : ℕ) → is_first_format format number sections ≡ true → (format ≡ Two) × (sections ≡ 1)
+first_parts Two number sections test = (refl, eqb-true sections 1 (and_parts (number == 1) (sections == 1) test).1)
+first_parts (Four store device) number sections test = absurd (true≢false (sym test))
+
+first_number : (format : Format) (sections : ℕ) → format ≡ Two → sections ≡ 1 → is_first_format format 1 sections ≡ true
+first_number format sections second one = ap (λ (f : Format). is_first_format f 1 sections) second ∙ eq-eqb sections 1 one
 
 all_of_them : (n : ℕ) → n ≡ section_length n 1 0
 all_of_them n = omega arith
 
 -- of the first format nothing is recorded
-none_in : (format recorded : ℕ) → format ≡ 2 → FitsRecord format recorded → recorded ≡ 0
-none_in format recorded second fits = let low : recorded < 1 = subst (λ (f : ℕ). FitsRecord f recorded) second fits in omega arith
+none_in : (format : Format) (recorded : ℕ) → format ≡ Two → FitsRecord format recorded → recorded ≡ 0
+none_in format recorded second fits = let low : recorded < 1 = subst (λ (f : Format). FitsRecord f recorded) second fits in omega arith
 
 module _ (S : Shape) (pointers generations : ℕ → ℕ) where
   -- the rows of section j
@@ -226,14 +242,14 @@ module _ (S : Shape) (pointers generations : ℕ → ℕ) where
   abbrev in_sections : (j version recorded : ℕ) → List ℕ
   in_sections j version recorded = spelled_superblock S.format version recorded S.extents S.pages S.sections j (listed j)
 
-  -- in a format that isn't the first they spell a section of several
-  pub own_format : (j version recorded : ℕ) → (S.format == 1) ≡ false → (formats_of S).superblock S.format j version recorded pointers generations ≡ in_sections j version recorded
-  own_format j version recorded other = ap (λ (b : Bool). if b && (S.format == 2) && (S.sections == 1) then of_first_format j version else in_sections j version recorded) other
+  -- in the store's format they spell a section of several
+  pub own_format : (j version recorded : ℕ) → (formats_of S).superblock (number_of S.format) j version recorded pointers generations ≡ in_sections j version recorded
+  own_format j version recorded = ap (λ (b : Bool). if b then of_first_format j version else in_sections j version recorded) (own_number S.format S.sections)
 
-  first_spelled : (j version recorded : ℕ) (page : List ℕ) → j ≡ 0 → S.format ≡ 2 → S.sections ≡ 1 → FitsSuperblock S.format version recorded S.extents S.pages S.sections j (listed j) → page ≡ of_first_format j version
+  first_spelled : (j version recorded : ℕ) (page : List ℕ) → j ≡ 0 → S.format ≡ Two → S.sections ≡ 1 → FitsSuperblock S.format version recorded S.extents S.pages S.sections j (listed j) → page ≡ of_first_format j version
       → IsOfFirstFormat page S.format version recorded S.extents S.pages S.sections j (listed j)
   first_spelled j version recorded page first second one fits is =
-      let g : IsGeometry 2 S.extents S.pages S.sections = subst (λ (f : ℕ). IsGeometry f S.extents S.pages S.sections) second fits.geometry in
+      let g : IsGeometry Two S.extents S.pages S.sections = subst (λ (f : Format). IsGeometry f S.extents S.pages S.sections) second fits.geometry in
       let count : length (listed j) ≡ S.extents = fits.count ∙ ap (λ (n : ℕ). section_length S.extents n j) one ∙ ap (section_length S.extents 1) first ∙ sym (all_of_them S.extents) in
       let most : section_length S.extents S.sections j ≤ section_size S.extents S.sections = section_length-le S.extents S.sections j in
       record {
@@ -257,16 +273,16 @@ module _ (S : Shape) (pointers generations : ℕ → ℕ) where
       }
 
   -- what they spell of a section, where it can be spelled, its page spells, with the record that the store's format has
-  pub from_formats : (format j version recorded : ℕ) (page : List ℕ) → page ≡ (formats_of S).superblock format j version recorded pointers generations
+  pub from_formats : (number j version recorded : ℕ) (page : List ℕ) → page ≡ (formats_of S).superblock number j version recorded pointers generations
       → FitsSuperblock S.format version (record_in S.format recorded) S.extents S.pages S.sections j (listed j) → SpellsAt j page S.format version (record_in S.format recorded) S.extents S.pages S.sections (listed j)
-  from_formats format j version recorded page is fits = go ((format == 1) && (S.format == 2) && (S.sections == 1)) refl is
+  from_formats number j version recorded page is fits = go (is_first_format S.format number S.sections) refl is
     where
-      go : (b : Bool) → ((format == 1) && (S.format == 2) && (S.sections == 1)) ≡ b → page ≡ (if b then of_first_format j version else in_sections j version recorded)
+      go : (b : Bool) → is_first_format S.format number S.sections ≡ b → page ≡ (if b then of_first_format j version else in_sections j version recorded)
           → SpellsAt j page S.format version (record_in S.format recorded) S.extents S.pages S.sections (listed j)
       go true test is =
-          let both = and_parts ((format == 1) && (S.format == 2)) (S.sections == 1) test in
-          let one : S.sections ≡ 1 = eqb-true S.sections 1 both.1 in
-          let second : S.format ≡ 2 = eqb-true S.format 2 (and_parts (format == 1) (S.format == 2) both.0).1 in
+          let both = first_parts S.format number S.sections test in
+          let second : S.format ≡ Two = both.0 in
+          let one : S.sections ≡ 1 = both.1 in
           let inside : j < S.sections = fits.one_of_them in
           let first : j ≡ 0 = omega (arith, one, inside) in
           of_first j page S.format version (record_in S.format recorded) S.extents S.pages S.sections (listed j) first (first_spelled j version (record_in S.format recorded) page first second one fits is)
@@ -275,18 +291,19 @@ module _ (S : Shape) (pointers generations : ℕ → ℕ) where
 
   -- what page 0 spells, one of them spells
   pub zero_formats : (version recorded : ℕ) (page : List ℕ) (rows : List (ℕ × ℕ)) → listed 0 ≡ rows → SpellsPageZero page S.format version recorded S.extents S.pages S.sections 0 rows
-      → (format : ℕ) × (page ≡ (formats_of S).superblock format 0 version recorded pointers generations)
-  zero_formats version recorded page rows same (inl is) = (2, is.spelled ∙ ap (spelled_superblock S.format version recorded S.extents S.pages S.sections 0) (sym same))
+      → (number : ℕ) × (page ≡ (formats_of S).superblock number 0 version recorded pointers generations)
+  zero_formats version recorded page rows same (inl is) =
+      (number_of S.format, is.spelled ∙ ap (spelled_superblock S.format version recorded S.extents S.pages S.sections 0) (sym same) ∙ sym (own_format 0 version recorded))
   zero_formats version recorded page rows same (inr is) =
-      let test : ((S.format == 2) && (S.sections == 1)) ≡ true = and_from (S.format == 2) (S.sections == 1) (eq-eqb S.format 2 is.written_in) (eq-eqb S.sections 1 is.one_section) in
+      let test : is_first_format S.format 1 S.sections ≡ true = first_number S.format S.sections is.written_in is.one_section in
       (1, is.spells.spelled ∙ ap (spelled_first_format version S.pages) (sym same) ∙ ap (λ (b : Bool). if b then of_first_format 0 version else in_sections 0 version recorded) (sym test))
 
   -- and what the page of a further section spells, each of them
-  pub section_formats : (format j version recorded : ℕ) (page : List ℕ) (rows : List (ℕ × ℕ)) → listed (suc j) ≡ rows → suc j < S.sections
-      → SpellsSuperblock page S.format version recorded S.extents S.pages S.sections (suc j) rows → page ≡ (formats_of S).superblock format (suc j) version recorded pointers generations
-  section_formats format j version recorded page rows same inside is =
+  pub section_formats : (number j version recorded : ℕ) (page : List ℕ) (rows : List (ℕ × ℕ)) → listed (suc j) ≡ rows → suc j < S.sections
+      → SpellsSuperblock page S.format version recorded S.extents S.pages S.sections (suc j) rows → page ≡ (formats_of S).superblock number (suc j) version recorded pointers generations
+  section_formats number j version recorded page rows same inside is =
       let several : (S.sections == 1) ≡ false = ne_eqb S.sections 1 (λ one. omega (arith, one, inside)) in
-      let test : ((format == 1) && (S.format == 2) && (S.sections == 1)) ≡ false = and_right ((format == 1) && (S.format == 2)) (S.sections == 1) several in
+      let test : is_first_format S.format number S.sections ≡ false = several_apart S.format number S.sections several in
       is.spelled ∙ ap (spelled_superblock S.format version recorded S.extents S.pages S.sections (suc j)) (sym same)
       ∙ ap (λ (b : Bool). if b then of_first_format (suc j) version else in_sections (suc j) version recorded) (sym test)
 
@@ -304,7 +321,7 @@ found_all [] e = refl
 found_all (row ∷ written) zero = refl
 found_all (row ∷ written) (suc e) = found_all written e
 
-module _ (view : ℕ → List ℕ) (format : ℕ) (versions records : List ℕ) (pages : ℕ) (written : List (ℕ × ℕ)) (is : AreSectionsRead view format versions records pages written) where
+module _ (view : ℕ → List ℕ) (format : Format) (versions records : List ℕ) (pages : ℕ) (written : List (ℕ × ℕ)) (is : AreSectionsRead view format versions records pages written) where
   abbrev x : ExtentsState
   x = extents_at format pages (length versions) written
 
@@ -379,7 +396,7 @@ none_found true not written e = absurd (true≢false not)
 none_found false not written e = all_default (length written) e 0
 
 -- where chunks and runs may lie on one extent nothing is noted of them
-pub extents_are : (format pages sections : ℕ) (written : List (ℕ × ℕ)) (runs : List Run) → apart_in format ≡ false
+pub extents_are : (format : Format) (pages sections : ℕ) (written : List (ℕ × ℕ)) (runs : List Run) → apart_in format ≡ false
     → extents_of (extents_at format pages sections written) ≡ read_as (apart_in format) (extents_at format pages sections written) runs
 extents_are format pages sections written runs not = bare
     ∙ ap (λ (b : Bool). read_as b (extents_at format pages sections written) runs) (sym not)
@@ -398,7 +415,7 @@ extents_are format pages sections written runs not = bare
     }
 
 -- the same, with what is noted where chunks and runs lie apart
-pub extents_with : (format pages sections : ℕ) (written : List (ℕ × ℕ)) (of_runs : ℕ → Bool) (found : ℕ → ℕ)
+pub extents_with : (format : Format) (pages sections : ℕ) (written : List (ℕ × ℕ)) (of_runs : ℕ → Bool) (found : ℕ → ℕ)
     → record (extents_of (extents_at format pages sections written)) { of_runs = of_runs; found = found } ≡ record {
       pointer = (extents_of (extents_at format pages sections written)).pointer;
       generation = (extents_of (extents_at format pages sections written)).generation;
@@ -423,7 +440,7 @@ extents_with format pages sections written of_runs found = λ i. record {
 }
 
 -- where all are empty and there are no runs, by either rule
-module _ (format pages sections extents : ℕ) where
+module _ (format : Format) (pages sections extents : ℕ) where
   abbrev none_given : List (ℕ × ℕ)
   none_given = replicate extents (0, 0)
 

@@ -8,7 +8,7 @@ use Rattle.cs_frame.specs.Bytes.{IsPage}
 use Rattle.cs_frame.specs.FirstFormat.{SpellsPageZero}
 use Rattle.cs_frame.specs.Formats.{as_locator}
 use Rattle.cs_frame.specs.Geometries.{IsGeometry, device_pages}
-use Rattle.cs_frame.specs.Roots.{SpellsRoot}
+use Rattle.cs_frame.specs.Roots.{SpellsRoot, identity_in}
 use Rattle.cs_frame.specs.FormatRuns.{SpellsRun}
 use Rattle.cs_frame.specs.Runs.{Entry, entries_of as spelled_entries}
 use Rattle.cs_frame.specs.Superblocks.{SpellsSuperblock}
@@ -16,26 +16,27 @@ use Rattle.cs_index.specs.declared.stored_runs.StoredRun.{StoredRun}
 use Rattle.cs_index.specs.State.{newest_first}
 use Rattle.law_machine.specs.Device.{Shape}
 use Rattle.law_machine.specs.Element.{Locator as Place}
+use Rattle.law_machine.specs.Format.{Format}
 use Rattle.law_machine.specs.Formats.{RunFrame}
 use Rattle.law_machine.specs.Geometry.{most_weight_in, weigh_in}
 use Rattle.law_machine.specs.Index.{entries_of, live_at, named_weight}
 use Rattle.law_machine.specs.Lists.{◌∈◌}
 
 -- the bytes of section j's page spell it so, of a store of this format: those of page 0, which has section 0, maybe in the first format
-abbrev pub SpellsAt : (j : ℕ) → (bytes : List ℕ) → (format version recorded extents pages sections : ℕ) → (rows : List (ℕ × ℕ)) → Type 0
+abbrev pub SpellsAt : (j : ℕ) → (bytes : List ℕ) → (format : Format) (version recorded extents pages sections : ℕ) → (rows : List (ℕ × ℕ)) → Type 0
 SpellsAt zero bytes format version recorded extents pages sections rows = SpellsPageZero bytes format version recorded extents pages sections 0 rows
 SpellsAt (suc j) bytes format version recorded extents pages sections rows = SpellsSuperblock bytes format version recorded extents pages sections (suc j) rows
 
 -- Each section of a store of this format was read from its page, of one of these versions each, and records one of these versions of the
 -- root. Together they record these extents.
-pub record AreSectionsRead (view : ℕ → List ℕ) (format : ℕ) (versions records : List ℕ) (pages : ℕ) (written : List (ℕ × ℕ)) : Type 0 where
+pub record AreSectionsRead (view : ℕ → List ℕ) (format : Format) (versions records : List ℕ) (pages : ℕ) (written : List (ℕ × ℕ)) : Type 0 where
   pub geometry : IsGeometry format (length written) pages (length versions)
   pub each : (j : ℕ) → j < length versions
       → SpellsAt j (view ((shape (extents_at format pages (length versions) written)).section_page j)) format (slice_index versions j) (slice_index records j)
       (length written) pages (length versions) (section_rows (extents_at format pages (length versions) written) j)
 
--- how many pages the device has: the root's, those of the extents, and one for each section of the superblock; in format 3 the pages
--- that are kept count too
+-- how many pages the device has: as many as it had when the store was made. In format 2 these are the root's, those of
+-- the extents, and one for each section of the superblock.
 abbrev pub page_total : Shape → ℕ
 page_total S = device_pages S.format S.extents S.pages S.sections
 
@@ -80,21 +81,21 @@ AreVisibleLocated x runs = (id : ℕ) (l : Place) → l ∈ live_at (entries_of 
 -- A whole store of this format was read: sections of a superblock with these versions and extents, a root of no lesser version than one
 -- that they record, over runs, which are all read, whose entries are all located, and the newest of which weigh no more than those of one
 -- run may.
-pub record IsStoreRead (view : ℕ → List ℕ) (format : ℕ) (versions records : List ℕ) (pages : ℕ) (written : List (ℕ × ℕ)) (root commands : ℕ)
+pub record IsStoreRead (view : ℕ → List ℕ) (format : Format) (versions records : List ℕ) (pages : ℕ) (written : List (ℕ × ℕ)) (root commands : ℕ)
     (runs : List StoredRun) : Type 0 where
   pub sections : AreSectionsRead view format versions records pages written
   pub recorded_fit : (j : ℕ) → j < length versions → slice_index records j ≤ root
-  pub root_page : SpellsRoot (view 1) format root commands (map (λ run. run.place) runs)
+  pub root_page : SpellsRoot (view 1) (identity_in format) root commands (map (λ run. run.place) runs)
   pub runs_read : AllByRecursion (IsRunRead (extents_at format pages (length versions) written) view) runs
   pub located : AreLocated (extents_at format pages (length versions) written) runs
   pub weight_fits : named_weight (weigh_in format) (entries_of (newest_first runs)) ≤ most_weight_in format pages
 
 -- The same, where an entry that a newer one hides may name what is gone.
-pub record IsVisibleStoreRead (view : ℕ → List ℕ) (format : ℕ) (versions records : List ℕ) (pages : ℕ) (written : List (ℕ × ℕ)) (root commands : ℕ)
+pub record IsVisibleStoreRead (view : ℕ → List ℕ) (format : Format) (versions records : List ℕ) (pages : ℕ) (written : List (ℕ × ℕ)) (root commands : ℕ)
     (runs : List StoredRun) : Type 0 where
   pub sections : AreSectionsRead view format versions records pages written
   pub recorded_fit : (j : ℕ) → j < length versions → slice_index records j ≤ root
-  pub root_page : SpellsRoot (view 1) format root commands (map (λ run. run.place) runs)
+  pub root_page : SpellsRoot (view 1) (identity_in format) root commands (map (λ run. run.place) runs)
   pub runs_read : AllByRecursion (IsRunRead (extents_at format pages (length versions) written) view) runs
   pub located : AreVisibleLocated (extents_at format pages (length versions) written) runs
   pub weight_fits : named_weight (weigh_in format) (entries_of (newest_first runs)) ≤ most_weight_in format pages

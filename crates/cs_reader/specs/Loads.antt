@@ -3,6 +3,7 @@ use Rattle.std.specs.Prelude.{◌∷◌, ℕ, List, [], None}
 use Rattle.cs_deps.specs.State.{State as GraphState}
 use Rattle.cs_index.specs.State.{State as IndexState}
 use Rattle.law_machine.specs.Element.{Run}
+use Rattle.law_machine.specs.Format.{Format}
 
 -- the versions of a superblock's sections and of the root, as the families are numbered: the root's stands behind section 0's
 abbrev pub by_family : (versions : List ℕ) → (root : ℕ) → List ℕ
@@ -23,5 +24,5 @@ graph_at versions root = record {
 }
 
 -- the index of these runs, newest first, with an empty table, in a store of this format
-abbrev pub index_at : (runs : List Run) → (format limit : ℕ) → IndexState
+abbrev pub index_at : (runs : List Run) → (format : Format) (limit : ℕ) → IndexState
 index_at runs format limit = record { table = []; runs = runs; format = format; limit = limit; room = 0 }

@@ -1,5 +1,5 @@
 -- What is read as a store is opened, and why none is.
-use Rattle.std.specs.Prelude.{◌≡◌, ◌≢◌, ◌⊎◌, ◌+◌, ◌*◌, ◌<◌, ◌≤◌, ℕ, true, false, List, Some, length, map, slice_get, slice_index}
+use Rattle.std.specs.Prelude.{◌≡◌, ◌≢◌, ◌⊎◌, ◌+◌, ◌*◌, ◌<◌, ◌≤◌, ℕ, true, false, List, Option, Some, length, map, slice_get, slice_index}
 use Rattle.std.specs.List.{AllByRecursion}
 use Rattle.cs_chunk.specs.Chunks.{IsFrameIn}
 use Rattle.cs_chunk.specs.Reads.{IsNoAnswer, IsOfFault, fault_in}
@@ -13,20 +13,22 @@ use Rattle.cs_frame.specs.declared.superblocks.Superblock.{Superblock}
 use Rattle.cs_frame.specs.FirstFormat.{SpellsPageZero, page_zero_fault}
 use Rattle.cs_frame.specs.FormatRuns.{run_fault}
 use Rattle.cs_frame.specs.Formats.{as_locator}
+use Rattle.cs_frame.specs.FormatNumbers.{number_in}
 use Rattle.cs_frame.specs.Geometries.{device_pages}
-use Rattle.cs_frame.specs.Roots.{SpellsRoot, root_fault}
+use Rattle.cs_frame.specs.Roots.{SpellsRoot, identity_in, root_fault, root_number}
 use Rattle.cs_frame.specs.Superblocks.{SpellsSuperblock, superblock_fault}
 use Rattle.cs_reader.specs.ImageReads.{AreLocated, AreRunsRead, AreSectionsRead, AreVisibleLocated, IsLocated, IsRunRead, IsStoreRead, IsVisibleStoreRead}
 use Rattle.cs_index.specs.declared.stored_runs.StoredRun.{StoredRun}
 use Rattle.cs_index.specs.State.{newest_first}
 use Rattle.law_machine.specs.Element.{Entry, Locator as Place}
+use Rattle.law_machine.specs.Format.{Format}
 use Rattle.law_machine.specs.Formats.{RunFrame}
 use Rattle.law_machine.specs.Index.{entries_of, live_at, named_weight}
 use Rattle.law_machine.specs.Lists.{◌∈◌}
 
 -- A whole store of this format was read: where hidden entries stand what all entries name is there, else what the newest entry of each
 -- identifier names.
-pub record IsStoreReadBy (view : ℕ → List ℕ) (format : ℕ) (versions records : List ℕ) (pages : ℕ) (written : List (ℕ × ℕ)) (root commands : ℕ) (runs : List StoredRun) : Type 0 where
+pub record IsStoreReadBy (view : ℕ → List ℕ) (format : Format) (versions records : List ℕ) (pages : ℕ) (written : List (ℕ × ℕ)) (root commands : ℕ) (runs : List StoredRun) : Type 0 where
   pub whole : (shape (extents_at format pages (length versions) written)).hidden_stand ≡ true → IsStoreRead view format versions records pages written root commands runs
   pub visible : (shape (extents_at format pages (length versions) written)).hidden_stand ≡ false → IsVisibleStoreRead view format versions records pages written root commands runs
 
@@ -39,7 +41,7 @@ abbrev pub SpellsFurther : (bytes : List ℕ) → Superblock → Type 0
 SpellsFurther bytes it = SpellsSuperblock bytes it.format it.version it.recorded it.extent_count it.pages it.sections it.section it.extents.items
 
 -- Page 0 spells section 0 of a superblock of this format and of so many extents, pages and sections, with which the device has its pages.
-pub record IsFirstRead (count : ℕ) (view : ℕ → List ℕ) (format extents pages sections : ℕ) : Type 0 where
+pub record IsFirstRead (count : ℕ) (view : ℕ → List ℕ) (format : Format) (extents pages sections : ℕ) : Type 0 where
   pub version : ℕ
   pub recorded : ℕ
   pub rows : List (ℕ × ℕ)
@@ -47,23 +49,23 @@ pub record IsFirstRead (count : ℕ) (view : ℕ → List ℕ) (format extents p
   pub sized : count ≡ device_pages format extents pages sections
 
 -- The page of a further section spells it.
-pub record IsSectionThere (view : ℕ → List ℕ) (format extents pages sections section : ℕ) : Type 0 where
+pub record IsSectionThere (view : ℕ → List ℕ) (format : Format) (extents pages sections section : ℕ) : Type 0 where
   pub version : ℕ
   pub recorded : ℕ
   pub rows : List (ℕ × ℕ)
   pub superblock : SpellsSuperblock (view (1 + extents * pages + section)) format version recorded extents pages sections section rows
 
 -- The pages of all sections spell these extents and what each records of the root, and with these the device has its pages.
-pub record AreExtentsRead (count : ℕ) (view : ℕ → List ℕ) (format : ℕ) (versions records : List ℕ) (pages : ℕ) (written : List (ℕ × ℕ)) : Type 0 where
+pub record AreExtentsRead (count : ℕ) (view : ℕ → List ℕ) (format : Format) (versions records : List ℕ) (pages : ℕ) (written : List (ℕ × ℕ)) : Type 0 where
   pub sections : AreSectionsRead view format versions records pages written
   pub sized : count ≡ device_pages format (length written) pages (length versions)
 
 -- And page 1 spells a root over runs at these places.
-pub record IsRootRead (count : ℕ) (view : ℕ → List ℕ) (format : ℕ) (versions records : List ℕ) (pages : ℕ) (written : List (ℕ × ℕ)) (places : List Locator) : Type 0 where
+pub record IsRootRead (count : ℕ) (view : ℕ → List ℕ) (format : Format) (versions records : List ℕ) (pages : ℕ) (written : List (ℕ × ℕ)) (places : List Locator) : Type 0 where
   pub extents : AreExtentsRead count view format versions records pages written
   pub version : ℕ
   pub commands : ℕ
-  pub root : SpellsRoot (view 1) format version commands places
+  pub root : SpellsRoot (view 1) (identity_in format) version commands places
 
 -- each of so many sections records a root of this version at most, as far as it records one
 abbrev pub AreRecordedBy : (sections : ℕ) (records : List ℕ) (version : ℕ) → Type 0
@@ -85,7 +87,7 @@ pub record IsSuperblockDamaged (count : ℕ) (view : ℕ → List ℕ) (r : Refu
 pub record IsOtherFirst (bytes : List ℕ) (r : Refusal) : Type 0 where
   pub version : ℕ
   pub recorded : ℕ
-  pub format : ℕ
+  pub format : Format
   pub extents : ℕ
   pub pages : ℕ
   pub sections : ℕ
@@ -109,7 +111,7 @@ pub record IsOtherDevice (count : ℕ) (view : ℕ → List ℕ) (r : Refusal) :
   pub enough : 10 ≤ count
   pub version : ℕ
   pub recorded : ℕ
-  pub format : ℕ
+  pub format : Format
   pub extents : ℕ
   pub pages : ℕ
   pub sections : ℕ
@@ -119,15 +121,18 @@ pub record IsOtherDevice (count : ℕ) (view : ℕ → List ℕ) (r : Refusal) :
   pub refusal : r ≡ NotAStore
 
 -- This is section `section` of a superblock of this format and of so many extents, pages and sections, by its numbers.
-pub record HasNumbers (format extents pages sections section : ℕ) (it : Superblock) : Type 0 where
+-- The format has the identity of the store and the pages of its device.
+pub record HasNumbers (format : Format) (extents pages sections section : ℕ) (it : Superblock) : Type 0 where
   pub of_format : it.format ≡ format
   pub of_extents : it.extent_count ≡ extents
   pub of_pages : it.pages ≡ pages
   pub of_sections : it.sections ≡ sections
   pub place : it.section ≡ section
 
--- The bytes spell, in this format, another section than this one of these numbers.
-pub record IsOtherSpelled (format extents pages sections section : ℕ) (bytes : List ℕ) (r : Refusal) : Type 0 where
+-- The bytes spell, in a format with the number of this one, another section than this one of these numbers. It may be
+-- that of another store, or of one whose device had another number of pages.
+pub record IsOtherSpelled (format : Format) (extents pages sections section : ℕ) (bytes : List ℕ) (r : Refusal) : Type 0 where
+  pub their_format : Format
   pub version : ℕ
   pub recorded : ℕ
   pub their_extents : ℕ
@@ -135,17 +140,18 @@ pub record IsOtherSpelled (format extents pages sections section : ℕ) (bytes :
   pub their_sections : ℕ
   pub their_section : ℕ
   pub rows : List (ℕ × ℕ)
-  pub spelled : SpellsSuperblock bytes format version recorded their_extents their_pages their_sections their_section rows
-  pub other : (their_extents ≡ extents) × (their_pages ≡ pages) × (their_sections ≡ sections) × (their_section ≡ section) → ⊥
+  pub number : number_in their_format ≡ number_in format
+  pub spelled : SpellsSuperblock bytes their_format version recorded their_extents their_pages their_sections their_section rows
+  pub other : (their_format ≡ format) × (their_extents ≡ extents) × (their_pages ≡ pages) × (their_sections ≡ sections) × (their_section ≡ section) → ⊥
   pub refusal : r ≡ NotAStore
 
 -- a further section isn't read of the bytes of its page: they have this fault, or spell another one
-abbrev pub IsWhyNoSection : (format extents pages sections section : ℕ) → (bytes : List ℕ) → Refusal → Type 0
+abbrev pub IsWhyNoSection : (format : Format) (extents pages sections section : ℕ) → (bytes : List ℕ) → Refusal → Type 0
 IsWhyNoSection format extents pages sections section bytes r =
-    IsOfFault (superblock_fault format bytes) r ⊎ IsOtherSpelled format extents pages sections section bytes r
+    IsOfFault (superblock_fault (number_in format) bytes) r ⊎ IsOtherSpelled format extents pages sections section bytes r
 
 -- A further section isn't read, after all before it were.
-pub record IsWhyNoSections (view : ℕ → List ℕ) (format extents pages sections : ℕ) (r : Refusal) : Type 0 where
+pub record IsWhyNoSections (view : ℕ → List ℕ) (format : Format) (extents pages sections : ℕ) (r : Refusal) : Type 0 where
   pub section : ℕ
   pub further : 0 < section
   pub one_of_them : section < sections
@@ -154,7 +160,7 @@ pub record IsWhyNoSections (view : ℕ → List ℕ) (format extents pages secti
 
 -- A further section of the superblock isn't read.
 pub record IsSectionDamaged (count : ℕ) (view : ℕ → List ℕ) (r : Refusal) : Type 0 where
-  pub format : ℕ
+  pub format : Format
   pub extents : ℕ
   pub pages : ℕ
   pub sections : ℕ
@@ -163,18 +169,44 @@ pub record IsSectionDamaged (count : ℕ) (view : ℕ → List ℕ) (r : Refusal
 
 -- Page 1 has this fault as a root of the store's format.
 pub record IsRootDamaged (count : ℕ) (view : ℕ → List ℕ) (r : Refusal) : Type 0 where
-  pub format : ℕ
+  pub format : Format
   pub versions : List ℕ
   pub records : List ℕ
   pub pages : ℕ
   pub written : List (ℕ × ℕ)
   pub extents : AreExtentsRead count view format versions records pages written
-  pub fault : IsOfFault (root_fault format (view 1)) r
+  pub fault : IsOfFault (root_fault (number_in format) (view 1)) r
+
+-- The bytes spell a root of another store, whose format has the number of this one.
+pub record IsOtherIdentity (format : Format) (bytes : List ℕ) (r : Refusal) : Type 0 where
+  pub store : Option (List ℕ)
+  pub version : ℕ
+  pub commands : ℕ
+  pub places : List Locator
+  pub number : root_number store ≡ number_in format
+  pub root : SpellsRoot bytes store version commands places
+  pub other : store ≢ identity_in format
+  pub refusal : r ≡ NotAStore
+
+-- Page 1 spells a root of another store.
+pub record IsOtherRoot (count : ℕ) (view : ℕ → List ℕ) (r : Refusal) : Type 0 where
+  pub format : Format
+  pub versions : List ℕ
+  pub records : List ℕ
+  pub pages : ℕ
+  pub written : List (ℕ × ℕ)
+  pub extents : AreExtentsRead count view format versions records pages written
+  pub spelled : IsOtherIdentity format (view 1) r
+
+-- no root of a store of this format is read of the bytes of page 1: they have this fault, or spell a root of another
+-- store
+abbrev pub IsWhyNoRoot : (format : Format) → (bytes : List ℕ) → Refusal → Type 0
+IsWhyNoRoot format bytes r = IsOfFault (root_fault (number_in format) bytes) r ⊎ IsOtherIdentity format bytes r
 
 -- A section records a later root than the one that page 1 spells: that one is of before, and commands that were acknowledged since would be
 -- missed.
 pub record IsRootLost (count : ℕ) (view : ℕ → List ℕ) (r : Refusal) : Type 0 where
-  pub format : ℕ
+  pub format : Format
   pub versions : List ℕ
   pub records : List ℕ
   pub pages : ℕ
@@ -194,7 +226,7 @@ IsWhyNotRead x view place r = ((¬ IsLocated x place) × (r ≡ NotAStore))
 
 -- A run of the root isn't read, after all older ones were.
 pub record IsRunDamaged (count : ℕ) (view : ℕ → List ℕ) (r : Refusal) : Type 0 where
-  pub format : ℕ
+  pub format : Format
   pub versions : List ℕ
   pub records : List ℕ
   pub pages : ℕ
@@ -220,7 +252,7 @@ pub record AreLocatedBy (x : ExtentsState) (runs : List StoredRun) : Type 0 wher
 
 -- All runs are read, and a locator of an entry isn't located, or the newest entries weigh more than those of one run may.
 pub record IsIndexDamaged (count : ℕ) (view : ℕ → List ℕ) (r : Refusal) : Type 0 where
-  pub format : ℕ
+  pub format : Format
   pub versions : List ℕ
   pub records : List ℕ
   pub pages : ℕ
@@ -237,7 +269,7 @@ pub record IsIndexDamaged (count : ℕ) (view : ℕ → List ℕ) (r : Refusal) 
 -- why a device of so many pages, which read as these, isn't opened: the first of these tests that fails
 abbrev pub IsWhyNotOpened : (count : ℕ) → (view : ℕ → List ℕ) → Refusal → Type 0
 IsWhyNotOpened count view r = IsTooSmall count r ⊎ IsSuperblockDamaged count view r ⊎ IsOtherSection count view r ⊎ IsOtherDevice count view r
-    ⊎ IsSectionDamaged count view r ⊎ IsRootDamaged count view r ⊎ IsRootLost count view r ⊎ IsRunDamaged count view r ⊎ IsIndexDamaged count view r
+    ⊎ IsSectionDamaged count view r ⊎ IsRootDamaged count view r ⊎ IsOtherRoot count view r ⊎ IsRootLost count view r ⊎ IsRunDamaged count view r ⊎ IsIndexDamaged count view r
 
 -- the refusals of any opening: 1, 9, 20 to 27, and 43
 abbrev pub IsOpeningRefusal : Refusal → Type 0

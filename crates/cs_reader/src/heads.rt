@@ -1,22 +1,21 @@
 //! The head of a store, read page by page: its superblock section by section, and then its root.
-ghost use Rattle.std.specs.Prelude.{◌≡◌, ◌+◌, ◌*◌, ◌^◌, ◌<◌, ◌≤◌, ◌⊎◌, ℕ, List, IfErr, IfOk, MatchBool, length, map, slice_index};
-ghost use Rattle.cs_chunk.specs.Reads.{IsCaused, IsNoAnswer, IsOfFault};
+ghost use Rattle.std.specs.Prelude.{◌≡◌, ◌≢◌, ◌+◌, ◌*◌, ◌^◌, ◌<◌, ◌≤◌, ◌⊎◌, ℕ, List, IfErr, IfOk, MatchBool, length, map, slice_index};
+ghost use Rattle.cs_chunk.specs.Reads.{IsCaused, IsNoAnswer};
 ghost use Rattle.cs_disk.specs.Disk.{page, seen};
 ghost use Rattle.cs_disk.specs.Reads.{OnlyReads};
 ghost use Rattle.cs_extent.specs.Sections.{AreSections, format_of, pages_of, rows_of};
-ghost use Rattle.cs_frame.specs.Geometries.{IsKnown, device_pages};
-ghost use Rattle.cs_frame.specs.Roots.{SpellsRoot, root_fault};
+ghost use Rattle.cs_frame.specs.Geometries.{device_pages};
+ghost use Rattle.cs_frame.specs.Roots.{SpellsRoot, identity_in, identity_of};
 ghost use Rattle.cs_reader.specs.Heads.{IsHeadRead, IsWhyNoHead};
 ghost use Rattle.cs_reader.specs.ImageReads.{AreSectionsRead};
 ghost use Rattle.cs_reader.specs.Loads.{graph_at};
-ghost use Rattle.cs_reader.specs.Openings.{AreRecordedBy, HasNumbers, IsOpeningRefusal, IsWhyNoFirst, IsWhyNoSection, IsWhyNoSections, SpellsFirst, SpellsFurther};
+ghost use Rattle.cs_reader.specs.Openings.{AreRecordedBy, HasNumbers, IsOpeningRefusal, IsWhyNoFirst, IsWhyNoRoot, IsWhyNoSection, IsWhyNoSections, SpellsFirst, SpellsFurther};
 
 use cs_deps::Graph;
 use cs_disk::{PageDisk, refusal_of_disk};
 use cs_extent::Extents;
 use cs_frame::{
-    Format, Root, Superblock, decode_root, decode_section, decode_superblock, device_pages,
-    refusal_of_fault,
+    Format, Root, Superblock, decode_root, decode_section, decode_superblock, refusal_of_fault,
 };
 use cs_refusal::Refusal;
 use std::alloc::{AllocError, Global};
@@ -72,7 +71,7 @@ fn read_first<D: PageDisk>(alloc: Global, disk: &mut D) -> Result<Superblock, Re
 fn has_numbers(superblock: &Superblock, numbers: &Numbers, section: u8) -> bool
     ensures { MatchBool result (HasNumbers numbers.now.format numbers.now.extents numbers.now.pages numbers.now.sections section superblock.now) (¬ HasNumbers numbers.now.format numbers.now.extents numbers.now.pages numbers.now.sections section superblock.now) }
 {
-    superblock.format.number() == numbers.format.number()
+    superblock.format == numbers.format
         && superblock.extent_count == numbers.extents
         && superblock.pages == numbers.pages
         && superblock.sections == numbers.sections
@@ -80,16 +79,15 @@ fn has_numbers(superblock: &Superblock, numbers: &Numbers, section: u8) -> bool
 }
 
 /// Reads a further section of a superblock with these numbers. Refused 43 NotAStore if its page has another section in this format, or one of
-/// another superblock.
+/// another superblock, as that of another store is.
 fn read_section<D: PageDisk>(
     alloc: Global,
     disk: &mut D,
     numbers: &Numbers,
     section: u8,
 ) -> Result<Superblock, Refusal>
-    requires known { IsKnown numbers.now.format }
     requires inside { section < numbers.now.sections }
-    requires sized { D.page_count disk.old ≡ device_pages numbers.now.format numbers.now.extents numbers.now.pages numbers.now.sections }
+    requires room { 1 + numbers.now.extents * numbers.now.pages + numbers.now.sections ≤ D.page_count disk.old }
     ensures numbers { IfOk result (HasNumbers numbers.now.format numbers.now.extents numbers.now.pages numbers.now.sections section) }
     ensures some { IfOk result (λ it. (bytes : List ℕ) × SpellsFurther bytes it) }
     ensures read { D.honest disk.old → IfOk result (λ it. SpellsFurther (page (seen (D.state disk.old)) (1 + numbers.now.extents * numbers.now.pages + section)) it) }
@@ -104,7 +102,7 @@ fn read_section<D: PageDisk>(
         Ok(()) => {}
         Err(fault) => return Err(refusal_of_disk(fault)),
     }
-    let superblock = match decode_section(alloc, &buffer, numbers.format) {
+    let superblock = match decode_section(alloc, &buffer, numbers.format.number()) {
         Ok(superblock) => superblock,
         Err(fault) => return Err(refusal_of_fault(fault)),
     };
@@ -149,13 +147,21 @@ fn read_sections<D: PageDisk>(
     Ok(sections)
 }
 
-/// The root that page 1 spells in this format. Refused 20 to 24 by the first test that fails, 1 DeviceFault, and 9 OutOfMemory; the disk is only read.
+/// Whether a root is that of the store of this format.
+fn is_root_of(root: &Root, format: Format) -> bool
+    ensures { MatchBool result (identity_of root.now ≡ identity_in format) (identity_of root.now ≢ identity_in format) }
+{
+    root.store == format.store()
+}
+
+/// The root that page 1 spells, of the store of this format. Refused 20 to 24 by the first test that fails, then 43
+/// NotAStore if it is the root of another store. 1 DeviceFault and 9 OutOfMemory may come in place of any. The disk is
+/// only read.
 fn read_root<D: PageDisk>(alloc: Global, disk: &mut D, format: Format) -> Result<Root, Refusal>
-    requires known { IsKnown format }
-    requires enough { 1 < D.page_count disk.old }
-    ensures read { D.honest disk.old → IfOk result (λ it. SpellsRoot (page (seen (D.state disk.old)) 1) format it.version it.commands it.runs.items) }
-    ensures some { IfOk result (λ it. (bytes : List ℕ) × SpellsRoot bytes format it.version it.commands it.runs.items) }
-    ensures fault { D.honest disk.old → IfErr result (λ r. IsNoAnswer r ⊎ IsOfFault (root_fault format (page (seen (D.state disk.old)) 1)) r) }
+    requires { 1 < D.page_count disk.old }
+    ensures read { D.honest disk.old → IfOk result (λ it. SpellsRoot (page (seen (D.state disk.old)) 1) (identity_in format) it.version it.commands it.runs.items) }
+    ensures some { IfOk result (λ it. (bytes : List ℕ) × SpellsRoot bytes (identity_in format) it.version it.commands it.runs.items) }
+    ensures why { D.honest disk.old → IfErr result (λ r. IsNoAnswer r ⊎ IsWhyNoRoot format (page (seen (D.state disk.old)) 1) r) }
     ensures number { IfErr result IsOpeningRefusal }
     ensures disk { OnlyReads D.PageDisk disk.old disk.new }
     ensures cause { IsCaused (D.failure_count disk.old) (D.failure_count disk.new) result }
@@ -165,10 +171,14 @@ fn read_root<D: PageDisk>(alloc: Global, disk: &mut D, format: Format) -> Result
         Ok(()) => {}
         Err(fault) => return Err(refusal_of_disk(fault)),
     }
-    match decode_root(alloc, &buffer, format) {
-        Ok(root) => Ok(root),
-        Err(fault) => Err(refusal_of_fault(fault)),
+    let root = match decode_root(alloc, &buffer, format.number()) {
+        Ok(root) => root,
+        Err(fault) => return Err(refusal_of_fault(fault)),
+    };
+    if !is_root_of(&root, format) {
+        return Err(Refusal::NotAStore);
     }
+    Ok(root)
 }
 
 /// Whether a section records a later root than one of this version.
@@ -234,9 +244,16 @@ fn read_with_sections<D: PageDisk>(
 
 /// Reads the head of a store: its superblock section by section, and then its root, whatever the sections record of it.
 ///
-/// Refused by the first test that fails: 20 to 24 for page 0; 43 NotAStore if it has another section than the first, or if the disk hasn't the
-/// superblock's pages; for each further section 20 to 24 for its page, and 43 if that has another section, or one of another superblock; 20
-/// to 24 for page 1. 1 DeviceFault and 9 OutOfMemory may come in place of any.
+/// Refused by the first test that fails:
+///
+/// - 20 to 24 for page 0.
+/// - 43 NotAStore if page 0 has another section than the first, or if the disk has another number of pages than the
+///   superblock says.
+/// - For each further section 20 to 24 for its page, then 43 if that has another section, or one of another superblock or
+///   store.
+/// - 20 to 24 for page 1, then 43 if it has the root of another store.
+///
+/// 1 DeviceFault and 9 OutOfMemory may come in place of any.
 pub fn read_head<D: PageDisk>(alloc: Global, disk: &mut D) -> Result<Head, Refusal>
     requires { 10 ≤ D.page_count disk.old }
     ensures head { IfOk result (IsHeadRead (D.honest disk.old) (D.page_count disk.old) (page (seen (D.state disk.old)))) }
@@ -250,12 +267,9 @@ pub fn read_head<D: PageDisk>(alloc: Global, disk: &mut D) -> Result<Head, Refus
         Err(refusal) => return Err(refusal),
     };
     if disk.pages()
-        != device_pages(
-            first.format,
-            first.extent_count,
-            first.pages,
-            first.sections,
-        )
+        != first
+            .format
+            .device_pages(first.extent_count, first.pages, first.sections)
     {
         return Err(Refusal::NotAStore);
     }

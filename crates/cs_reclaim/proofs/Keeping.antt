@@ -6,7 +6,7 @@ use Rattle.cs_chunk.proofs.Appends.{frame_begins, has_writes, newest_begins}
 use Rattle.cs_chunk.proofs.Newest.{reads_newest, stand_of}
 use Rattle.cs_chunk.proofs.Putting.{end_behind}
 use Rattle.cs_chunk.proofs.Staying.{stays_appended}
-use Rattle.cs_chunk.specs.Chunks.{AreChunksIn, IsFrameIn, IsMeant, end_in}
+use Rattle.cs_chunk.specs.Chunks.{AreChunksIn, IsFrameIn, IsLong, IsMeant, end_in}
 use Rattle.cs_chunk.specs.Newest.{AreNewest}
 use Rattle.cs_chunk.specs.Stays.{IsBelow}
 use Rattle.cs_deps.specs.State.{IsWhole, State as Graph}
@@ -47,6 +47,7 @@ module _ (x y : ExtentsState) (l : Locator) (c : List ℕ) (same : shape y ≡ s
     omega (arith, was.0, one_end, ap (λ (S : Shape). length ((formats_of S).frame ChunkFrame c)) same),
     subst (λ (S : Shape). Stand S (formats_of S) now l.extent l.page ((formats_of S).frame ChunkFrame c)) (sym same) stand,
     subst (λ (S : Shape). IsMeant S ChunkFrame l c) (sym same) was.2,
+    subst (λ (S : Shape). IsLong S ChunkFrame c) (sym same) was.3,
   )
 
   -- and it is below the pointer where it was
@@ -70,14 +71,14 @@ module _ {apart_by : Bool} (x y : ExtentsState) (g h : Graph) (frame : List (Lis
   abbrev Stands : List (List ℕ) → Type 0
   Stands f = Stand (shape x) (formats_of (shape x)) now to.extent to.page f
 
-  -- what was appended is there
-  pub begins : (c : List ℕ) → frame ≡ chunk_frame x c → IsChunkThere y now to c
-  begins c is =
+  -- what was appended is there, if it is long enough for a chunk
+  pub begins : (c : List ℕ) → IsLong (shape x) ChunkFrame c → frame ≡ chunk_frame x c → IsChunkThere y now to c
+  begins c long is =
       let at = subst (λ (f : List (List ℕ)). ((to.page + length f ≤ end_in x to) × Stands f × (is_meant (shape x) to.mark f ≡ true)) × IsBelow (extents_of y) to f) is (
         (omega (arith, (goes_inside (shape x) apart_by (extents_of x) ForMove (length frame) to.extent a.placed).1, page, end), stand, eq-eqb (mark_of (shape x) frame) to.mark (sym (ap (λ (l : Locator). l.mark) a.place))),
         (ap (λ (l : Locator). l.generation) a.place ∙ sym (ap (λ (z : Extents). z.generation to.extent) a.extents), (frame_begins x g ForMove frame to y h a (has_writes h kept) whole.found_given).given),
       ) in
-      there_still x y to c a.same_shape (found_same to.extent) now now at.0 at.0.1 at.1
+      there_still x y to c a.same_shape (found_same to.extent) now now (at.0.0, at.0.1, at.0.2, long) at.0.1 at.1
     where
       page : to.page ≡ (extents_of x).pointer to.extent
       page = ap (λ (l : Locator). l.page) a.place
@@ -107,7 +108,7 @@ module _ {apart_by : Bool} (x y : ExtentsState) (g h : Graph) (frame : List (Lis
       let same : l ≡ from = same_Some l from there in
       let here : IsFrameIn x view ChunkFrame (as_locator from) c = subst (λ (p : Place). IsFrameIn x view ChunkFrame (as_locator p) c) same at.0 in
       let one : c ≡ payload = one_chunk x whole view (as_locator from) c payload here read in
-      let new = begins c (is ∙ ap (chunk_frame x) (sym one)) in
+      let new = begins c at.0.3 (is ∙ ap (chunk_frame x) (sym one)) in
       let rest = all_stay ls cs at.1 below.1 in
       ((new.0, rest.0), (new.1, rest.1))
   one_moved (l ∷ ls) (c ∷ cs) (suc k) from payload there is read at below =

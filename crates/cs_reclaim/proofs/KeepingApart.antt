@@ -62,7 +62,7 @@ module _ (s : IndexState) (x y : ExtentsState) (g h : Graph) (copies after : Lis
       still l c was = stays x y g h (chunk_frame x payload) copy.to image view now whole copy.appended kept before behind l c was
 
       one : IsCopyRead y now new
-      one = (payload, still (as_locator copy.from) payload (read, below), begins x y g h (chunk_frame x payload) copy.to image view now whole copy.appended kept before behind payload refl)
+      one = (payload, still (as_locator copy.from) payload (read, below), begins x y g h (chunk_frame x payload) copy.to image view now whole copy.appended kept before behind payload read.3 refl)
 
       each : (c : Copy) → c ∈ (new ∷ copies) → IsCopyRead y now c
       each c there = ⊎_elim
@@ -123,6 +123,7 @@ module _ (go : Bool) (k : ℕ) (s t : IndexState) (x y : ExtentsState) (g h : Gr
           stand_of (shape x) (formats_of (shape x)) now l.extent l.page (chunk_frame x c)
               (λ i lt. same ((shape x).address l.extent (l.page + i)) ∙ of_stand (shape x) (formats_of (shape x)) view l.extent l.page (chunk_frame x c) was.0.1 i lt),
           was.0.2,
+          was.0.3,
         ),
         was.1,
       ))

@@ -8,6 +8,7 @@ use Rattle.cs_frame.specs.Formats.{place_of}
 use Rattle.cs_frame.specs.Locators.{KeepFormat}
 use Rattle.cs_index.proofs.Living.{nth_in}
 use Rattle.cs_index.specs.State.{IsSet, State}
+use Rattle.law_machine.specs.Format.{Format}
 use Rattle.law_machine.specs.Element.{Entry, Locator as Place}
 use Rattle.law_machine.specs.Index.{FirstLive, NothingLive, live, live_at}
 use Rattle.law_machine.specs.Lists.{nth, replaced}
@@ -29,7 +30,7 @@ replaced_map (q ∷ ps) zero p = refl
 replaced_map (q ∷ ps) (suc k) p = ap (λ ls. place_of q ∷ ls) (replaced_map ps k p)
 
 -- with another place that keeps to the format the places of a shard keep to it
-pub replaced_keeps : (format : ℕ) (ps : List Locator) (k : ℕ) (p : Locator) → KeepFormat format ps → KeepFormat format (p ∷ []) → KeepFormat format (slice_set ps k p)
+pub replaced_keeps : (format : Format) (ps : List Locator) (k : ℕ) (p : Locator) → KeepFormat format ps → KeepFormat format (p ∷ []) → KeepFormat format (slice_set ps k p)
 replaced_keeps format ps k p keep here = λ off. go ps k (keep off) (here off).0
   where
     go : (qs : List Locator) (j : ℕ) → AllByRecursion (λ q. q.mark ≡ 0) qs → p.mark ≡ 0 → AllByRecursion (λ q. q.mark ≡ 0) (slice_set qs j p)

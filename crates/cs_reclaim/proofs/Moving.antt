@@ -13,6 +13,7 @@ use Rattle.cs_extent.specs.Appended.{IsAppended, IsAppendedBy}
 use Rattle.cs_extent.specs.State.{State as ExtentsState, shape}
 use Rattle.cs_extent.specs.Worn.{IsFrameWorn}
 use Rattle.cs_frame.specs.declared.faults.FormatFault.{FormatFault}
+use Rattle.cs_frame.specs.declared.formats.FormatNumber.{FormatNumber}
 use Rattle.cs_frame.specs.declared.identifiers.ShardId.{ShardId}
 use Rattle.cs_frame.specs.declared.locators.Locator.{Locator}
 use Rattle.cs_frame.specs.Formats.{as_locator, place_of}
@@ -29,8 +30,8 @@ use Rattle.cs_index.specs.declared.live.LiveChunk.{LiveChunk}
 use Rattle.cs_reclaim.specs.Moves.{AnswersMove, AnswersPlace, IsMoveFull, IsMoveWorn, IsMoved, Nowhere, chunk_frame}
 
 -- what lies in an extent is short
-pub small_payload : (page pages : ℕ) (payload : List ℕ) → pages ≤ 65535 → page + length (spelled_frame 0 payload) ≤ pages → length payload < 2 ^ 32
-small_payload page pages payload few le = omega (arith, few, le, length-spelled 0 payload)
+pub small_payload : (number : FormatNumber) (page pages : ℕ) (payload : List ℕ) → pages ≤ 65535 → page + length (spelled_frame number 0 payload) ≤ pages → length payload < 2 ^ 32
+small_payload number page pages payload few le = omega (arith, few, le, length-spelled number 0 payload)
 
 pub if_ok : {T E : Type 0} (r : Result T E) (A B : T → Type 0) → ((t : T) → A t → B t) → IfOk r A → IfOk r B
 if_ok (Ok t) A B to a = to t a
@@ -114,7 +115,8 @@ done_cause a b read t caused = record { later = caused.later; failed = λ is. ab
 
 -- ---- how an append and a move are refused
 
--- an append is refused 30 exactly where there is no place, and 35 where there is one and a number would pass its greatest
+-- an append is refused 30 exactly where there is no place, and 35 where there is one and a number would pass its
+-- greatest
 module _ (Placed : ℕ → Type 0) (Worn : Type 0) (has_place : Worn → (e : ℕ) × Placed e) where
   abbrev None_there : Type 0
   None_there = (e : ℕ) → Placed e → ⊥

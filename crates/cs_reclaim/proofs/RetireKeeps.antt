@@ -23,6 +23,7 @@ use Rattle.cs_frame.specs.declared.locators.Locator.{Locator}
 use Rattle.cs_frame.specs.Formats.{as_locator, formats_of}
 use Rattle.cs_index.specs.Staged.{IsRootOver, IsRunAppendedBy, run_frame}
 use Rattle.cs_index.specs.State.{State as IndexState, index_of}
+use Rattle.law_machine.specs.Format.{Format}
 use Rattle.law_machine.specs.Device.{Shape}
 use Rattle.law_machine.specs.Element.{Entry, Locator as Place}
 use Rattle.law_machine.specs.Extents.{Extents, ForMove, marked}
@@ -37,7 +38,7 @@ use Rattle.cs_reclaim.proofs.Keeping.{in_still, there_still}
 
 -- ---- a root that is staged changes no page of an extent
 
-module _ (format : ℕ) (first : Bool) (b h : Graph) (v commands : ℕ) (runs : List Locator) (over : IsRootOver format first b h v commands runs) (has : HasWrites h) where
+module _ (format : Format) (first : Bool) (b h : Graph) (v commands : ℕ) (runs : List Locator) (over : IsRootOver format first b h v commands runs) (has : HasWrites h) where
   abbrev waited : List (Element × Named)
   waited = b.staging.pending.waiting
 

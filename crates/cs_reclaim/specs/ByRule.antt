@@ -1,5 +1,5 @@
--- What the calls of a sweep do, by whether chunks and runs lie apart or may lie on one extent. Each word that ends with In is the word before
--- it, by the extents' own rule.
+-- What the calls of a sweep do, by whether chunks and runs lie apart or may lie on one extent. Each word that ends with
+-- In is the word before it, by the extents' own rule.
 use Rattle.std.specs.Prelude.{◌≡◌, ◌≢◌, ◌⊎◌, ◌&&◌, ℕ, Bool, true, List, [], Result}
 use Rattle.cs_refusal.specs.declared.refusals.Refusal.{Refusal}
 use Rattle.cs_deps.specs.Staging.{Staging}
@@ -36,7 +36,8 @@ MayNotBeginBy apart S x copies e = by_rule apart (IsNotSweepable S x e) (MayNotB
 abbrev pub MayNotBeginIn : ExtentsState → List Copy → ℕ → Type 0
 MayNotBeginIn x copies e = MayNotBeginBy (shape x).apart (shape x) (extents_of x) copies e
 
--- the sweep of an extent began: it is marked; where chunks and runs lie apart no copy was noted, and no frame goes there any more
+-- the sweep of an extent began: it is marked; where chunks and runs lie apart no copy was noted, and no frame goes
+-- there any more
 abbrev pub IsBegunBy : (apart : Bool) → Shape → Extents → List Copy → ℕ → Extents → Type 0
 IsBegunBy apart S x copies e y = by_rule apart (y ≡ marked x e true) ((y ≡ swept_aside S x e) × (copies ≡ []))
 
@@ -52,7 +53,8 @@ NothingToMoveBy apart index copies e = by_rule apart (NothingLive index e) (AllC
 abbrev pub NothingToMoveIn : ExtentsState → (index : List Entry) → List Copy → ℕ → Type 0
 NothingToMoveIn x index copies e = NothingToMoveBy (shape x).apart index copies e
 
--- the chunk that is moved next: the first that lives on the extent; where chunks and runs lie apart, the first that isn't copied
+-- the chunk that is moved next: the first that lives on the extent; where chunks and runs lie apart, the first that
+-- isn't copied
 abbrev pub IsNextBy : (apart : Bool) → (index : List Entry) → List Copy → (e id chunk : ℕ) → Place → Type 0
 IsNextBy apart index copies e id chunk from =
     by_rule apart (FirstLive index e id chunk from) (FirstUncopied index copies e id chunk from)
@@ -60,8 +62,8 @@ IsNextBy apart index copies e id chunk from =
 abbrev pub IsNextIn : ExtentsState → (index : List Entry) → List Copy → (e id chunk : ℕ) → Place → Type 0
 IsNextIn x index copies e id chunk from = IsNextBy (shape x).apart index copies e id chunk from
 
--- the next chunk was moved from there: it counts where it is now, and no copy is noted; where chunks and runs lie apart a copy is
--- noted, and the index stays
+-- the next chunk was moved from there: it counts where it is now, and no copy is noted; where chunks and runs lie apart
+-- a copy is noted, and the index stays
 abbrev pub IsMovedBy : (apart : Bool) → State → ExtentsState → GraphState → List Copy → (e id chunk : ℕ) → (from : Place)
     → (payload : List ℕ) → State → ExtentsState → GraphState → List Copy → Type 0
 IsMovedBy apart s x g copies e id chunk from payload t y h after = by_rule apart
@@ -116,8 +118,8 @@ MayStageBy apart S x s copies = (s.table ≢ []) ⊎ (is_left_over_by apart S x 
 abbrev pub MayStageIn : ExtentsState → State → List Copy → Type 0
 MayStageIn x s copies = MayStageBy (shape x).apart (shape x) (extents_of x) s copies
 
--- a Stage merged the table and as many of the newest runs as it takes, and the copies stay; where chunks and runs lie apart it did what
--- goes with a root, too
+-- a Stage merged the table and as many of the newest runs as it takes, and the copies stay; where chunks and runs lie
+-- apart it did what goes with a root, too
 abbrev pub IsSweepStagedBy : (apart : Bool) → State → ExtentsState → GraphState → List Copy → (v commands : ℕ)
     → State → ExtentsState → GraphState → List Copy → Type 0
 IsSweepStagedBy apart s x g copies v commands t y h after = by_rule apart

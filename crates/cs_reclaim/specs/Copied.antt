@@ -32,8 +32,8 @@ abbrev pub AllUpTo : (index : List Entry) → List Copy → ℕ → Type 0
 AllUpTo index copies e = (id chunk : ℕ) (l : Place) → nth (live_at index id) chunk ≡ Some l → l.extent ≡ e
     → (IsBehind (last_of copies) id chunk → ⊥) → IsCopyOf copies id chunk l
 
--- The first chunk that lives on an extent and isn't copied was copied: a frame of this payload was appended, of the mark that the chunk
--- has, and the copy is noted. The chunk counts where it lay.
+-- The first chunk that lives on an extent and isn't copied was copied: a frame of this payload was appended, of the
+-- mark that the chunk has, and the copy is noted. The chunk counts where it lay.
 pub record IsCopyMade (s : State) (x : ExtentsState) (g : GraphState) (copies : List Copy) (e id chunk : ℕ) (payload : List ℕ) (after : List Copy) (y : ExtentsState) (h : GraphState) : Type 0 where
   pub from : Place
   pub to : Locator

@@ -23,8 +23,8 @@ use Rattle.law_machine.specs.Lists.{replaced}
 abbrev pub chunk_frame : ExtentsState → (payload : List ℕ) → List (List ℕ)
 chunk_frame x payload = (formats_of (shape x)).frame ChunkFrame payload
 
--- The first live chunk on an extent was moved: a frame of this payload was appended, the shard has that chunk there, of the mark
--- that it had, and its other chunks where they were, and each other shard has what it had.
+-- The first live chunk on an extent was moved: a frame of this payload was appended, the shard has that chunk there, of
+-- the mark that it had, and its other chunks where they were, and each other shard has what it had.
 pub record IsMoved (s : State) (x : ExtentsState) (g : GraphState) (e id chunk : ℕ) (payload : List ℕ) (t : State) (y : ExtentsState) (h : GraphState) : Type 0 where
   pub from : Place
   pub to : Locator
@@ -33,8 +33,8 @@ pub record IsMoved (s : State) (x : ExtentsState) (g : GraphState) (e id chunk :
   pub mark : to.mark ≡ from.mark
   pub entry : IsSet s id (replaced (live_at (index_of s) id) chunk (place_of to)) t
 
--- Something was moved, and the frame has no fault; or the refusal is that of its fault; or there is none, and no place or
--- no number; or the device or memory refused.
+-- Something was moved, and the frame has no fault; or the refusal is that of its fault; or there is none, and no place
+-- or no number; or the device or memory refused.
 abbrev pub AnswersMove : {T : Type 0} → Option FormatFault → Result T Refusal → Type 0
 AnswersMove found result = MatchResult result (λ _. found ≡ None)
     (λ r. IsNoAnswer r ⊎ IsOfFault found r ⊎ ((found ≡ None) × ((r ≡ Full) ⊎ (r ≡ WornOut))))
@@ -61,8 +61,8 @@ IsMoveWornBy apart x s = (payload : List ℕ) × (length (chunk_frame x payload)
 abbrev pub IsMoveWorn : ExtentsState → Staging → Type 0
 IsMoveWorn x s = IsMoveWornBy (shape x).apart x s
 
--- a chunk of this payload is moved exactly where there is a place and there are numbers for its frame, unless the device
--- or memory refuses
+-- a chunk of this payload is moved exactly where there is a place and there are numbers for its frame, unless the
+-- device or memory refuses
 abbrev pub AnswersPlaceBy : {T : Type 0} → (apart : Bool) → ExtentsState → Staging → (payload : List ℕ) → Result T Refusal → Type 0
 AnswersPlaceBy apart x s payload result =
     MatchResult result (λ _. (NowhereBy apart x (length (chunk_frame x payload)) → ⊥) × (IsFrameWornBy apart x ForMove s (length (chunk_frame x payload)) → ⊥))

@@ -36,7 +36,8 @@ extents_at_rest S x = record x { fresh = if is_any_swept S x then x.fresh else N
 abbrev pub freed_under : Shape → Extents → State → List Copy → (root : ℕ) → Extents
 freed_under S x s copies root = reset_all (lying_apart S) x root (is_blank_by S x (index_of s) s.runs copies) S.extents
 
--- Once a root was staged over the runs of an index: copies and extents are at rest, and then the blank extents are emptied under it.
+-- Once a root was staged over the runs of an index: copies and extents are at rest, and then the blank extents are
+-- emptied under it.
 pub record IsRootedApart (t : State) (x : ExtentsState) (copies : List Copy) (v : ℕ) (y : ExtentsState) (after : List Copy) : Type 0 where
   pub copies_rest : after ≡ copies_at_rest (shape x) (extents_of x) copies
   pub freed : extents_of y ≡ freed_under (shape x) (extents_at_rest (shape x) (extents_of x)) t after v
@@ -56,7 +57,8 @@ pub record IsUnmarked (x : ExtentsState) (e : ℕ) (y : ExtentsState) : Type 0 w
   pub same_shape : shape y ≡ shape x
   pub whole : IsWhole y
 
--- A Retire: extent e isn't being swept any more, what was copied counts, and then a root was staged as by a Stage with no copies.
+-- A Retire: extent e isn't being swept any more, what was copied counts, and then a root was staged as by a Stage with
+-- no copies.
 pub record IsRetiredApart (s : State) (x : ExtentsState) (g : GraphState) (copies : List Copy) (e v commands : ℕ) (t : State) (y : ExtentsState) (h : GraphState) (after : List Copy) : Type 0 where
   pub counted : State
   pub unmarked : ExtentsState
@@ -64,8 +66,8 @@ pub record IsRetiredApart (s : State) (x : ExtentsState) (g : GraphState) (copie
   pub ended : IsUnmarked x e unmarked
   pub staged : IsSweepStaged counted unmarked g [] v commands t y h after
 
--- Where all is copied a Retire is refused 30 where no run of what counts then goes anywhere, else 35 where a number of its would pass its
--- greatest, or the extent's generation is the greatest; 9 may come instead.
+-- Where all is copied a Retire is refused 30 where no run of what counts then goes anywhere, else 35 where a number of
+-- its would pass its greatest, or the extent's generation is the greatest; 9 may come instead.
 pub record IsRetireExact {T : Type 0} (result : Result T Refusal) (s : State) (x : ExtentsState) (g : GraphState) (copies : List Copy) (e : ℕ) : Type 0 where
   pub counted : State
   pub unmarked : ExtentsState

@@ -1,5 +1,5 @@
-//! How format 3 sweeps, where chunks and runs lie apart: what lives on an extent is copied chunk by chunk, and the copies count once it is
-//! retired.
+//! How a sweep goes where chunks and runs lie apart: what lives on an extent is copied chunk by chunk, and the copies
+//! count once it is retired.
 ghost use Rattle.std.specs.Prelude.{◌≡◌, ◌↔◌, ◌⊎◌, ◌+◌, ◌*◌, ◌<◌, ◌≤◌, ◌^◌, ℕ, List, [], IfErr, IfOk, None, OnErr, OnOk, Some, false, length, true};
 ghost use Rattle.cs_chunk.specs.Chunks.{IsFrameIn};
 ghost use Rattle.cs_chunk.specs.Newest.{AreNewest};
@@ -32,8 +32,8 @@ use cs_refusal::Refusal;
 use std::alloc::Global;
 
 impl Sweeps {
-    /// Moves the next chunk as `move_one` does: copies the first that lives on the extent and isn't copied. It counts where it lay. The search
-    /// goes on in the index after the last copy.
+    /// Moves the next chunk as `move_one` does: copies the first that lives on the extent and isn't copied. It counts
+    /// where it lay. The search goes on in the index after the last copy.
     pub(crate) fn copy_one<D: PageDisk>(
         &mut self,
         alloc: Global,
@@ -97,8 +97,9 @@ impl Sweeps {
         }
     }
 
-    /// Retires an extent as `retire` does, once all that lives there is copied: what was copied counts, where the chunk still lies where it
-    /// was copied from. With the other blank extents this one is emptied under the root, after which no copy is noted.
+    /// Retires an extent as `retire` does, once all that lives there is copied: what was copied counts, where the chunk
+    /// still lies where it was copied from. With the other blank extents this one is emptied under the root, after
+    /// which no copy is noted.
     pub(crate) fn retire_copied(
         &mut self,
         extent: usize,
@@ -151,8 +152,8 @@ impl Sweeps {
     }
 }
 
-/// Takes the mark off an extent that is to be retired, before the root is staged: with it the extent would count as held by an unfinished
-/// sweep, and wouldn't be emptied under that root.
+/// Takes the mark off an extent that is to be retired, before the root is staged: with it the extent would count as
+/// held by an unfinished sweep, and wouldn't be emptied under that root.
 fn unmark(extents: &mut Extents, extent: usize)
     requires { extent < (shape extents.old).extents }
     ensures { IsUnmarked extents.old extent extents.new }

@@ -3,8 +3,9 @@
 //! The map from identifiers to bytes stays as it is through every call. The merged run and the root that no longer name
 //! the extent are staged before it is emptied, so that what is written there later waits for them.
 //!
-//! In format 3, where chunks and runs lie apart, a sweep copies what lives on its extent, and the chunks count where they lay until it is
-//! retired. In the older formats a chunk that is moved counts at once where it is now. `Sweeps` goes the one way or the other.
+//! A sweep copies what lives on its extent, and the chunks count where they lay until it is retired. In format 2, where
+//! chunks and runs may lie on one extent, a chunk that is moved counts at once where it is now. `Sweeps` goes the one
+//! way or the other.
 #![tactic(auto)]
 
 mod copies;

@@ -72,9 +72,8 @@ fn append_chunk(
     ensures ready { IsReady extents.new graph.new.staging }
     ensures shape { shape extents.new ≡ shape extents.old }
 {
-    // Called for its contract alone: what all extents keep.
-    extents.extent_count();
-    let frame = match encode_frame(alloc, FrameKind::Chunk, payload) {
+    let number = extents.geometry().format().number();
+    let frame = match encode_frame(alloc, number, FrameKind::Chunk, payload) {
         Ok(frame) => frame,
         Err(_) => return Err(Refusal::OutOfMemory),
     };

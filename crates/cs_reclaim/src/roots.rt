@@ -1,5 +1,5 @@
-//! What goes with a root of format 3, where chunks and runs lie apart: copies are let go, and blank extents are emptied under it. An extent is
-//! blank if frames lie on it, but none that lives and no run.
+//! What goes with a root where chunks and runs lie apart: copies are let go, and blank extents are emptied under it. An
+//! extent is blank if frames lie on it, but none that lives and no run.
 ghost use Rattle.std.specs.Prelude.{◌≡◌, ◌≢◌, ◌<◌, ◌≤◌, ◌^◌, ◌||◌, ℕ, false, true};
 ghost use Rattle.cs_extent.specs.State.{IsWhole, extents_of, shape};
 ghost use Rattle.cs_index.specs.Copies.{newest_copies};
@@ -13,7 +13,8 @@ use cs_extent::{Extents, LAST_GENERATION};
 use cs_index::{ChunkCopy, Index};
 
 impl Sweeps {
-    /// Does what goes with a root that was staged over the index: copies and extents are at rest, and blank extents are emptied.
+    /// Does what goes with a root that was staged over the index: copies and extents are at rest, and blank extents are
+    /// emptied.
     pub(crate) fn end_root(&mut self, index: &Index, extents: &mut Extents, root: u64)
         requires apart { (shape extents.old).apart ≡ true }
         requires root { root < 2 ^ 63 }
@@ -53,9 +54,9 @@ pub fn is_any_swept(extents: &Extents) -> bool
     false
 }
 
-/// Empties the blank extents under a version of the root that names nothing there, so that they are given again: those on which frames
-/// lie, but none that lives and no run, which the unfinished sweep doesn't hold, and whose generation may rise. Costs a pass over the
-/// extents, and where a sweep is unfinished over its copies for each.
+/// Empties the blank extents under a version of the root that names nothing there, so that they are given again: those
+/// on which frames lie, but none that lives and no run, which the unfinished sweep doesn't hold, and whose generation
+/// may rise. Costs a pass over the extents, and where a sweep is unfinished over its copies for each.
 pub fn free_blank(index: &Index, extents: &mut Extents, copies: &Sweeps, root: u64)
     requires apart { (shape extents.old).apart ≡ true }
     requires root { root < 2 ^ 63 }

@@ -31,9 +31,10 @@ pub fn a_swept_extent_stays()
     ensures mark { (S : Shape) (x : Extents) (e d : ℕ) (b : Bool) → IsSwept S x e → d ≢ e → IsSwept S (marked x d b) e }
 {}
 
-/// A move keeps the chunks of every shard, and so do a retire and a mark that is set or taken off: what was read at their
-/// places before is read where they are afterwards, as far as it lay below the pointers of its extents, in their generations,
-/// and there it lies again. A frame that lay across its pointer as the store was opened isn't spoken of here.
+/// A move keeps the chunks of every shard, and so do a retire and a mark that is set or taken off: what was read at
+/// their places before is read where they are afterwards, as far as it lay below the pointers of its extents, in their
+/// generations, and there it lies again. A frame that lay across its pointer as the store was opened isn't spoken of
+/// here.
 pub fn a_sweep_keeps_every_shard()
     ensures moved { (s t : IndexState) (x y : State) (g h : GraphState) (e id chunk : ℕ) (payload : List ℕ) (image : Image) (view now : ℕ → List ℕ)
         → IsWhole x → (move : IsMoved s x g e id chunk payload t y h) → IsWholeGraph h → AreNewest g image view → AreNewest h image now
@@ -51,14 +52,16 @@ pub fn a_sweep_keeps_every_shard()
         → (ls : List Spot) (cs : List (List ℕ)) → AreChunksIn x view ls cs → AreChunksIn y view ls cs }
 {}
 
-/// A move leaves each chunk of each shard its mark, whatever the disk answered to the read. So what the places mean afterwards they meant before.
+/// A move leaves each chunk of each shard its mark, whatever the disk answered to the read. So what the places mean
+/// afterwards they meant before.
 pub fn moves_keep_marks()
     ensures { (s t : IndexState) (x y : State) (g h : GraphState) (e id chunk : ℕ) (payload : List ℕ) → IsMoved s x g e id chunk payload t y h
         → (d : ℕ) (cs : List (List ℕ)) → AreMeant (shape x) (places_at t d) cs → AreMeant (shape x) (places_at s d) cs }
 {}
 
-/// Of an extent all is copied up to the last copy still where an index changes, if no chunk lives there that didn't live there before: where
-/// an identifier gets other places, none of them there, and where what lives stays. Before the first copy it is so of every index.
+/// Of an extent all is copied up to the last copy still where an index changes, if no chunk lives there that didn't
+/// live there before: where an identifier gets other places, none of them there, and where what lives stays. Before the
+/// first copy it is so of every index.
 pub fn copies_stay()
     ensures nothing { (index : List Entry) (e : ℕ) → AllUpTo index [] e }
     ensures lived { (old new : List Entry) (copies : List Copy) (e : ℕ)
@@ -69,8 +72,8 @@ pub fn copies_stay()
     ensures map { (old new : List Entry) (copies : List Copy) (e : ℕ) → ((id : ℕ) → live_at new id ≡ live_at old id) → AllUpTo old copies e → AllUpTo new copies e }
 {}
 
-/// Where chunks and runs lie apart, an extent that is being swept gets no frame, and is being swept still whatever goes elsewhere: what is
-/// appended, which other extent is marked, and which blank extents are emptied.
+/// Where chunks and runs lie apart, an extent that is being swept gets no frame, and is being swept still whatever goes
+/// elsewhere: what is appended, which other extent is marked, and which blank extents are emptied.
 pub fn a_swept_extent_stays_apart()
     ensures elsewhere { (S : Shape) (x : Extents) (e : ℕ) → IsSweptApart S x e → (purpose : Purpose) (k d : ℕ) → GoesApart S x purpose k d → d ≢ e }
     ensures append { (S : Shape) (x : Extents) (e : ℕ) → IsSweptApart S x e → (purpose : Purpose) (k d : ℕ) → GoesApart S x purpose k d → IsSweptApart S (taken_by S true purpose x d k) e }
@@ -81,9 +84,10 @@ pub fn a_swept_extent_stays_apart()
         → IsSweepStaged s x g copies v commands t y h after → IsSweptApart (shape x) (extents_of x) e → IsSweptApart (shape y) (extents_of y) e }
 {}
 
-/// Where chunks and runs lie apart a copy keeps the chunks of every shard, and so do a Stage and a Retire: what was read at their places
-/// before is read where they are afterwards, as far as it lay below the pointers of its extents, in their generations, and there it
-/// lies again. A further copy keeps what was copied before it, too. A frame that lay across its pointer as the store was opened isn't spoken of here.
+/// Where chunks and runs lie apart a copy keeps the chunks of every shard, and so do a Stage and a Retire: what was
+/// read at their places before is read where they are afterwards, as far as it lay below the pointers of its extents,
+/// in their generations, and there it lies again. A further copy keeps what was copied before it, too. A frame that lay
+/// across its pointer as the store was opened isn't spoken of here.
 pub fn a_sweep_apart_keeps_every_shard()
     ensures copied { (s : IndexState) (x y : State) (g h : GraphState) (copies after : List Copy) (e id chunk : ℕ) (payload : List ℕ) (image : Image) (view now : ℕ → List ℕ)
         → IsWhole x → IsCopyMade s x g copies e id chunk payload after y h → IsWholeGraph h → AreNewest g image view → AreNewest h image now

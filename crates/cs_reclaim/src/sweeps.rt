@@ -36,8 +36,8 @@ use std::marker::Model;
 
 /// What the sweeps of a store copied, until a root after their end. Its value lists the copies newest first.
 ///
-/// In format 3 one sweep goes on at a time. It copies what lives on its extent, and a chunk that was copied counts where it lay until the
-/// extent is retired. In the older formats a chunk that is moved counts at once where it is now, and no copy is noted.
+/// One sweep goes on at a time. It copies what lives on its extent, and a chunk that was copied counts where it lay
+/// until the extent is retired. In format 2 a chunk that is moved counts at once where it is now, and no copy is noted.
 #[derive(Debug, Drop)]
 pub struct Sweeps {
     /// Oldest first.
@@ -91,8 +91,8 @@ impl Sweeps {
         }
     }
 
-    /// Begins to sweep an extent, which is marked. In format 3 it is also neither the open extent any more nor the one that the next copy
-    /// goes to.
+    /// Begins to sweep an extent, which is marked. It is neither the open extent any more nor the one that the next
+    /// copy goes to. In format 2 it is only marked.
     ///
     /// 33 `NotSweepable` if the sweep may not begin, as `may_begin` has it.
     pub fn begin(&self, extents: &mut Extents, extent: usize) -> Result<(), Refusal>
@@ -113,8 +113,9 @@ impl Sweeps {
         Ok(())
     }
 
-    /// Whether a sweep of an extent may begin: no other goes on or left copies, and the extent is there, isn't empty and holds chunks.
-    /// Costs a pass over the extents. In the older formats: the extent is there, and neither open, empty nor being swept.
+    /// Whether a sweep of an extent may begin: no other goes on or left copies, and the extent is there, isn't empty
+    /// and holds chunks. Costs a pass over the extents. In format 2: the extent is there, and neither open, empty nor
+    /// being swept.
     pub fn may_begin(&self, extents: &Extents, extent: usize) -> bool
         ensures may { IsTrue result → ¬ MayNotBeginIn extents.now self.now extent }
         ensures not { ¬ (IsTrue result) → MayNotBeginIn extents.now self.now extent }
@@ -136,8 +137,8 @@ impl Sweeps {
         extent < extents.extent_count() && extents.is_swept(extent)
     }
 
-    /// Gives the sweep of an extent up: what was moved in the older formats stays where it is now, and what was copied in format 3 is left
-    /// over until the next root.
+    /// Gives the sweep of an extent up: what was copied is left over until the next root. What was moved in format 2
+    /// stays where it is now.
     ///
     /// 33 `NotSweepable` if the extent isn't being swept.
     pub fn abandon(&self, extents: &mut Extents, extent: usize) -> Result<(), Refusal>
@@ -154,14 +155,16 @@ impl Sweeps {
         Ok(())
     }
 
-    /// Moves the next chunk off an extent, by identifier and then by chunk: appends a frame of the same bytes with `Purpose::Move`.
-    /// Returns the identifier and the number of the chunk, counted from 0, or None if nothing is left to move.
+    /// Moves the next chunk off an extent, by identifier and then by chunk: appends a frame of the same bytes with
+    /// `Purpose::Move`. Returns the identifier and the number of the chunk, counted from 0, or None if nothing is left
+    /// to move.
     ///
-    /// In format 3 the chunk is copied: it counts where it lay, the copy is noted, and the search goes on in the index after the last copy.
-    /// In the older formats the shard names the new place at once, and the search goes on as `Index::first_live` does.
+    /// The chunk is copied: it counts where it lay, the copy is noted, and the search goes on in the index after the
+    /// last copy. In format 2 the shard names the new place at once, and the search goes on as `Index::first_live`
+    /// does.
     ///
-    /// 1 `DeviceFault`, 20 to 24 and 26 as `read_frame`, then 30 `Full`, then 35 `WornOut`; 9 `OutOfMemory` may come instead of
-    /// any. After a refusal nothing has changed but room for more.
+    /// 1 `DeviceFault`, 20 to 24 and 26 as `read_frame`, then 30 `Full`, then 35 `WornOut`; 9 `OutOfMemory` may come
+    /// instead of any. After a refusal nothing has changed but room for more.
     pub fn move_one<D: PageDisk>(
         &mut self,
         alloc: Global,
@@ -194,7 +197,8 @@ impl Sweeps {
         ensures why { D.honest disk.old → (view : ℕ → List ℕ) → AreNewest graph.old (seen (D.state disk.old)) view
             → (id chunk : ℕ) (from : Place) (payload : List ℕ) → IsNextIn extents.old (index_of index.old) self.old extent id chunk from
             → IsFrameIn extents.old view ChunkFrame (as_locator from) payload → AnswersPlace extents.old graph.old.staging payload result }
-        // Whatever the device returns, 30 and 35 come only where the frame of some payload finds no place, or no numbers.
+        // Whatever the device returns, 30 and 35 come only where the frame of some payload finds no place, or no
+        // numbers.
         ensures full { IfErr result (λ r. r ≡ Refusal.Full → IsMoveFull extents.old) }
         ensures worn { IfErr result (λ r. r ≡ Refusal.WornOut → IsMoveWorn extents.old graph.old.staging) }
         ensures refusals { IfErr result (λ r. IsReadRefusal r ⊎ (r ≡ Refusal.Full) ⊎ (r ≡ Refusal.WornOut)) }
@@ -223,12 +227,13 @@ impl Sweeps {
         self.copy_one(alloc, extent, index, extents, graph, disk)
     }
 
-    /// Retires an extent that is swept, on which nothing is left to move: it isn't being swept any more, a root is staged, and the extent is
-    /// emptied under it. Returns the root's version. `commands` is how many puts and deletes the root includes.
+    /// Retires an extent that is swept, on which nothing is left to move: it isn't being swept any more, a root is
+    /// staged, and the extent is emptied under it. Returns the root's version. `commands` is how many puts and deletes
+    /// the root includes.
     ///
-    /// In format 3 what was copied counts, if the chunk still lies where it was copied from, the root is staged as by `stage`, and no
-    /// copy is noted after it. The extent is emptied with the other blank ones. In the older formats one run of all that is live is staged
-    /// with `Purpose::Move`, and the root over it.
+    /// What was copied counts, if the chunk still lies where it was copied from, the root is staged as by `stage`, and
+    /// no copy is noted after it. The extent is emptied with the other blank ones. In format 2 one run of all that is
+    /// live is staged with `Purpose::Move`, and the root over it.
     ///
     /// 34 `StillLive` if a chunk is left to move, then 30 `Full` if no extent takes a run, then 35 `WornOut`, also
     /// if the extent's generation is the greatest; 9 `OutOfMemory` may come instead of any. After a refusal nothing has
@@ -276,11 +281,13 @@ impl Sweeps {
         self.retire_copied(extent, index, extents, graph, commands)
     }
 
-    /// Stages the table and as many of the newest runs as a Stage merges as one run, and the root over what stands then. `commands` is how
-    /// many puts and deletes the root includes. Returns the version of the root, or None if there is nothing to stage: then nothing changes.
+    /// Stages the table and as many of the newest runs as a Stage merges as one run, and the root over what stands
+    /// then. `commands` is how many puts and deletes the root includes. Returns the version of the root, or None if
+    /// there is nothing to stage: then nothing changes.
     ///
-    /// In format 3 all become one run if that of the newest goes nowhere. If the table is empty a root alone is staged if copies of a
-    /// sweep that was given up are noted. If no sweep is unfinished no copy is noted after it, and blank extents are emptied under the root.
+    /// All become one run if that of the newest goes nowhere. If the table is empty a root alone is staged if copies of
+    /// a sweep that was given up are noted. If no sweep is unfinished no copy is noted after it, and blank extents are
+    /// emptied under the root. None of this happens in format 2.
     ///
     /// 30 `Full` if no extent takes a run, then 35 `WornOut` if a number would pass 2^63 - 1; 9 `OutOfMemory` may
     /// come instead of either. After a refusal nothing has changed but the graph's room.
@@ -302,7 +309,7 @@ impl Sweeps {
         ensures unchanged { result ≡ Ok None → (self.new ≡ self.old) × (index.new ≡ index.old) × (extents.new ≡ extents.old) × (graph.new ≡ graph.old) }
         ensures staged { (v : ℕ) → result ≡ Ok (Some v) → IsSweepStagedIn index.old extents.old graph.old self.old v commands index.new extents.new graph.new self.new }
 
-        // The map stays: in the older formats every entry if no merge takes deletions away, and all that is live in any case.
+        // The map stays: in format 2 every entry if no merge takes deletions away, and all that is live in any case.
         ensures lookups { (shape extents.old).apart ≡ false → deletions_go (shape extents.old) index.old (stage_takes (shape extents.old) index.old) ≡ false → (id : ℕ) → lookup id (index_of index.new) ≡ lookup id (index_of index.old) }
         ensures map { (id : ℕ) → live_at (index_of index.new) id ≡ live_at (index_of index.old) id }
 
@@ -336,7 +343,7 @@ impl Sweeps {
         }
     }
 
-    /// Whether copies of a sweep that was given up are noted still. In the older formats none are.
+    /// Whether copies of a sweep that was given up are noted still. In format 2 none are.
     pub fn are_left_over(&self, extents: &Extents) -> bool
         ensures { result ≡ is_left_over_in extents.now self.now }
     {

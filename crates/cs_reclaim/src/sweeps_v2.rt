@@ -1,4 +1,5 @@
-//! How the older formats sweep, where chunks and runs may lie on one extent: a chunk that is moved counts at once where it is moved to.
+//! How a sweep goes in format 2, where chunks and runs may lie on one extent: a chunk that is moved counts at once
+//! where it is moved to.
 ghost use Rattle.std.specs.Prelude.{◌≡◌, ◌↔◌, ◌⊎◌, ◌+◌, ◌*◌, ◌^◌, ◌<◌, ◌≤◌, ℕ, List, IfErr, IfOk, IsTrue, MatchOption, MatchResult, None, OnErr, OnOk, Some, false, length, map, true};
 ghost use Rattle.cs_chunk.specs.Chunks.{IsFrameIn};
 ghost use Rattle.cs_chunk.specs.Newest.{AreNewest};
@@ -63,8 +64,8 @@ impl Sweep {
         Ok(Sweep { extent })
     }
 
-    /// The sweep of an extent that is marked, None if it isn't marked or isn't there. The mark is all there is to a sweep, so a
-    /// caller keeps either the value from `begin` or the number alone, as the core does.
+    /// The sweep of an extent that is marked, None if it isn't marked or isn't there. The mark is all there is to a
+    /// sweep, so a caller keeps either the value from `begin` or the number alone, as the core does.
     pub fn resume(extents: &Extents, extent: usize) -> Option<Sweep>
         ensures { MatchOption result (IsNotMarked (shape extents.now) (extents_of extents.now) extent) (λ s. (s ≡ extent) × IsMarked (shape extents.now) (extents_of extents.now) extent) }
     {
@@ -87,8 +88,8 @@ impl Sweep {
     /// counted from 0, or None if nothing is live there. Frames of other extents aren't read. The search goes on in the
     /// index from where the last one on this extent ended, as `Index::first_live` does.
     ///
-    /// 1 `DeviceFault`, 20 to 24 and 26 as `read_frame`, then 30 `Full`, then 35 `WornOut`; 9 `OutOfMemory` may come instead of
-    /// any. After a refusal nothing has changed but room for more.
+    /// 1 `DeviceFault`, 20 to 24 and 26 as `read_frame`, then 30 `Full`, then 35 `WornOut`; 9 `OutOfMemory` may come
+    /// instead of any. After a refusal nothing has changed but room for more.
     pub fn move_one<D: PageDisk>(
         &self,
         alloc: Global,
@@ -119,7 +120,8 @@ impl Sweep {
         ensures why { D.honest disk.old → (view : ℕ → List ℕ) → AreNewest graph.old (seen (D.state disk.old)) view
             → (id chunk : ℕ) (from : Place) (payload : List ℕ) → FirstLive (index_of index.old) self.now id chunk from
             → IsFrameIn extents.old view ChunkFrame (as_locator from) payload → AnswersPlace extents.old graph.old.staging payload result }
-        // Whatever the device returns, 30 and 35 come only where the frame of some payload finds no place, or no numbers.
+        // Whatever the device returns, 30 and 35 come only where the frame of some payload finds no place, or no
+        // numbers.
         ensures full { IfErr result (λ r. r ≡ Refusal.Full → IsMoveFull extents.old) }
         ensures worn { IfErr result (λ r. r ≡ Refusal.WornOut → IsMoveWorn extents.old graph.old.staging) }
         ensures refusals { IfErr result (λ r. IsReadRefusal r ⊎ (r ≡ Refusal.Full) ⊎ (r ≡ Refusal.WornOut)) }
@@ -154,9 +156,9 @@ impl Sweep {
         }
     }
 
-    /// Retires the extent, on which nothing may be live: stages one run of all that is live, with `Purpose::Move`, and the
-    /// root over it, and empties the extent under that root. Returns the root's version. The extent isn't being swept any
-    /// more. `commands` is how many puts and deletes the root includes.
+    /// Retires the extent, on which nothing may be live: stages one run of all that is live, with `Purpose::Move`, and
+    /// the root over it, and empties the extent under that root. Returns the root's version. The extent isn't being
+    /// swept any more. `commands` is how many puts and deletes the root includes.
     ///
     /// 34 `StillLive` if something is live there, then 30 `Full` if no extent takes the run, then 35 `WornOut`, also
     /// if the extent's generation is the greatest; 9 `OutOfMemory` may come instead of any. After a refusal nothing has
@@ -298,7 +300,8 @@ pub(crate) fn retire_extent(
     Ok(root)
 }
 
-/// Why an extent of the greatest generation isn't retired: 30 `Full` comes before 35 `WornOut`, and 9 if memory ran out.
+/// Why an extent of the greatest generation isn't retired: 30 `Full` comes before 35 `WornOut`, and 9 if memory ran
+/// out.
 fn why_worn(index: &Index, extents: &Extents) -> Refusal
     requires together { (shape extents.now).apart ≡ false }
     requires format { index.now.format ≡ (shape extents.now).format }

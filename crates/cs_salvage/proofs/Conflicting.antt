@@ -7,7 +7,7 @@ use Rattle.std.proofs.lemmas.Option.{same_Some}
 use Rattle.cs_salvage.specs.declared.parts.Part.{Part}
 use Rattle.cs_salvage.specs.declared.parts.Put.{Put}
 use Rattle.cs_salvage.specs.Puts.{Agrees, AreFirst, AreOf, Conflicts, Lacks, first_with}
-use Rattle.cs_salvage.specs.Shards.{AreAllOf, IsAmbiguous, IsWhole, put_of}
+use Rattle.cs_salvage.specs.Shards.{AreAllOf, Conflict, IsAmbiguous, IsWhole, put_of}
 use Rattle.cs_salvage.proofs.Sames.{at_any, bytes_differ}
 
 -- ---- the first part of a number
@@ -35,20 +35,21 @@ missing n (x ∷ xs) p is there same = go (missing n xs p) (x.head.number == n) 
 
 module _ (parts : List Part) (some : 0 < length parts) where
   of_number : (part other : Part) → first_with part.head.number parts ≡ Some other → other.digest ≢ part.digest → Conflicts parts part
-  of_number part other is differ = let it = found part.head.number parts other is in (other, it.0, inr (it.1, differ))
+  of_number part other is differ = let it = found part.head.number parts other is in (other, it.0, inr (inr (it.1, differ)))
 
-  agrees : (part d : Part) → part.head.count ≡ (get_or parts 0 d).head.count → ((other : Part) → first_with part.head.number parts ≡ Some other → other.digest ≡ part.digest) → Agrees parts part
-  agrees part d same digests = record {
+  agrees : (part d : Part) → part.store ≡ (get_or parts 0 d).store → part.head.count ≡ (get_or parts 0 d).head.count → ((other : Part) → first_with part.head.number parts ≡ Some other → other.digest ≡ part.digest) → Agrees parts part
+  agrees part d store same digests = record {
+    store = λ e. store ∙ ap (λ (q : Part). q.store) (at_any parts 0 some d e);
     count = λ e. same ∙ ap (λ (q : Part). q.head.count) (at_any parts 0 some d e);
     digest = digests;
   }
 
   -- what the test of the first digest says
-  pub conflict_by : (part d other : Part) (r : Bool) → part.head.count ≡ (get_or parts 0 d).head.count → Some other ≡ first_with part.head.number parts → r ≡ not (bytes_eq other.digest part.digest)
+  pub conflict_by : (part d other : Part) (r : Bool) → part.store ≡ (get_or parts 0 d).store → part.head.count ≡ (get_or parts 0 d).head.count → Some other ≡ first_with part.head.number parts → r ≡ not (bytes_eq other.digest part.digest)
       → MatchBool r (Conflicts parts part) (Agrees parts part)
-  conflict_by part d other r same first is = bytes_differ (Conflicts parts part) (Agrees parts part) other.digest part.digest r is
+  conflict_by part d other r store same first is = bytes_differ (Conflicts parts part) (Agrees parts part) other.digest part.digest r is
       (λ differ. of_number part other (sym first) differ)
-      (λ digests. agrees part d same (λ q at. ap (λ (p : Part). p.digest) (same_Some q other (sym at ∙ sym first)) ∙ digests))
+      (λ digests. agrees part d store same (λ q at. ap (λ (p : Part). p.digest) (same_Some q other (sym at ∙ sym first)) ∙ digests))
 
 module _ (parts : List Part) (put : Put) (own : AreOf put parts) where
   of_put : (p : Part) → Contains parts p → put_of p ≡ put
@@ -69,10 +70,7 @@ module _ (parts : List Part) (put : Put) (own : AreOf put parts) where
   all_agree all is =
       let a = All-contains (Agrees parts) parts is.one all is.one_there in
       let b = All-contains (Agrees parts) parts is.other all is.other_there in
-      ⊎_elim
-      (λ (h : is.one.head.count ≢ is.other.head.count). h (a.count is.one ∙ sym (b.count is.one)))
-      (λ (h : (is.one.head.number ≡ is.other.head.number) × (is.one.digest ≢ is.other.digest)). h.1 (one_digest is.one is.other is.one_there a b h.0))
-      is.conflict
+      go a b is.conflict
     where
       one_digest : (one other : Part) → Contains parts one → Agrees parts one → Agrees parts other → one.head.number ≡ other.head.number → one.digest ≡ other.digest
       one_digest one other there a b same = go (first_with one.head.number parts) refl
@@ -80,6 +78,11 @@ module _ (parts : List Part) (put : Put) (own : AreOf put parts) where
           go : (o : Option Part) → first_with one.head.number parts ≡ o → one.digest ≡ other.digest
           go None e = absurd (missing one.head.number parts one e there refl)
           go (Some f) e = sym (a.digest f e) ∙ b.digest f (subst (λ (n : ℕ). first_with n parts ≡ Some f) same e)
+
+      go : Agrees parts is.one → Agrees parts is.other → Conflict is.one is.other → ⊥
+      go a b (inl stores) = stores (a.store is.one ∙ sym (b.store is.one))
+      go a b (inr (inl counts)) = counts (a.count is.one ∙ sym (b.count is.one))
+      go a b (inr (inr (number, digests))) = digests (one_digest is.one is.other is.one_there a b number)
 
   -- ---- what is whole
 
@@ -94,7 +97,7 @@ module _ (parts : List Part) (put : Put) (own : AreOf put parts) where
       (cases_lt p.head.count q.head.count)
     where
       differ : p.head.count ≢ q.head.count → ⊥
-      differ ne = clear (record { one = p; other = q; one_there = p_there; other_there = q_there; one_of = of_put p p_there; other_of = of_put q q_there; conflict = inl ne })
+      differ ne = clear (record { one = p; other = q; one_there = p_there; other_there = q_there; one_of = of_put p p_there; other_of = of_put q q_there; conflict = inr (inl ne) })
 
   module _ (some : 0 < length parts) (d0 : Part) where
     abbrev r : Part

@@ -11,13 +11,14 @@ use Rattle.cs_frame.specs.declared.faults.FormatFault.{FormatFault}
 use Rattle.cs_frame.specs.declared.frames.FrameKind.TheVariants.{Chunk}
 use Rattle.cs_frame.specs.declared.locators.Locator.{Locator}
 use Rattle.cs_frame.specs.Formats.{as_locator, formats_of, refusal_of}
-use Rattle.cs_frame.specs.Frames.{meant_fault}
+use Rattle.cs_frame.specs.MeantFrames.{meant_fault}
 use Rattle.cs_frame.specs.Geometries.{device_pages}
 use Rattle.cs_reader.proofs.Superblocks.{read_whole}
 use Rattle.cs_reader.specs.ImageReads.{ArePages, AreSectionsRead}
 use Rattle.cs_index.specs.State.{index_of}
 use Rattle.law_machine.proofs.Filled.{damage_here}
 use Rattle.law_machine.specs.Element.{Bytes, Content, Damaged, Locator as Place, Map}
+use Rattle.law_machine.specs.Format.{Format}
 use Rattle.law_machine.specs.Formats.{ChunkFrame, damage_in, limit_in, opening_in, pages_from}
 use Rattle.law_machine.specs.Index.{AllPass, Passes, Reads, ReadsAs, Value, after, entries_of, live, lookup}
 use Rattle.law_machine.specs.Lists.{◌∈◌}
@@ -34,7 +35,7 @@ damaged_behind : (piece : List ℕ) (rest : Content) (g : Ground) → Damaged g 
 damaged_behind piece (Bytes bytes) g is = absurd (cc is)
 damaged_behind piece (Damaged f) g is = sym is
 
-module _ (view : ℕ → List ℕ) (format : ℕ) (versions records : List ℕ) (pages : ℕ) (written : List (ℕ × ℕ)) (superblock : AreSectionsRead view format versions records pages written)
+module _ (view : ℕ → List ℕ) (format : Format) (versions records : List ℕ) (pages : ℕ) (written : List (ℕ × ℕ)) (superblock : AreSectionsRead view format versions records pages written)
     (are : ArePages (device_pages format (length written) pages (length versions)) view) (n : ℕ) (m : Map)
     (r : Recovers (shape (extents_at format pages (length versions) written)) (formats_of (shape (extents_at format pages (length versions) written))) view n m) where
   abbrev x : ExtentsState
@@ -65,7 +66,7 @@ module _ (view : ℕ → List ℕ) (format : ℕ) (versions records : List ℕ) 
 
   chunk_frame : (l : Place) (payload : List ℕ) → Reads (shape x) (formats_of (shape x)) (opening_in (shape x) (formats_of (shape x)) view r.pointers r.generations) view r.pointers r.generations l ((formats_of (shape x)).frame ChunkFrame payload)
       → IsFrameIn x view ChunkFrame (as_locator l) payload
-  chunk_frame l payload reads = (le_trans reads.within (le_of_eq (sym (end_there view format versions records pages written superblock are n m r l reads.passes))), reads.stand, reads.marked)
+  chunk_frame l payload reads = (le_trans reads.within (le_of_eq (sym (end_there view format versions records pages written superblock are n m r l reads.passes))), reads.stand, reads.marked, reads.long)
 
   -- chunks of a damaged shard don't all lie there
   none_lie : (ls : List Place) → ((l : Place) → l ∈ ls → Located l) → (g : Ground) → ReadsSo ls (Damaged g) → (cs : List (List ℕ)) → AreChunksIn x view (map as_locator ls) cs → ⊥

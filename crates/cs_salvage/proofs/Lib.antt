@@ -20,3 +20,4 @@ pub mod Missings
 pub mod Wholes
 pub mod Meaning
 pub mod Scanning
+pub mod Searching

@@ -7,7 +7,7 @@ use Rattle.cs_extent.specs.State.{State as ExtentsState, extents_at, section_row
 use Rattle.cs_frame.specs.declared.locators.Locator.{Locator}
 use Rattle.cs_frame.specs.Formats.{as_locator, formats_of}
 use Rattle.cs_frame.specs.Geometries.{device_pages}
-use Rattle.cs_frame.specs.Roots.{SpellsRoot}
+use Rattle.cs_frame.specs.Roots.{SpellsRoot, identity_in}
 use Rattle.cs_frame.specs.Superblocks.{record_in}
 use Rattle.cs_reader.proofs.Listed.{to_all}
 use Rattle.cs_reader.proofs.Readable.{located, part, records_low, rows, rows_at, same_commands, same_places, section_spelled}
@@ -19,6 +19,7 @@ use Rattle.cs_reader.specs.ImageReads.{ArePages, AreSectionsRead, IsLocated, IsR
 use Rattle.cs_index.specs.declared.stored_runs.StoredRun.{StoredRun}
 use Rattle.cs_index.specs.State.{State as IndexState, index_of, newest_first}
 use Rattle.law_machine.specs.Element.{Bytes, Content, Damaged, Locator as Place, Map, Run}
+use Rattle.law_machine.specs.Format.{Format}
 use Rattle.law_machine.specs.Formats.{ChunkFrame, limit_in, opening_in}
 use Rattle.law_machine.specs.Index.{AllPass, Passes, ReadsAs, Value, entries_of, joined_bodies, live, live_at, lookup}
 use Rattle.law_machine.specs.Lists.{◌∈◌}
@@ -27,7 +28,7 @@ use Rattle.cs_salvage.specs.Answers.{HasContent, places_of}
 use Rattle.cs_salvage.specs.Founds.{Found}
 use Rattle.cs_salvage.specs.Spared.{LiesStill}
 
-module _ (view : ℕ → List ℕ) (format : ℕ) (versions records : List ℕ) (pages : ℕ) (written : List (ℕ × ℕ)) (superblock : AreSectionsRead view format versions records pages written)
+module _ (view : ℕ → List ℕ) (format : Format) (versions records : List ℕ) (pages : ℕ) (written : List (ℕ × ℕ)) (superblock : AreSectionsRead view format versions records pages written)
     (are : ArePages (device_pages format (length written) pages (length versions)) view) (n : ℕ) (m : Map)
     (r : Recovers (shape (extents_at format pages (length versions) written)) (formats_of (shape (extents_at format pages (length versions) written))) view n m) where
   abbrev x : ExtentsState
@@ -63,7 +64,7 @@ module _ (view : ℕ → List ℕ) (format : ℕ) (versions records : List ℕ) 
   chunks_there (l ∷ ls) bytes (inl (chunk, Bytes rest, here, more, is)) =
       let others = chunks_there ls rest more in
       let joins : bytes ≡ (formats_of (shape x)).body chunk ++ rest = (let e : Bytes bytes ≡ Bytes ((formats_of (shape x)).body chunk ++ rest) = is in cc) in
-      let frame : IsFrameIn x view ChunkFrame (as_locator l) chunk = (le_trans here.within (le_of_eq (sym (end_there l here.passes))), here.stand, here.marked) in
+      let frame : IsFrameIn x view ChunkFrame (as_locator l) chunk = (le_trans here.within (le_of_eq (sym (end_there l here.passes))), here.stand, here.marked, here.long) in
       (chunk ∷ others.0, (frame, others.1), joins ∙ ap (λ (ys : List ℕ). (formats_of (shape x)).body chunk ++ ys) others.2)
   chunks_there (l ∷ ls) bytes (inl (chunk, Damaged f, here, more, is)) = absurd (let e : Bytes bytes ≡ Damaged f = is in cc)
   chunks_there (l ∷ ls) bytes (inr (f, damage, is)) = absurd (let e : Bytes bytes ≡ Damaged f = is in cc)
@@ -86,7 +87,7 @@ module _ (view : ℕ → List ℕ) (format : ℕ) (versions records : List ℕ) 
     chunks_still [] [] still there = tt
     chunks_still [] (c ∷ cs) still there = absurd there
     chunks_still (l ∷ ls) [] still there = absurd there
-    chunks_still (l ∷ ls) (c ∷ cs) still there = ((there.0.0, still l (inl refl) c there.0.1, there.0.2), chunks_still ls cs (λ k has. still k (inr has)) there.1)
+    chunks_still (l ∷ ls) (c ∷ cs) still there = ((there.0.0, still l (inl refl) c there.0.1, there.0.2, there.0.3), chunks_still ls cs (λ k has. still k (inr has)) there.1)
 
     pub named : (ls : List Place) → lookup id (index_of f.index) ≡ Some ls → lookup id (entries_of r.runs) ≡ Some ls → ((l : Place) → l ∈ ls → LiesStill x view shown ChunkFrame l) → HasContent f shown id (m id)
     named ls here all still = go ls (m id) here (subst (AllPass (shape x) (formats_of (shape x)) view r.pointers r.generations) all (r.gives.visible_pass id))
@@ -110,7 +111,7 @@ module _ (view : ℕ → List ℕ) (format : ℕ) (versions records : List ℕ) 
               ),
             )
 
-  module _ (f : Found) (extents : f.extents ≡ x) (root_page : SpellsRoot (view 1) format f.root f.commands f.places) where
+  module _ (f : Found) (extents : f.extents ≡ x) (root_page : SpellsRoot (view 1) (identity_in format) f.root f.commands f.places) where
     pub not_lost : MatchBool f.lost ((j : ℕ) × (j < length versions) × (f.root < slice_index records j)) ((j : ℕ) → j < length versions → slice_index records j ≤ f.root) → f.lost ≡ false
     not_lost is = go f.lost refl is
       where
@@ -126,7 +127,7 @@ module _ (view : ℕ → List ℕ) (format : ℕ) (versions records : List ℕ) 
       runs_are : newest_first runs ≡ r.runs
       runs_are = same_runs (shape x) view (read_format view format versions records pages written superblock) (newest_first runs) r.runs
           (same_listed r.runs runs (same_places view format versions records pages written superblock are n m r f.root f.commands f.places root_page ∙ sym listed))
-          (all_stand x (read_whole view format versions records pages written superblock).found_pages view runs read)
+          (all_stand x superblock.geometry.fits_format (read_whole view format versions records pages written superblock).found_pages view runs read)
           (to_all (StandsAt (shape x) view) r.runs (λ run has. record { fits = r.runs_fit run has; inside = (r.gives.runs_read run has).inside; stand = (r.gives.runs_read run has).stand }))
 
       pub entries_are : index_of f.index ≡ entries_of r.runs

@@ -24,14 +24,14 @@ one_spelled parts part payload spelled all = All-push IsOfFrame parts part all (
 pub meant_by : (found part : Part) (payload : List ℕ) → found ≡ part → IsSpelled found payload → IsMeant part payload
 meant_by found part payload same it = subst (λ (p : Part). IsMeant p payload) same (it.1.digest, it.1.head)
 
--- the bytes of one part more
-pub meant_more : (F : Formats) (parts items : List Part) (k : ℕ) (payload bytes piece now : List ℕ) → items ≡ parts → k < length parts → IsMeant (get_or items k no_part) payload
-    → (payloads : List (List ℕ)) × AllZip IsMeant (take k parts) payloads × (bytes ≡ joined_bodies F payloads) → now ≡ bytes ++ piece → piece ≡ F.body payload
-    → (payloads : List (List ℕ)) × AllZip IsMeant (take (k + 1) parts) payloads × (now ≡ joined_bodies F payloads)
-meant_more F parts items k payload bytes piece now same inside meant was longer body =
-    let here = subst (λ (ps : List Part). IsMeant (get_or ps k no_part) payload) same meant in (
+-- the bytes of one part more, of payloads that are so
+pub read_more : (R : Part → List ℕ → Type 0) (F : Formats) (parts items : List Part) (k : ℕ) (payload bytes piece now : List ℕ) → items ≡ parts → k < length parts → R (get_or items k no_part) payload
+    → (payloads : List (List ℕ)) × AllZip R (take k parts) payloads × (bytes ≡ joined_bodies F payloads) → now ≡ bytes ++ piece → piece ≡ F.body payload
+    → (payloads : List (List ℕ)) × AllZip R (take (k + 1) parts) payloads × (now ≡ joined_bodies F payloads)
+read_more R F parts items k payload bytes piece now same inside is was longer body =
+    let here = subst (λ (ps : List Part). R (get_or ps k no_part) payload) same is in (
       was.0 ++ payload ∷ [],
-      zip_more IsMeant parts was.0 k (get_or parts k no_part) payload inside (at_any parts k inside no_part (get_or parts k no_part)) was.1 here,
+      zip_more R parts was.0 k (get_or parts k no_part) payload inside (at_any parts k inside no_part (get_or parts k no_part)) was.1 here,
       longer ∙ ap₂ (λ (xs ys : List ℕ). xs ++ ys) was.2 body ∙ sym (bodies_push F was.0 payload),
     )
 

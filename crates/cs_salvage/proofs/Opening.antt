@@ -5,11 +5,13 @@ use Rattle.cs_refusal.specs.declared.refusals.Refusal.{Refusal}
 use Rattle.cs_refusal.specs.declared.refusals.Refusal.TheVariants.{DeviceFault, NotAStore, OutOfMemory}
 use Rattle.cs_disk.specs.Disk.{Image, State as DiskState, page, seen}
 use Rattle.cs_extent.specs.State.{State as ExtentsState, shape}
-use Rattle.cs_frame.specs.Roots.{SpellsRoot}
+use Rattle.cs_frame.proofs.GeometryLaws.{pages_on_device}
+use Rattle.cs_frame.specs.Roots.{SpellsRoot, identity_in}
 use Rattle.cs_reader.specs.Loads.{index_at}
 use Rattle.cs_reader.specs.ImageReads.{AreSectionsRead}
 use Rattle.cs_index.specs.declared.stored_runs.StoredRun.{StoredRun}
 use Rattle.cs_index.specs.State.{State as IndexState, newest_first}
+use Rattle.law_machine.specs.Format.{Format}
 use Rattle.law_machine.specs.Geometry.{weigh_in}
 use Rattle.law_machine.specs.Index.{entries_of, named_weight}
 use Rattle.cs_reader.specs.declared.heads.Head.{Head}
@@ -46,7 +48,7 @@ module _ (honest : Type 0) (count : ℕ) (view : ℕ → List ℕ) (head : Head)
   pub too_heavy : honest → (runs : List StoredRun) (damaged : Option DamagedRun) → AreNewestRead (Unit {0}) head.extents view head.root.runs.items runs damaged → (r : Refusal)
       → (r ≡ OutOfMemory) ⊎ ((r ≡ NotAStore) × (most_taken < named_weight (weigh_in head.extents.format) (entries_of (newest_first runs)))) → IsNoAnswer r ⊎ IsWhyNotRescued count view r
   too_heavy h runs damaged read r why = ⊎_elim (λ m. inl (inr m))
-      (λ (w : (r ≡ NotAStore) × (most_taken < named_weight (weigh_in head.extents.format) (entries_of (newest_first runs)))). inr (inr (inr (inr (inr (inr (inr (record {
+      (λ (w : (r ≡ NotAStore) × (most_taken < named_weight (weigh_in head.extents.format) (entries_of (newest_first runs)))). inr (inr (inr (inr (inr (inr (inr (inr (record {
         format = is.format;
         versions = is.versions;
         records = is.records;
@@ -57,9 +59,9 @@ module _ (honest : Type 0) (count : ℕ) (view : ℕ → List ℕ) (head : Head)
         runs = runs;
         damaged = damaged;
         read = subst (λ (y : ExtentsState). AreNewestRead (Unit {0}) y view head.root.runs.items runs damaged) is.extents read;
-        heavy = subst (λ (f : ℕ). most_taken < named_weight (weigh_in f) (entries_of (newest_first runs))) (ap (λ (y : ExtentsState). y.format) is.extents) w.1;
+        heavy = subst (λ (f : Format). most_taken < named_weight (weigh_in f) (entries_of (newest_first runs))) (ap (λ (y : ExtentsState). y.format) is.extents) w.1;
         refusal = w.0;
-      })))))))) why
+      }))))))))) why
 
 -- where no head is read nothing is found
 pub not_rescued : (count : ℕ) (view : ℕ → List ℕ) (r : Refusal) → IsNoAnswer r ⊎ IsWhyNoHead count view r → IsNoAnswer r ⊎ IsWhyNotRescued count view r
@@ -68,20 +70,21 @@ not_rescued count view r (inr (inl why)) = inr (inr (inl why))
 not_rescued count view r (inr (inr (inl why))) = inr (inr (inr (inl why)))
 not_rescued count view r (inr (inr (inr (inl why)))) = inr (inr (inr (inr (inl why))))
 not_rescued count view r (inr (inr (inr (inr (inl why))))) = inr (inr (inr (inr (inr (inl why)))))
-not_rescued count view r (inr (inr (inr (inr (inr why))))) = inr (inr (inr (inr (inr (inr (inl why))))))
+not_rescued count view r (inr (inr (inr (inr (inr (inl why)))))) = inr (inr (inr (inr (inr (inr (inl why))))))
+not_rescued count view r (inr (inr (inr (inr (inr (inr why)))))) = inr (inr (inr (inr (inr (inr (inr (inl why)))))))
 
 -- what was read later was there before
 module _ (old mid : DiskState) (before now : Type 0) (later : before → now) (same : before → seen mid ≡ seen old) (count after : ℕ) (size : after ≡ count) where
   view_same : before → page (seen mid) ≡ page (seen old)
   view_same h = ap page (same h)
 
-  in_before : (format : ℕ) (versions records : List ℕ) (pages : ℕ) (written : List (ℕ × ℕ)) (f : Found) → IsFoundIn now after (page (seen mid)) format versions records pages written f → IsFoundIn before count (page (seen old)) format versions records pages written f
+  in_before : (format : Format) (versions records : List ℕ) (pages : ℕ) (written : List (ℕ × ℕ)) (f : Found) → IsFoundIn now after (page (seen mid)) format versions records pages written f → IsFoundIn before count (page (seen old)) format versions records pages written f
   in_before format versions records pages written f is = record {
     sized = sym size ∙ is.sized;
     geometry = is.geometry;
     extents = is.extents;
     sections = λ h. subst (λ (i : Image). AreSectionsRead (page i) format versions records pages written) (same h) (is.sections (later h));
-    root = λ h. subst (λ (i : Image). SpellsRoot (page i 1) format f.root f.commands f.places) (same h) (is.root (later h));
+    root = λ h. subst (λ (i : Image). SpellsRoot (page i 1) (identity_in format) f.root f.commands f.places) (same h) (is.root (later h));
     lost = is.lost;
     runs = record {
       runs = is.runs.runs;
@@ -103,8 +106,8 @@ module _ (old mid : DiskState) (before now : Type 0) (later : before → now) (s
 pub room_for : (honest : Type 0) (count : ℕ) (view : ℕ → List ℕ) (f : Found) → IsRescued honest count view f → IsRoomFor f count
 room_for honest count view f (format, versions, records, pages, written, is) =
     let some : 1 ≤ length versions = is.geometry.fewest_sections in
-    let total = is.sized in
-    let there : 2 + length written * pages ≤ count = omega (arith, some, total) in
+    let on = pages_on_device format (length written) pages (length versions) is.geometry in
+    let there : 2 + length written * pages ≤ count = omega (arith, some, on, is.sized) in
     subst (λ (y : ExtentsState). 2 + (shape y).extents * (shape y).pages ≤ count) (sym is.extents) there
 
 -- ---- its cause

@@ -62,7 +62,7 @@ run_there x whole view place r has (inr (inl broken)) =
     no_fault (fault_in x view Run place) r (no_fault_there x whole view Run place (place_inside x place whole has.1.located).1 has.1.payload has.1.frame) broken.1
 run_there x whole view place r has (inr (inr spoiled)) =
     let same : has.1.payload ≡ spoiled.1.0 = one_frame x whole view Run place (place_inside x place whole has.1.located).1 has.1.payload spoiled.1.0 has.1.frame spoiled.1.1 in
-    no_fault (run_fault x.format spoiled.1.0) r (ap (run_fault x.format) (sym same) ∙ fault-spelled x.format has.1.payload has.0 has.1.spelled) spoiled.1.2
+    no_fault (run_fault x.format spoiled.1.0) r (ap (run_fault x.format) (sym same) ∙ fault-spelled x.format has.1.payload has.0 whole.geometry.fits_format has.1.spelled) spoiled.1.2
 
 -- where each can be, none is damaged but by the device
 end_by_device : (honest : Type 0) → honest → (x : ExtentsState) → IsWhole x → (view : ℕ → List ℕ) (places : List Locator) → AllByRecursion (λ place. IsReadable x view place) places → (left : ℕ) (damaged : Option DamagedRun)

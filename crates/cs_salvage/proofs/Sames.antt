@@ -4,16 +4,17 @@ use Rattle.std.proofs.lemmas.Option.{same_Some}
 use Rattle.sha2.specs.Sha256.{sha256}
 use Rattle.cs_disk.specs.Disk.{Image}
 use Rattle.cs_frame.specs.Frames.{page_count}
-use Rattle.cs_frame.specs.declared.frames.ChunkHead.{ChunkHead}
+use Rattle.cs_frame.specs.declared.heads.ChunkHead.{ChunkHead}
 use Rattle.cs_frame.specs.declared.identifiers.ShardId.{ShardId}
-use Rattle.cs_frame.specs.Geometries.{Dimensions, IsGeometry}
+use Rattle.cs_frame.specs.Geometries.{IsGeometry}
 use Rattle.cs_frame.specs.Identifiers.{id_bytes, id_number}
-use Rattle.cs_frame.proofs.FormatLaws.{id_of_16}
 use Rattle.cs_frame.proofs.HeadTelling.{one_head}
+use Rattle.cs_frame.proofs.NamedRuns.{id_of_16}
 use Rattle.cs_frame.proofs.TestLaws.{equal_bytes, same_bytes}
 use Rattle.cs_salvage.specs.declared.parts.Part.{Part}
 use Rattle.cs_salvage.specs.declared.parts.Put.{Put}
-use Rattle.cs_salvage.specs.Parts.{BeginsWith, IsChunkAt, IsIdentifier, IsPart, IsSpellable}
+use Rattle.cs_salvage.specs.declared.searches.Sought.{Sought}
+use Rattle.cs_salvage.specs.Parts.{EndsWith, IsChunkAt, IsIdentifier, IsPart, IsSpellable}
 use Rattle.std.specs.List.{Contains}
 use Rattle.cs_salvage.proofs.Standing.{one_chunk}
 
@@ -41,14 +42,15 @@ put_same a b same =
 -- the test that two parts are the same
 abbrev alike : Part → Part → Bool
 alike a b = (a.extent == b.extent) && ((a.page == b.page) && ((a.pages == b.pages)
-    && ((bytes_eq a.head.id.0 b.head.id.0 && ((a.head.number == b.head.number) && ((a.head.count == b.head.count) && (a.head.command == b.head.command)))) && bytes_eq a.digest b.digest)))
+    && ((bytes_eq a.head.id.0 b.head.id.0 && ((a.head.number == b.head.number) && ((a.head.count == b.head.count) && (a.head.command == b.head.command)))) && (bytes_eq a.store b.store && bytes_eq a.digest b.digest))))
 
 pub parts_same : (a b : Part) → true ≡ alike a b → a ≡ b
 parts_same a b is =
     let extent = both_true (a.extent == b.extent) _ (sym is) in
     let page = both_true (a.page == b.page) _ extent.1 in
     let pages = both_true (a.pages == b.pages) _ page.1 in
-    let head = both_true _ (bytes_eq a.digest b.digest) pages.1 in
+    let head = both_true _ (bytes_eq a.store b.store && bytes_eq a.digest b.digest) pages.1 in
+    let store = both_true (bytes_eq a.store b.store) (bytes_eq a.digest b.digest) head.1 in
     let id = both_true (bytes_eq a.head.id.0 b.head.id.0) _ head.0 in
     let number = both_true (a.head.number == b.head.number) _ id.1 in
     let count = both_true (a.head.count == b.head.count) (a.head.command == b.head.command) number.1 in
@@ -59,12 +61,14 @@ parts_same a b is =
     let same_number = eqb-true a.head.number b.head.number number.0 in
     let same_count = eqb-true a.head.count b.head.count count.0 in
     let same_command = eqb-true a.head.command b.head.command count.1 in
-    let same_digest = same_bytes a.digest b.digest head.1 in
+    let same_store = same_bytes a.store b.store store.0 in
+    let same_digest = same_bytes a.digest b.digest store.1 in
     λ i. record {
       extent = same_extent i;
       page = same_page i;
       pages = same_pages i;
       head = record { id = record { 0 = same_bytes_of_id i }; number = same_number i; count = same_count i; command = same_command i };
+      store = same_store i;
       digest = same_digest i;
     }
 
@@ -79,7 +83,7 @@ parts_differ a b is same = true≢false (sym (itself b) ∙ ap (λ (p : Part). a
 
     itself : (p : Part) → alike p p ≡ true
     itself p = both _ _ (number p.extent) (both _ _ (number p.page) (both _ _ (number p.pages)
-        (both _ _ (both _ _ (equal_bytes p.head.id.0 p.head.id.0 refl) (both _ _ (number p.head.number) (both _ _ (number p.head.count) (number p.head.command)))) (equal_bytes p.digest p.digest refl))))
+        (both _ _ (both _ _ (equal_bytes p.head.id.0 p.head.id.0 refl) (both _ _ (number p.head.number) (both _ _ (number p.head.count) (number p.head.command)))) (both _ _ (equal_bytes p.store p.store refl) (equal_bytes p.digest p.digest refl)))))
 
 not_true : (b : Bool) → true ≡ not b → b ≡ false
 not_true true h = absurd (cc h)
@@ -95,6 +99,13 @@ puts_differ a b r is told same = true≢false (sym (put_same a b same) ∙ not_t
 
 pub puts_same : (a b : Put) (r : Bool) → r ≡ not (bytes_eq a.id.0 b.id.0 && (a.command == b.command)) → r ≡ false → a ≡ b
 puts_same a b r is told = same_put a b (not_false (bytes_eq a.id.0 b.id.0 && (a.command == b.command)) (sym told ∙ is))
+
+-- bytes that don't differ are the same
+pub same_text : (xs ys : List ℕ) → false ≡ not (bytes_eq xs ys) → xs ≡ ys
+same_text xs ys is = same_bytes xs ys (not_false (bytes_eq xs ys) is)
+
+pub other_text : (xs ys : List ℕ) → true ≡ not (bytes_eq xs ys) → xs ≢ ys
+other_text xs ys is same = true≢false (sym (equal_bytes xs ys same) ∙ not_true (bytes_eq xs ys) is)
 
 -- what a test of bytes says
 pub bytes_match : (P Q : Type 0) (xs ys : List ℕ) (r : Bool) → r ≡ bytes_eq xs ys → (xs ≡ ys → P) → (xs ≢ ys → Q) → MatchBool r P Q
@@ -123,7 +134,7 @@ module _ {A : Type 0} (id_of : A → ShardId) where
 
 -- the part that stands for none
 abbrev pub no_part : Part
-no_part = record { extent = 0; page = 0; pages = 0; head = record { id = record { 0 = [] }; number = 0; count = 0; command = 0 }; digest = [] }
+no_part = record { extent = 0; page = 0; pages = 0; head = record { id = record { 0 = [] }; number = 0; count = 0; command = 0 }; store = []; digest = [] }
 
 -- ---- one frame
 
@@ -131,22 +142,22 @@ same_id : (a b : ShardId) → IsIdentifier a → IsIdentifier b → id_number a 
 unfolding id_number
 same_id a b is also same = ap (λ (bytes : List ℕ). record { 0 = bytes }) (sym (id_of_16 a.0 is.0 is.1) ∙ ap id_bytes same ∙ id_of_16 b.0 also.0 also.1)
 
--- a payload begins with one head
-pub same_head : (a b : ChunkHead) (payload : List ℕ) → IsSpellable a → IsSpellable b → BeginsWith a payload → BeginsWith b payload → a ≡ b
-same_head a b payload is also begins other =
-    let told = one_head (id_number a.id) a.number a.count a.command (id_number b.id) b.number b.count b.command begins.0 other.0 is.1 also.1 (sym begins.1 ∙ other.1) in
+-- a payload ends with one head, of one store
+pub same_head : (a b : ChunkHead) (front other_front payload : List ℕ) → IsSpellable a front → IsSpellable b other_front → EndsWith a front payload → EndsWith b other_front payload → (a ≡ b) × (front ≡ other_front)
+same_head a b front other_front payload is also ends other =
+    let told = one_head (id_number a.id) a.number a.count a.command (id_number b.id) b.number b.count b.command front other_front ends.0 other.0 is.2 also.2 is.1 also.1 (sym ends.1 ∙ other.1) in
     let id = same_id a.id b.id is.0 also.0 told.0 in
-    λ i. record { id = id i; number = told.1 i; count = told.2 i; command = told.3 i }
+    (λ i. record { id = id i; number = told.1 i; count = told.2 i; command = told.3 i }, told.4)
 
 -- and at one place there is one part
-module _ (g : Dimensions) (image : Image) (known : IsGeometry g.format g.extents g.pages g.sections) (a b : Part) (extent : a.extent ≡ b.extent) (page : a.page ≡ b.page) where
-  moved : (payload : List ℕ) → IsChunkAt g image a.extent a.page payload → IsChunkAt g image b.extent b.page payload
-  moved payload is = subst (λ (n : ℕ). IsChunkAt g image n b.page payload) extent (subst (λ (n : ℕ). IsChunkAt g image a.extent n payload) page is)
+module _ (sought : Sought) (image : Image) (known : IsGeometry sought.geometry.format sought.geometry.extents sought.geometry.pages sought.geometry.sections) (a b : Part) (extent : a.extent ≡ b.extent) (page : a.page ≡ b.page) where
+  moved : (payload : List ℕ) → IsChunkAt sought.geometry image a.extent a.page payload → IsChunkAt sought.geometry image b.extent b.page payload
+  moved payload is = subst (λ (n : ℕ). IsChunkAt sought.geometry image n b.page payload) extent (subst (λ (n : ℕ). IsChunkAt sought.geometry image a.extent n payload) page is)
 
-  pub same_part : (payload other : List ℕ) → IsPart g image a payload → IsPart g image b other → a ≡ b
+  pub same_part : (payload other : List ℕ) → IsPart sought image a payload → IsPart sought image b other → a ≡ b
   same_part payload other is also =
-      let one : payload ≡ other = one_chunk g image known b.extent b.page payload other (moved payload is.chunk) also.chunk in
+      let one : payload ≡ other = one_chunk sought.geometry image known b.extent b.page payload other (moved payload is.chunk) also.chunk in
       let pages : a.pages ≡ b.pages = is.pages ∙ ap (λ (xs : List ℕ). page_count (length xs)) one ∙ sym also.pages in
-      let head : a.head ≡ b.head = same_head a.head b.head other is.spellable also.spellable (subst (BeginsWith a.head) one is.head) also.head in
+      let head = same_head a.head b.head a.store b.store other is.spellable also.spellable (subst (EndsWith a.head a.store) one is.head) also.head in
       let digest : a.digest ≡ b.digest = is.digest ∙ ap sha256 one ∙ sym also.digest in
-      λ i. record { extent = extent i; page = page i; pages = pages i; head = head i; digest = digest i }
+      λ i. record { extent = extent i; page = page i; pages = pages i; head = head.0 i; store = head.1 i; digest = digest i }

@@ -7,7 +7,7 @@ use Rattle.cs_extent.specs.State.{State as ExtentsState, extents_at, section_row
 use Rattle.cs_frame.specs.declared.locators.Locator.{Locator}
 use Rattle.cs_frame.specs.Formats.{as_locator, formats_of}
 use Rattle.cs_frame.specs.Geometries.{device_pages}
-use Rattle.cs_frame.specs.Roots.{SpellsRoot}
+use Rattle.cs_frame.specs.Roots.{SpellsRoot, identity_in}
 use Rattle.cs_reader.proofs.Listed.{to_all}
 use Rattle.cs_reader.proofs.Readable.{same_places}
 use Rattle.cs_reader.proofs.Runs.{StandsAt, all_stand, same_listed, same_runs}
@@ -16,6 +16,7 @@ use Rattle.cs_reader.specs.ImageReads.{ArePages, AreSectionsRead, IsRunRead, Spe
 use Rattle.cs_index.specs.declared.stored_runs.StoredRun.{StoredRun}
 use Rattle.cs_index.specs.State.{State as IndexState, index_of, newest_first}
 use Rattle.law_machine.specs.Element.{Locator as Place, Map, Run}
+use Rattle.law_machine.specs.Format.{Format}
 use Rattle.law_machine.specs.Formats.{ChunkFrame, RunFrame, places}
 use Rattle.law_machine.specs.Index.{entries_of, live, lookup}
 use Rattle.law_machine.specs.Lists.{◌∈◌}
@@ -28,7 +29,7 @@ use Rattle.cs_salvage.proofs.Fronts.{front_listed, has_place, in_front, length-p
 use Rattle.cs_salvage.proofs.Mapped.{named}
 
 -- sections whose pages are as they were read so before
-sections_before : (view whole : ℕ → List ℕ) (format : ℕ) (versions records : List ℕ) (pages : ℕ) (written : List (ℕ × ℕ)) → AreSectionsRead view format versions records pages written
+sections_before : (view whole : ℕ → List ℕ) (format : Format) (versions records : List ℕ) (pages : ℕ) (written : List (ℕ × ℕ)) → AreSectionsRead view format versions records pages written
     → ((j : ℕ) → j < length versions → view ((shape (extents_at format pages (length versions) written)).section_page j) ≡ whole ((shape (extents_at format pages (length versions) written)).section_page j))
     → AreSectionsRead whole format versions records pages written
 sections_before view whole format versions records pages written read same = record {
@@ -36,10 +37,10 @@ sections_before view whole format versions records pages written read same = rec
   each = λ j lt. subst (λ (b : List ℕ). SpellsAt j b format (slice_index versions j) (slice_index records j) (length written) pages (length versions) (section_rows (extents_at format pages (length versions) written) j)) (same j lt) (read.each j lt);
 }
 
-module _ (whole view : ℕ → List ℕ) (format : ℕ) (versions records : List ℕ) (pages : ℕ) (written : List (ℕ × ℕ)) (superblock : AreSectionsRead whole format versions records pages written)
+module _ (whole view : ℕ → List ℕ) (format : Format) (versions records : List ℕ) (pages : ℕ) (written : List (ℕ × ℕ)) (superblock : AreSectionsRead whole format versions records pages written)
     (are : ArePages (device_pages format (length written) pages (length versions)) whole) (n : ℕ) (m : Map)
     (r : Recovers (shape (extents_at format pages (length versions) written)) (formats_of (shape (extents_at format pages (length versions) written))) whole n m)
-    (version commands left : ℕ) (listed : List Locator) (root_page : SpellsRoot (whole 1) format version commands listed) (some : left ≤ length listed)
+    (version commands left : ℕ) (listed : List Locator) (root_page : SpellsRoot (whole 1) (identity_in format) version commands listed) (some : left ≤ length listed)
     (runs : List StoredRun) (newest : map (λ run. run.place) runs ≡ drop left listed) (read : AllByRecursion (IsRunRead (extents_at format pages (length versions) written) view) runs)
     (still : (l : Place) → l ∈ places (newest_first runs) → LiesStill (extents_at format pages (length versions) written) whole view RunFrame l) where
   abbrev x : ExtentsState
@@ -70,7 +71,7 @@ module _ (whole view : ℕ → List ℕ) (format : ℕ) (versions records : List
   -- are those that were read
   runs_are : newest_first runs ≡ front
   runs_are = same_runs (shape x) view (read_format whole format versions records pages written superblock) (newest_first runs) front front_places
-      (all_stand x (read_whole whole format versions records pages written superblock).found_pages view runs read)
+      (all_stand x superblock.geometry.fits_format (read_whole whole format versions records pages written superblock).found_pages view runs read)
       (to_all (StandsAt (shape x) view) front front_stands)
 
   -- so what they name is right
@@ -97,7 +98,7 @@ spared_found honest count view whole f n m id h are (format, versions, records, 
 
     all_named : (ls : List Place) → lookup id (index_of f.index) ≡ Some ls → lookup id (entries_of recovered.runs) ≡ Some ls
     all_named ls has = named_all whole view format versions records pages written there here n m recovered f.root f.commands is.runs.newest.left f.places
-        (subst (λ (b : List ℕ). SpellsRoot b format f.root f.commands f.places) spared.root (is.root h)) is.runs.newest.no_more is.runs.runs is.runs.newest.listed
+        (subst (λ (b : List ℕ). SpellsRoot b (identity_in format) f.root f.commands f.places) spared.root (is.root h)) is.runs.newest.no_more is.runs.runs is.runs.newest.listed
         (subst (λ (y : ExtentsState). AllByRecursion (IsRunRead y view) is.runs.runs) is.extents (is.runs.newest.each h))
         (λ l has. subst (λ (y : ExtentsState). LiesStill y whole view RunFrame l) is.extents
         (spared.runs l (subst (λ (rs : List Run). l ∈ places rs) (sym (ap (λ (i : IndexState). i.runs) is.runs.index)) has)))

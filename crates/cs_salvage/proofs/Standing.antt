@@ -1,29 +1,36 @@
 -- Frames on the device, and the pages that are read of them.
-use Rattle.std.proofs.Common.{◌≡◌, ◌∙◌, ℕ, zero, suc, ◌+◌, ◌-◌, ◌*◌, ◌<◌, ◌≤◌, ◌^◌, List, [], ◌∷◌, ◌++◌, Option, Some, None, Result, Ok, Err, MatchOption, IfSome, true, length, take, drop, get_or, refl, sym, ap, ap₂, subst, arith}
-use Rattle.std.specs.Simd.{first_chunks}
+use Rattle.std.proofs.Common.{◌≡◌, ◌∙◌, ℕ, zero, suc, ◌+◌, ◌-◌, ◌*◌, ◌<◌, ◌≤◌, ◌^◌, List, [], ◌∷◌, ◌++◌, Option, Some, None, Result, Ok, Err, MatchOption, IfSome, true, length, length-append, take, drop, get_or, refl, sym, ap, ap₂, subst, arith}
 use Rattle.std.proofs.lemmas.List.{ext_get_or, get_or-take, length-take, length-take-le, take-append-drop, take-take}
 use Rattle.sha2.specs.Sha256.{sha256}
 use Rattle.sha2.proofs.Facts256.{length-sha256}
 use Rattle.cs_disk.specs.Disk.{Image, page}
 use Rattle.cs_frame.specs.declared.faults.FormatFault.{FormatFault}
-use Rattle.cs_frame.specs.declared.frames.ChunkHead.{ChunkHead}
+use Rattle.cs_frame.specs.declared.heads.ChunkHead.{ChunkHead}
 use Rattle.cs_frame.specs.Bytes.{field}
+use Rattle.cs_frame.specs.declared.formats.FormatNumber.{FormatNumber}
+use Rattle.cs_frame.specs.declared.formats.FormatNumber.TheVariants.{Four}
+use Rattle.cs_frame.specs.FormatNumbers.{number_in}
 use Rattle.cs_frame.specs.Faults.{fault_in}
 use Rattle.cs_frame.specs.Frames.{SpellsFrame, first_page, frame_bytes, frame_count, header_fault, page_count, payload_length, spelled_frame}
 use Rattle.cs_frame.specs.Geometries.{Dimensions, IsGeometry}
 use Rattle.cs_frame.specs.Heads.{spelled_head}
 use Rattle.cs_frame.specs.Identifiers.{id_number}
-use Rattle.cs_frame.proofs.Fields.{field_at, number_at}
+use Rattle.cs_frame.proofs.Fields.{field_at}
 use Rattle.cs_frame.proofs.FormatLaws.{is_format}
-use Rattle.cs_frame.proofs.FrameLaws.{at_digest_of, first_front, frame_fault-spelled, header_first, payload_is_read}
+use Rattle.cs_frame.proofs.FrameLaws.{at_digest_of, first_front, frame_fault-spelled, header_first, length_of_spelled, payload_is_read}
 use Rattle.cs_frame.proofs.GeometryLaws.{bounds}
+use Rattle.cs_frame.proofs.HeadLaws.{length-head}
+use Rattle.cs_frame.proofs.HeadTelling.{one_head}
 use Rattle.cs_frame.proofs.Pieces.{length-first_chunks}
 use Rattle.law_machine.specs.Device.{Page, Shape}
+use Rattle.law_machine.specs.Format.{Format}
+use Rattle.law_machine.specs.Format as format
 use Rattle.law_machine.specs.Formats.{ChunkFrame, Formats, Stand, pages_from}
 use Rattle.law_machine.specs.Geometry.{heads_in}
 use Rattle.cs_salvage.specs.Frames.{AreReadAs, IsFrontOf, IsPartIn, pages_at}
-use Rattle.cs_salvage.specs.Parts.{BeginsWith, IsChunkAt, IsNumbered, IsPart, NoPartAt, formats_in, shape_in}
+use Rattle.cs_salvage.specs.Parts.{EndsWith, IsChunkAt, IsNumbered, IsPart, IsSpellable, NoPartAt, formats_in, shape_in}
 use Rattle.cs_salvage.specs.declared.parts.Part.{Part}
+use Rattle.cs_salvage.specs.declared.searches.Whose.TheVariants.{OfAny}
 
 -- ---- pages one after another
 
@@ -54,66 +61,78 @@ stand_front S F view e p (suc n) (b ∷ bs) le is =
 
 -- ---- what a frame's pages say
 
-length-spelled : (kind : ℕ) (payload : List ℕ) → length (spelled_frame kind payload) ≡ page_count (length payload)
-length-spelled kind payload = length-first_chunks 4096 (page_count (length payload)) (frame_bytes kind payload)
+length-spelled : (form : FormatNumber) (kind : ℕ) (payload : List ℕ) → length (spelled_frame form kind payload) ≡ page_count (length payload)
+length-spelled form kind payload = length-first_chunks 4096 (page_count (length payload)) (frame_bytes form kind payload)
 
 first_of_taken : (n : ℕ) (pages : List (List ℕ)) → 1 ≤ n → first_page (take n pages) ≡ first_page pages
 first_of_taken n pages some = get_or-take n pages 0 [] (omega arith)
 
-front_of_chunks : (n : ℕ) (bytes : List ℕ) → 1 ≤ n → first_page (first_chunks 4096 n bytes) ≡ take 4096 bytes
-front_of_chunks zero bytes some = absurd (omega (arith, some))
-front_of_chunks (suc n) bytes some = refl
-
-length_spelled : (kind : ℕ) (payload : List ℕ) → length payload < 2 ^ 32 → payload_length (first_page (spelled_frame kind payload)) ≡ length payload
-length_spelled kind payload small =
-    let front : List ℕ = take 4096 (frame_bytes kind payload) in
-    ap payload_length (front_of_chunks (page_count (length payload)) (frame_bytes kind payload) (omega arith))
-    ∙ number_at front (drop 9 front) 5 9 4 (length payload) refl refl refl small
-
 -- its header counts its pages
-counted : (kind : ℕ) (pages : List (List ℕ)) (payload : List ℕ) → SpellsFrame kind pages payload → frame_count pages ≡ page_count (length payload)
-counted kind pages payload it =
-    ap page_count (ap payload_length (sym (first_of_taken (page_count (length payload)) pages (omega arith)) ∙ ap first_page it.spelled) ∙ length_spelled kind payload it.fits)
+counted : (form : FormatNumber) (kind : ℕ) (pages : List (List ℕ)) (payload : List ℕ) → SpellsFrame form kind pages payload → frame_count pages ≡ page_count (length payload)
+counted form kind pages payload it =
+    ap page_count (ap payload_length (sym (first_of_taken (page_count (length payload)) pages (omega arith)) ∙ ap first_page it.spelled) ∙ length_of_spelled form kind payload it.fits)
 
 -- they are there
-enough : (kind : ℕ) (pages : List (List ℕ)) (payload : List ℕ) → SpellsFrame kind pages payload → page_count (length payload) ≤ length pages
-enough kind pages payload it = omega (arith, ap length it.spelled, length-spelled kind payload, length-take (page_count (length payload)) pages)
+enough : (form : FormatNumber) (kind : ℕ) (pages : List (List ℕ)) (payload : List ℕ) → SpellsFrame form kind pages payload → page_count (length payload) ≤ length pages
+enough form kind pages payload it = omega (arith, ap length it.spelled, length-spelled form kind payload, length-take (page_count (length payload)) pages)
 
 -- what all pages spell their front does, and the other way round
-pub spells_front : (all pages payload : _) → IsFrontOf all pages → SpellsFrame 0 all payload → SpellsFrame 0 pages payload
-spells_front all pages payload front it =
-    let same : frame_count all ≡ page_count (length payload) = counted 0 all payload it in
+pub spells_front : (form : FormatNumber) (all pages payload : _) → IsFrontOf all pages → SpellsFrame form 0 all payload → SpellsFrame form 0 pages payload
+spells_front form all pages payload front it =
+    let same : frame_count all ≡ page_count (length payload) = counted form 0 all payload it in
     record {
       fits = it.fits;
       spelled = ap (take (page_count (length payload))) (front.taken ∙ ap (λ n. take n all) same)
           ∙ take-take (page_count (length payload)) (page_count (length payload)) all (omega arith) ∙ it.spelled;
     }
 
-pub spells_all : (all pages payload : _) → IsFrontOf all pages → SpellsFrame 0 pages payload → SpellsFrame 0 all payload
-spells_all all pages payload front it =
-    let few : page_count (length payload) ≤ frame_count all = omega (arith, enough 0 pages payload it, ap length front.taken, length-take (frame_count all) all) in
+pub spells_all : (form : FormatNumber) (all pages payload : _) → IsFrontOf all pages → SpellsFrame form 0 pages payload → SpellsFrame form 0 all payload
+spells_all form all pages payload front it =
+    let few : page_count (length payload) ≤ frame_count all = omega (arith, enough form 0 pages payload it, ap length front.taken, length-take (frame_count all) all) in
     record {
       fits = it.fits;
       spelled = sym (take-take (page_count (length payload)) (frame_count all) all few) ∙ ap (take (page_count (length payload))) (sym front.taken) ∙ it.spelled;
     }
 
 -- the digest in their first page is the payload's
-pub digest_read : (pages : List (List ℕ)) (payload digest : List ℕ) → SpellsFrame 0 pages payload → digest ≡ field 9 41 (first_page pages) → digest ≡ sha256 payload
+pub digest_read : (pages : List (List ℕ)) (payload digest : List ℕ) → SpellsFrame Four 0 pages payload → digest ≡ field 9 41 (first_page pages) → digest ≡ sha256 payload
 digest_read pages payload digest it is =
-    let behind = at_digest_of 0 payload in
-    is ∙ first_front 0 pages payload it 9 41 (omega arith) (omega arith)
-    ∙ field_at (frame_bytes 0 payload) (sha256 payload) behind.0 9 41 behind.1 (omega (arith, length-sha256 payload))
+    let behind = at_digest_of Four 0 payload in
+    is ∙ first_front Four 0 pages payload it 9 41 (omega arith) (omega arith)
+    ∙ field_at (frame_bytes Four 0 payload) (sha256 payload) behind.0 9 41 behind.1 (omega (arith, length-sha256 payload))
 
--- a payload begins with the head that is decoded from its front
-pub begins : (head : ChunkHead) (payload : List ℕ) → take 26 payload ≡ spelled_head (id_number head.id) head.number head.count head.command → BeginsWith head payload
-begins head payload is = (drop 26 payload, sym (take-append-drop 26 payload) ∙ ap (λ (xs : List ℕ). xs ++ drop 26 payload) is)
+-- a payload ends with the head that is decoded from its end
+pub ends : (head : ChunkHead) (front payload : List ℕ) → drop (length payload - 34) payload ≡ spelled_head (id_number head.id) head.number head.count head.command front → EndsWith head front payload
+ends head front payload is =
+    let n : ℕ = length payload - 34 in
+    (take n payload, sym (take-append-drop n payload) ∙ ap (λ (xs : List ℕ). take n payload ++ xs) is)
+
+-- a payload that is shorter than a head ends with none
+pub no_end : (head : ChunkHead) (front payload : List ℕ) → length payload < 34 → length front ≡ 8 → EndsWith head front payload → ⊥
+no_end head front payload short eight is =
+    let spelled : List ℕ = spelled_head (id_number head.id) head.number head.count head.command front in
+    let size = length-head (id_number head.id) head.number head.count head.command front eight in
+    omega (arith, short, size, ap length is.1, length-append is.0 spelled)
+
+-- it ends with one head
+pub one_end : (head : ChunkHead) (front payload : List ℕ) → length front ≡ 8 → head.command < 2 ^ 64 → EndsWith head front payload → (other : ChunkHead) (other_front : List ℕ) → length other_front ≡ 8 → other.command < 2 ^ 64
+    → EndsWith other other_front payload → (head.number ≡ other.number) × (head.count ≡ other.count)
+one_end head front payload eight small is other other_front also_eight also_small it =
+    let told = one_head (id_number head.id) head.number head.count head.command (id_number other.id) other.number other.count other.command front other_front is.0 it.0 eight also_eight small also_small (sym is.1 ∙ it.1) in
+    (told.1, told.2)
 
 -- where no part has the payload that is there, no part is there
-pub no_part_in : (pages : List (List ℕ)) (bytes read : List ℕ) → SpellsFrame 0 pages bytes → read ≡ bytes → ((part : Part) → BeginsWith part.head read → IsNumbered part.head → ⊥)
+pub no_part_in : (pages : List (List ℕ)) (bytes read : List ℕ) → SpellsFrame Four 0 pages bytes → read ≡ bytes
+    → ((part : Part) → EndsWith part.head part.store read → IsSpellable part.head part.store → IsNumbered part.head → ⊥)
     → (part : Part) (payload : List ℕ) → IsPartIn pages part payload → ⊥
 no_part_in pages bytes read it same none part payload is =
-    let one : payload ≡ read = sym (payload_is_read 0 pages payload is.spelled) ∙ payload_is_read 0 pages bytes it ∙ sym same in
-    none part (subst (BeginsWith part.head) one is.head) is.numbered
+    let one : payload ≡ read = sym (payload_is_read Four 0 pages payload is.spelled) ∙ payload_is_read Four 0 pages bytes it ∙ sym same in
+    none part (subst (EndsWith part.head part.store) one is.head) is.spellable is.numbered
+
+-- a format that has heads is format 4
+pub is_four : (written : Format) → heads_in written ≡ true → number_in written ≡ Four
+is_four format.Two heads = absurd (cc heads)
+is_four (format.Four store device) heads = refl
 
 module _ (g : Dimensions) (image : Image) (known : IsGeometry g.format g.extents g.pages g.sections) (e i : ℕ) where
   abbrev all : List (List ℕ)
@@ -122,28 +141,31 @@ module _ (g : Dimensions) (image : Image) (known : IsGeometry g.format g.extents
   length-all : length all ≡ g.pages - i
   length-all = length-from (shape_in g) (formats_in g) (page image) e i (g.pages - i)
 
+  abbrev form : FormatNumber
+  form = number_in g.format
+
   few : g.pages ≤ 65535
   few = (bounds _ _ _ _ known).most_pages
 
   -- where a chunk's frame stands the pages from there on spell it
-  pub spelled_there : (payload : List ℕ) → IsChunkAt g image e i payload → SpellsFrame 0 all payload
+  pub spelled_there : (payload : List ℕ) → IsChunkAt g image e i payload → SpellsFrame form 0 all payload
   spelled_there payload it =
-      let size : length (spelled_frame 0 payload) ≡ page_count (length payload) = length-spelled 0 payload in
-      let fits : length (spelled_frame 0 payload) ≤ g.pages - i = omega (arith, size, it.ends) in
+      let size : length (spelled_frame form 0 payload) ≡ page_count (length payload) = length-spelled form 0 payload in
+      let fits : length (spelled_frame form 0 payload) ≤ g.pages - i = omega (arith, size, it.ends) in
       record {
         fits = omega (arith, few, it.ends);
-        spelled = ap (λ (k : ℕ). take k all) (sym size) ∙ front_of (shape_in g) (formats_in g) (page image) e i (g.pages - i) (spelled_frame 0 payload) fits it.stands;
+        spelled = ap (λ (k : ℕ). take k all) (sym size) ∙ front_of (shape_in g) (formats_in g) (page image) e i (g.pages - i) (spelled_frame form 0 payload) fits it.stands;
       }
 
   -- and what they spell stands there
-  pub chunk_there : (payload : List ℕ) → e < g.extents → i < g.pages → SpellsFrame 0 all payload → IsChunkAt g image e i payload
+  pub chunk_there : (payload : List ℕ) → e < g.extents → i < g.pages → SpellsFrame form 0 all payload → IsChunkAt g image e i payload
   chunk_there payload there inside it =
-      let size : length (spelled_frame 0 payload) ≡ page_count (length payload) = length-spelled 0 payload in
-      let fits : page_count (length payload) ≤ g.pages - i = omega (arith, enough 0 all payload it, length-all) in
+      let size : length (spelled_frame form 0 payload) ≡ page_count (length payload) = length-spelled form 0 payload in
+      let fits : page_count (length payload) ≤ g.pages - i = omega (arith, enough form 0 all payload it, length-all) in
       record {
         there = there;
         ends = omega (arith, fits, inside);
-        stands = stand_front (shape_in g) (formats_in g) (page image) e i (g.pages - i) (spelled_frame 0 payload) (omega (arith, size, fits))
+        stands = stand_front (shape_in g) (formats_in g) (page image) e i (g.pages - i) (spelled_frame form 0 payload) (omega (arith, size, fits))
             (ap (λ (k : ℕ). take k all) size ∙ it.spelled);
       }
 
@@ -151,7 +173,7 @@ module _ (g : Dimensions) (image : Image) (known : IsGeometry g.format g.extents
   pub one_chunk : (a b : List ℕ) → IsChunkAt g image e i a → IsChunkAt g image e i b → a ≡ b
   one_chunk a b at bt =
       let law = is_format g.format g.extents g.pages g.sections known in
-      law.one_payload (page image) e i ChunkFrame a b (omega (arith, at.ends, length-spelled 0 a)) (omega (arith, bt.ends, length-spelled 0 b)) at.stands bt.stands
+      law.one_payload (page image) e i ChunkFrame a b (omega (arith, at.ends, length-spelled form 0 a)) (omega (arith, bt.ends, length-spelled form 0 b)) at.stands bt.stands
 
   module _ (number : ℕ) (at : number ≡ 2 + e * g.pages + i) (inside : i < g.pages) (first : List ℕ) (read : first ≡ page image number) where
     first_read : first_page all ≡ first
@@ -160,14 +182,14 @@ module _ (g : Dimensions) (image : Image) (known : IsGeometry g.format g.extents
         at_from (shape_in g) (formats_in g) (page image) e i (g.pages - i) 0 (omega (arith, inside)) ∙ ap (page image) same ∙ sym read
 
     -- where the header is refused none stands
-    pub no_chunk : (there : ℕ) (f : FormatFault) → there ≡ g.pages - i → header_fault 0 first there ≡ Some f → (payload : List ℕ) → IsChunkAt g image e i payload → ⊥
+    pub no_chunk : (there : ℕ) (f : FormatFault) → there ≡ g.pages - i → header_fault form 0 first there ≡ Some f → (payload : List ℕ) → IsChunkAt g image e i payload → ⊥
     no_chunk there f is refused payload it =
-        let fault = header_first 0 all f
-        (ap (λ b. header_fault 0 b (length all)) first_read ∙ ap (λ n. header_fault 0 first n) (length-all ∙ sym is) ∙ refused) in
-        let none = frame_fault-spelled 0 all payload (spelled_there payload it) in
+        let fault = header_first form 0 all f
+        (ap (λ b. header_fault form 0 b (length all)) first_read ∙ ap (λ n. header_fault form 0 first n) (length-all ∙ sym is) ∙ refused) in
+        let none = frame_fault-spelled form 0 all payload (spelled_there payload it) in
         absurd (cc (fault, none))
 
-    pub none_by : {H : Type 0} (result : Result H FormatFault) (there : ℕ) → there ≡ g.pages - i → fault_in result ≡ header_fault 0 first there → ((h : H) → result ≡ Ok h → ⊥)
+    pub none_by : {H : Type 0} (result : Result H FormatFault) (there : ℕ) → there ≡ g.pages - i → fault_in result ≡ header_fault form 0 first there → ((h : H) → result ≡ Ok h → ⊥)
         → (payload : List ℕ) → IsChunkAt g image e i payload → ⊥
     none_by (Ok h) there is fault not payload it = absurd (not h refl)
     none_by (Err f) there is fault not payload it = no_chunk there f is (sym fault) payload it
@@ -189,26 +211,29 @@ module _ (g : Dimensions) (image : Image) (known : IsGeometry g.format g.extents
             were.each k lt ∙ ap (page image) next
             ∙ sym (get_or-take count all k [] lt ∙ at_from (shape_in g) (formats_in g) (page image) e i (g.pages - i) k (omega (arith, lt, fits)))
 
-  -- what part these pages are of, the place has
+  -- what part these pages are of, the place has, of any store
   pub part_there : {V : Type 0} (part_of : V → Part) (payload_of : V → List ℕ) (found : Option V) (pages : List (List ℕ)) → heads_in g.format ≡ true → e < g.extents → i < g.pages
       → IsFrontOf all pages → MatchOption found ((part : Part) (payload : List ℕ) → IsPartIn pages part payload → ⊥) (λ v. IsPartIn pages (part_of v) (payload_of v))
       → IfSome found (λ v. ((part_of v).extent ≡ e) × ((part_of v).page ≡ i))
-      → MatchOption found (NoPartAt g image e i) (λ v. IsPart g image (part_of v) (payload_of v))
-  part_there part_of payload_of (Some v) pages heads there inside front is place = record {
-    heads = heads;
-    chunk = subst (λ (n : ℕ). IsChunkAt g image n (part_of v).page (payload_of v)) (sym place.0)
-        (subst (λ (n : ℕ). IsChunkAt g image e n (payload_of v)) (sym place.1)
-        (chunk_there (payload_of v) there inside (spells_all all pages (payload_of v) front is.spelled)));
-    pages = is.counted;
-    head = is.head;
-    spellable = is.spellable;
-    numbered = is.numbered;
-    digest = is.digest;
-  }
+      → MatchOption found (NoPartAt (record { geometry = g; whose = OfAny }) image e i) (λ v. IsPart (record { geometry = g; whose = OfAny }) image (part_of v) (payload_of v))
+  part_there part_of payload_of (Some v) pages heads there inside front is place =
+      let spelled : SpellsFrame form 0 pages (payload_of v) = subst (λ (n : FormatNumber). SpellsFrame n 0 pages (payload_of v)) (sym (is_four g.format heads)) is.spelled in
+      record {
+        heads = heads;
+        chunk = subst (λ (n : ℕ). IsChunkAt g image n (part_of v).page (payload_of v)) (sym place.0)
+            (subst (λ (n : ℕ). IsChunkAt g image e n (payload_of v)) (sym place.1)
+            (chunk_there (payload_of v) there inside (spells_all form all pages (payload_of v) front spelled)));
+        pages = is.counted;
+        head = is.head;
+        store = tt;
+        spellable = is.spellable;
+        numbered = is.numbered;
+        digest = is.digest;
+      }
   part_there part_of payload_of None pages heads there inside front none place = λ part payload extent first is.
       let chunk = subst (λ (n : ℕ). IsChunkAt g image n i payload) extent (subst (λ (n : ℕ). IsChunkAt g image part.extent n payload) first is.chunk) in
       none part payload (record {
-        spelled = spells_front all pages payload front (spelled_there payload chunk);
+        spelled = subst (λ (n : FormatNumber). SpellsFrame n 0 pages payload) (is_four g.format heads) (spells_front form all pages payload front (spelled_there payload chunk));
         counted = is.pages;
         head = is.head;
         spellable = is.spellable;

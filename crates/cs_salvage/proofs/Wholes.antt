@@ -1,20 +1,23 @@
 -- Puts of which each chunk has a whole frame.
-use Rattle.std.proofs.Common.{◌≡◌, ◌≢◌, ◌∙◌, ℕ, zero, suc, ◌*◌, ◌<◌, ◌≤◌, ◌^◌, true, List, [], ◌∷◌, length, get_or, refl, sym, ap, ⊎_elim, arith}
+use Rattle.std.proofs.Common.{◌≡◌, ◌∙◌, ℕ, zero, suc, ◌*◌, ◌<◌, ◌≤◌, ◌^◌, true, List, [], ◌∷◌, length, get_or, inl, inr, refl, sym, ap, arith}
 use Rattle.std.specs.List.{Contains}
 use Rattle.std.proofs.lemmas.List.Elements.{Contains-get_or}
 use Rattle.sha2.specs.Sha256.{sha256}
 use Rattle.cs_disk.specs.Disk.{Image}
 use Rattle.cs_frame.specs.Frames.{page_count}
-use Rattle.cs_frame.specs.Geometries.{Dimensions}
+use Rattle.cs_frame.specs.Geometries.{FitsFormat}
 use Rattle.cs_frame.specs.Identifiers.{id_number}
 use Rattle.law_machine.proofs.Counting.{few_chunks}
 use Rattle.law_machine.specs.Events.{ArePayloads}
-use Rattle.law_machine.specs.Geometry.{heads_in}
+use Rattle.law_machine.specs.Geometry.{heads_in, store_front}
 use Rattle.cs_salvage.specs.declared.parts.Part.{Part}
 use Rattle.cs_salvage.specs.declared.parts.Put.{Put}
-use Rattle.cs_salvage.specs.Parts.{AreParts, IsIdentifier, IsPart, formats_in, shape_in}
-use Rattle.cs_salvage.specs.Shards.{HasFrames, HasOnly, IsAmbiguous, IsWhole, put_of}
-use Rattle.cs_salvage.proofs.Putting.{many, part_of_put, payload_at}
+use Rattle.cs_salvage.specs.declared.searches.Sought.{Sought}
+use Rattle.cs_salvage.specs.declared.searches.Whose.{Whose}
+use Rattle.cs_salvage.specs.declared.searches.Whose.TheVariants.{OfAny, OfStore}
+use Rattle.cs_salvage.specs.Parts.{AreParts, AreTaken, IsIdentifier, IsPart, formats_in, shape_in}
+use Rattle.cs_salvage.specs.Shards.{Conflict, HasFrames, HasOnly, IsAmbiguous, IsWhole, put_of}
+use Rattle.cs_salvage.proofs.Putting.{IsOfPut, eight_bytes, many, part_of_put, payload_at}
 
 -- a list of what there is of each number below a count
 listed : {A : Type 0} (P : ℕ → A → Type 0) (n : ℕ) → ((k : ℕ) → k < n → (x : A) × P k x) → (xs : List A) × (length xs ≡ n) × ((k : ℕ) (d : A) → k < length xs → P k (get_or xs k d))
@@ -28,27 +31,35 @@ listed {A = A} P (suc n) each =
     at x is xs others zero d lt = is
     at x is xs others (suc k) d lt = others k d (omega (arith, lt))
 
-module _ (g : Dimensions) (image : Image) (put : Put) (bytes : List ℕ) (payloads : List (List ℕ))
-    (are : ArePayloads (shape_in g) (formats_in g) (id_number put.id) put.command bytes payloads) where
+-- chunks of a store are taken of it
+taken : (whose : Whose) (own : List ℕ) → AreTaken whose own own
+taken OfStore own = refl
+taken OfAny own = tt
+
+module _ (sought : Sought) (image : Image) (put : Put) (bytes : List ℕ) (payloads : List (List ℕ))
+    (are : ArePayloads (shape_in sought.geometry) (formats_in sought.geometry) (id_number put.id) put.command bytes payloads) where
   -- two parts of the put don't conflict
-  clear : HasOnly g image put payloads → (parts : List Part) → AreParts g image parts → IsAmbiguous parts put → ⊥
-  clear only parts all two =
+  clear : FitsFormat sought.geometry.format → HasOnly sought image put payloads → (parts : List Part) → AreParts sought image parts → IsAmbiguous parts put → ⊥
+  clear fits only parts all two =
       let one = all.sound two.one two.one_there in
       let other = all.sound two.other two.other_there in
-      let first = part_of_put g image put bytes payloads are only two.one one.0 one.1 two.one_of in
-      let second = part_of_put g image put bytes payloads are only two.other other.0 other.1 two.other_of in
-      ⊎_elim
-      (λ (h : two.one.head.count ≢ two.other.head.count). h (first.count ∙ sym second.count))
-      (λ (h : (two.one.head.number ≡ two.other.head.number) × (two.one.digest ≢ two.other.digest)).
-      let same : one.0 ≡ other.0 = first.own ∙ ap (λ (n : ℕ). get_or payloads n []) h.0 ∙ sym second.own in
-      h.1 (one.1.digest ∙ ap sha256 same ∙ sym other.1.digest))
-      two.conflict
+      let first = part_of_put sought image put bytes payloads are fits only two.one one.0 one.1 two.one_of in
+      let second = part_of_put sought image put bytes payloads are fits only two.other other.0 other.1 two.other_of in
+      go first second one.1 other.1 two.conflict
+    where
+      go : {x y : List ℕ} → IsOfPut sought image put bytes payloads are two.one x → IsOfPut sought image put bytes payloads are two.other y → IsPart sought image two.one x → IsPart sought image two.other y
+          → Conflict two.one two.other → ⊥
+      go first second one other (inl stores) = stores (first.store ∙ sym second.store)
+      go first second one other (inr (inl counts)) = counts (first.count ∙ sym second.count)
+      go {x = x} {y = y} first second one other (inr (inr (number, digests))) =
+          let same : x ≡ y = first.own ∙ ap (λ (n : ℕ). get_or payloads n []) number ∙ sym second.own in
+          digests (one.digest ∙ ap sha256 same ∙ sym other.digest)
 
   -- it is a part of the put with this number
   abbrev IsNumberOf : List Part → ℕ → Part → Type 0
   IsNumberOf parts k part = Contains parts part × (put_of part ≡ put) × (part.head.number ≡ k) × (part.head.count ≡ length payloads)
 
-  module _ (small : put.command < 2 ^ 64) (heads : heads_in g.format ≡ true) (id : IsIdentifier put.id) (few : length payloads ≤ 8) (frames : HasFrames g image payloads) (parts : List Part) (all : AreParts g image parts) where
+  module _ (small : put.command < 2 ^ 64) (fits : FitsFormat sought.geometry.format) (heads : heads_in sought.geometry.format ≡ true) (id : IsIdentifier put.id) (few : length payloads ≤ 8) (frames : HasFrames sought.geometry image payloads) (parts : List Part) (all : AreParts sought image parts) where
     part_at : (k : ℕ) → k < length payloads → (part : Part) × IsNumberOf parts k part
     part_at k lt =
         let payload : List ℕ = get_or payloads k [] in
@@ -58,14 +69,16 @@ module _ (g : Dimensions) (image : Image) (put : Put) (bytes : List ℕ) (payloa
           page = frame.1;
           pages = page_count (length (get_or payloads k []));
           head = record { id = put.id; number = k; count = length payloads; command = put.command };
+          store = store_front sought.geometry.format;
           digest = sha256 (get_or payloads k []);
         } in
-        let is : IsPart g image part payload = record {
+        let is : IsPart sought image part payload = record {
           heads = heads;
           chunk = frame.2;
           pages = refl;
-          head = (get_or are.0 k [], payload_at g image put bytes payloads are heads k lt);
-          spellable = (id, small);
+          head = (get_or are.0 k [], payload_at sought.geometry put bytes payloads are heads k lt);
+          store = taken sought.whose (store_front sought.geometry.format);
+          spellable = (id, small, eight_bytes sought.geometry.format fits heads);
           numbered = (lt, few);
           digest = refl;
         } in
@@ -85,9 +98,9 @@ module _ (g : Dimensions) (image : Image) (put : Put) (bytes : List ℕ) (payloa
           },
         )
 
-  pub is_whole : put.command < 2 ^ 64 → heads_in g.format ≡ true → IsIdentifier put.id → length bytes ≤ (shape_in g).most_chunks * (shape_in g).chunk_bytes
-      → HasFrames g image payloads → HasOnly g image put payloads → (parts : List Part) → AreParts g image parts → IsWhole parts put
-  is_whole small heads id short frames only parts all =
-      let count = many g image put bytes payloads are in
-      let few : length are.0 ≤ 8 = few_chunks (shape_in g).chunk_bytes 8 bytes are.0 (omega arith) are.1.2 are.1.0 short in
-      all_there small heads id (omega (arith, count, few)) frames parts all (clear only parts all) (omega (arith, count, are.1.1))
+  pub is_whole : put.command < 2 ^ 64 → FitsFormat sought.geometry.format → heads_in sought.geometry.format ≡ true → IsIdentifier put.id → length bytes ≤ (shape_in sought.geometry).most_chunks * (shape_in sought.geometry).chunk_bytes
+      → HasFrames sought.geometry image payloads → HasOnly sought image put payloads → (parts : List Part) → AreParts sought image parts → IsWhole parts put
+  is_whole small fits heads id short frames only parts all =
+      let count = many sought.geometry put bytes payloads are in
+      let few : length are.0 ≤ 8 = few_chunks (shape_in sought.geometry).chunk_bytes 8 bytes are.0 (omega arith) are.1.2 are.1.0 short in
+      all_there small fits heads id (omega (arith, count, few)) frames parts all (clear fits only parts all) (omega (arith, count, are.1.1))

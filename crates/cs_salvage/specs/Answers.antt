@@ -28,7 +28,7 @@ IsUnknown f id = (lookup id (index_of f.index) ≡ None) × (f.damaged ≢ None)
 abbrev pub places_of : Found → (id : ℕ) → List Locator
 places_of f id = map as_locator (live_at (index_of f.index) id)
 
--- the bytes are what is behind the heads of the chunks whose frames these places mean, one by one
+-- the bytes are the payloads of the chunks whose frames these places mean, without their heads, one by one
 abbrev pub AreMeantBytes : Found → (id : ℕ) → (bytes : List ℕ) → Type 0
 AreMeantBytes f id bytes = (cs : List (List ℕ)) × AreMeant (shape f.extents) (places_of f id) cs × (bytes ≡ joined_bodies (formats_of (shape f.extents)) cs)
 
@@ -40,20 +40,20 @@ WhereTheyLie f view id P = (cs : List (List ℕ)) → live_at (index_of f.index)
 abbrev pub AreReadBytes : Found → (view : ℕ → List ℕ) → (id : ℕ) → (bytes : List ℕ) → Type 0
 AreReadBytes f view id bytes = (cs : List (List ℕ)) × AreChunksIn f.extents view (places_of f id) cs × (bytes ≡ joined_bodies (formats_of (shape f.extents)) cs)
 
--- chunks aren't read at these places: one of them isn't located any more; or all are, and the refusal is that of the first that has no chunk, or the
--- device or memory refused
+-- Chunks aren't read at these places: one of them isn't located any more. Or all are, and the refusal is that of the
+-- first that has no chunk, or the device or memory refused.
 abbrev pub IsWhyNoChunks : ExtentsState → (view : ℕ → List ℕ) → List Locator → Refusal → Type 0
 IsWhyNoChunks x view ls r = ((¬ AllByRecursion (IsLocated x) ls) × (r ≡ Misplaced)) ⊎ (AllByRecursion (IsLocated x) ls × IsOfChunkIn x view ls r)
 
--- What is there of an identifier that has this in a map: where there is nothing it is deleted, or not named by any run; where there are bytes its places are
--- located, and chunks of these bytes lie there; where it is damaged it has places.
+-- What is there of an identifier that has this in a map. If there is nothing, it is deleted, or not named by any run.
+-- If there are bytes, its places are located, and chunks of these bytes lie there. If it is damaged, it has places.
 abbrev pub HasContent : Found → (view : ℕ → List ℕ) → (id : ℕ) → Option Content → Type 0
 HasContent f view id None = IsAbsent f id
 HasContent f view id (Some (Bytes bytes)) = (live_at (index_of f.index) id ≢ []) × AllByRecursion (IsLocated f.extents) (places_of f id) × AreReadBytes f view id bytes
 HasContent f view id (Some (Damaged g)) = live_at (index_of f.index) id ≢ []
 
--- What is there of an identifier that is damaged by this: no bytes are read of it, and why there are none is the refusal of the damage, unless the device or
--- memory refuses.
+-- What is there of an identifier that is damaged by this: no bytes are read of it. Why there are none is the refusal of
+-- the damage, unless the device or memory refuses.
 pub record IsRefusedFor (f : Found) (view : ℕ → List ℕ) (id : ℕ) (reason : Ground) : Type 0 where
   pub no_bytes : (bytes : List ℕ) → AreReadBytes f view id bytes → ⊥
   pub refused : (r : Refusal) → IsWhyNoChunks f.extents view (places_of f id) r → IsNoAnswer r ⊎ (r ≡ refusal_for reason)

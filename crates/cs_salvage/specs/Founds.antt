@@ -6,8 +6,8 @@ use Rattle.cs_frame.specs.declared.locators.Locator.{Locator}
 use Rattle.cs_index.specs.State.{State as IndexState}
 use Rattle.cs_salvage.specs.declared.rescued_runs.DamagedRun.{DamagedRun}
 
--- The extents; version, commands and runs of the root; whether a section records a later root; the index of the runs that were read, and the
--- first run that couldn't be.
+-- The extents, then version, commands and runs of the root, and whether a section records a later root. Then the index
+-- of the runs that were read, and the first run that couldn't be.
 pub record Found : Type 0 where
   pub extents : ExtentsState
   pub root : ℕ

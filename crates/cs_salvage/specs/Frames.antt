@@ -2,10 +2,11 @@
 use Rattle.std.specs.Prelude.{◌≡◌, ◌≢◌, ◌+◌, ◌-◌, ◌<◌, ◌≤◌, ℕ, [], List, Some, length, slice_get, slice_index_or, take}
 use Rattle.cs_disk.specs.Disk.{Image, page}
 use Rattle.sha2.specs.Sha256.{sha256}
+use Rattle.cs_frame.specs.declared.formats.FormatNumber.TheVariants.{Four}
 use Rattle.cs_frame.specs.Frames.{SpellsFrame, frame_count, page_count}
 use Rattle.cs_frame.specs.Geometries.{Dimensions}
 use Rattle.law_machine.specs.Formats.{pages_from}
-use Rattle.cs_salvage.specs.Parts.{BeginsWith, IsNumbered, IsSpellable, formats_in, shape_in}
+use Rattle.cs_salvage.specs.Parts.{EndsWith, IsNumbered, IsSpellable, formats_in, shape_in}
 use Rattle.cs_salvage.specs.declared.parts.Part.{Part}
 
 -- the pages from a place on, as far as its extent reaches
@@ -22,12 +23,12 @@ pub record IsFrontOf (all pages : List (List ℕ)) : Type 0 where
   pub enough : frame_count all ≤ length all
   pub taken : pages ≡ take (frame_count all) all
 
--- The part is of the frame that begins in these pages, with this payload, wherever they lie.
+-- The part is of the frame of format 4 that begins in these pages, with this payload, wherever they lie.
 pub record IsPartIn (pages : List (List ℕ)) (part : Part) (payload : List ℕ) : Type 0 where
-  pub spelled : SpellsFrame 0 pages payload
+  pub spelled : SpellsFrame Four 0 pages payload
   pub counted : part.pages ≡ page_count (length payload)
-  pub head : BeginsWith part.head payload
-  pub spellable : IsSpellable part.head
+  pub head : EndsWith part.head part.store payload
+  pub spellable : IsSpellable part.head part.store
   pub numbered : IsNumbered part.head
   pub digest : part.digest ≡ sha256 payload
 
@@ -39,9 +40,9 @@ IsSpelled part payload = (pages : List (List ℕ)) × IsPartIn pages part payloa
 abbrev pub IsOfFrame : Part → Type 0
 IsOfFrame part = (payload : List ℕ) × IsSpelled part payload
 
--- the part means this payload: it has the digest that the part says, and begins with its head
+-- the part means this payload: it has the digest that the part says, and ends with its head, of its store
 abbrev pub IsMeant : Part → (payload : List ℕ) → Type 0
-IsMeant part payload = (part.digest ≡ sha256 payload) × BeginsWith part.head payload
+IsMeant part payload = (part.digest ≡ sha256 payload) × EndsWith part.head part.store payload
 
 -- at one place of these lists two different texts stand, and have one digest
 abbrev pub TwoWithOneDigest : List (List ℕ) → List (List ℕ) → Type 0

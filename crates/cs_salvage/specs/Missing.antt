@@ -14,7 +14,8 @@ pub record IsNewestPut (parts : List Part) (put : Put) : Type 0 where
   pub own : put_of part ≡ put
   pub newest : (other : Part) → Contains parts other → (put_of other).id ≡ put.id → (put_of other).command ≤ put.command
 
--- It is told as missing: it is the newest put of its identifier, it isn't whole, and it is told as ambiguous where it is.
+-- It is reported as missing: it is the newest put of its identifier, it isn't whole, and it is reported as ambiguous if
+-- it is.
 pub record IsMissing (parts : List Part) (it : Missing) : Type 0 where
   pub newest : IsNewestPut parts it.put
   pub not_whole : IsWhole parts it.put → ⊥

@@ -42,8 +42,10 @@ pub record IsEndOfPut (parts : List Part) (start end : ℕ) : Type 0 where
 abbrev pub first_with : (number : ℕ) → List Part → Option Part
 first_with number parts = find (λ (part : Part). part.head.number == number) parts
 
--- a part says as many chunks as the first part of all, and has the payload of the first of its number
+-- a part is of the store of the first part of all and says as many chunks, and has the payload of the first of its
+-- number
 pub record Agrees (parts : List Part) (part : Part) : Type 0 where
+  pub store : (d : Part) → part.store ≡ (slice_index_or parts 0 d).store
   pub count : (d : Part) → part.head.count ≡ (slice_index_or parts 0 d).head.count
   pub digest : (first : Part) → first_with part.head.number parts ≡ Some first → first.digest ≡ part.digest
 

@@ -4,15 +4,16 @@ use Rattle.cs_refusal.specs.declared.refusals.Refusal.{Refusal}
 use Rattle.cs_refusal.specs.declared.refusals.Refusal.TheVariants.{NotAStore}
 use Rattle.cs_frame.specs.declared.locators.Locator.{Locator}
 use Rattle.cs_frame.specs.Geometries.{IsGeometry, device_pages}
-use Rattle.cs_frame.specs.Roots.{SpellsRoot}
+use Rattle.cs_frame.specs.Roots.{SpellsRoot, identity_in}
 use Rattle.cs_reader.specs.Loads.{index_at}
 use Rattle.cs_extent.specs.State.{extents_at}
 use Rattle.cs_reader.specs.ImageReads.{AreSectionsRead}
 use Rattle.cs_index.specs.declared.stored_runs.StoredRun.{StoredRun}
 use Rattle.cs_index.specs.State.{newest_first}
+use Rattle.law_machine.specs.Format.{Format}
 use Rattle.law_machine.specs.Geometry.{weigh_in}
 use Rattle.law_machine.specs.Index.{entries_of, named_weight}
-use Rattle.cs_reader.specs.Openings.{AreRecordedBy, IsOtherDevice, IsOtherSection, IsRootDamaged, IsRootRead, IsSectionDamaged, IsSuperblockDamaged, IsTooSmall}
+use Rattle.cs_reader.specs.Openings.{AreRecordedBy, IsOtherDevice, IsOtherRoot, IsOtherSection, IsRootDamaged, IsRootRead, IsSectionDamaged, IsSuperblockDamaged, IsTooSmall}
 use Rattle.cs_salvage.specs.declared.rescued_runs.DamagedRun.{DamagedRun}
 use Rattle.cs_salvage.specs.Founds.{Found}
 use Rattle.cs_salvage.specs.Runs.{AreNewestRead}
@@ -27,24 +28,24 @@ pub record IsOfNewest (honest : Type 0) (view : ℕ → List ℕ) (f : Found) : 
   pub newest : AreNewestRead honest f.extents view f.places runs f.damaged
   pub index : f.index ≡ index_at (newest_first runs) f.extents.format most_taken
 
--- This was read of a device of so many pages, which an honest disk has: sections of a superblock with these versions, extents, and records of
--- the root, then the root, whatever they record of it, and of its runs the newest.
-pub record IsFoundIn (honest : Type 0) (count : ℕ) (view : ℕ → List ℕ) (format : ℕ) (versions records : List ℕ) (pages : ℕ) (written : List (ℕ × ℕ)) (f : Found) : Type 0 where
+-- This was read of a device of so many pages, which an honest disk has. It is the sections of a superblock with these
+-- versions, extents, and records of the root, then the root, whatever they record of it, and of its runs the newest.
+pub record IsFoundIn (honest : Type 0) (count : ℕ) (view : ℕ → List ℕ) (format : Format) (versions records : List ℕ) (pages : ℕ) (written : List (ℕ × ℕ)) (f : Found) : Type 0 where
   pub sized : count ≡ device_pages format (length written) pages (length versions)
   pub geometry : IsGeometry format (length written) pages (length versions)
   pub extents : f.extents ≡ extents_at format pages (length versions) written
   pub sections : honest → AreSectionsRead view format versions records pages written
-  pub root : honest → SpellsRoot (view 1) format f.root f.commands f.places
+  pub root : honest → SpellsRoot (view 1) (identity_in format) f.root f.commands f.places
   pub lost : MatchBool f.lost ((j : ℕ) × (j < length versions) × (f.root < slice_index records j)) (AreRecordedBy (length versions) records f.root)
   pub runs : IsOfNewest honest view f
 
 -- the same of some superblock
 abbrev pub IsRescued : (honest : Type 0) → (count : ℕ) → (view : ℕ → List ℕ) → Found → Type 0
-IsRescued honest count view f = (format : ℕ) × (versions : List ℕ) × (records : List ℕ) × (pages : ℕ) × (written : List (ℕ × ℕ)) × IsFoundIn honest count view format versions records pages written f
+IsRescued honest count view f = (format : Format) × (versions : List ℕ) × (records : List ℕ) × (pages : ℕ) × (written : List (ℕ × ℕ)) × IsFoundIn honest count view format versions records pages written f
 
 -- The newest entries of the root's newest runs, up to the first that can't be read, weigh more than those of any index.
 pub record IsTooHeavy (count : ℕ) (view : ℕ → List ℕ) (r : Refusal) : Type 0 where
-  pub format : ℕ
+  pub format : Format
   pub versions : List ℕ
   pub records : List ℕ
   pub pages : ℕ
@@ -60,4 +61,4 @@ pub record IsTooHeavy (count : ℕ) (view : ℕ → List ℕ) (r : Refusal) : Ty
 -- why nothing is got of a device of so many pages, which read as these: the first of these tests that fails
 abbrev pub IsWhyNotRescued : (count : ℕ) (view : ℕ → List ℕ) → Refusal → Type 0
 IsWhyNotRescued count view r = IsTooSmall count r ⊎ IsSuperblockDamaged count view r ⊎ IsOtherSection count view r ⊎ IsOtherDevice count view r
-    ⊎ IsSectionDamaged count view r ⊎ IsRootDamaged count view r ⊎ IsTooHeavy count view r
+    ⊎ IsSectionDamaged count view r ⊎ IsRootDamaged count view r ⊎ IsOtherRoot count view r ⊎ IsTooHeavy count view r

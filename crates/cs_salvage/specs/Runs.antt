@@ -15,13 +15,15 @@ use Rattle.cs_index.specs.declared.stored_runs.StoredRun.{StoredRun}
 use Rattle.law_machine.specs.Formats.{RunFrame}
 use Rattle.cs_salvage.specs.declared.rescued_runs.DamagedRun.{DamagedRun}
 
--- what lies at a place isn't the run that is meant there: the place isn't located any more, or the frame there has this fault, or its payload has it
+-- what lies at a place isn't the run that is meant there: the place isn't located any more, or the frame there has this
+-- fault, or its payload has it
 abbrev pub IsWhyNoRun : ExtentsState → (view : ℕ → List ℕ) → Locator → Refusal → Type 0
 IsWhyNoRun x view place r = ((¬ IsLocated x place) × (r ≡ Misplaced))
     ⊎ (IsLocated x place × IsOfFault (fault_in x view Run place) r)
     ⊎ (IsLocated x place × ((payload : List ℕ) × IsFrameIn x view RunFrame place payload × IsOfFault (run_fault x.format payload) r))
 
--- Reading stopped at this run, the last of those at so many places, oldest first: an honest disk has no run there, or the device failed.
+-- Reading stopped at this run, the last of those at so many places, oldest first: an honest disk has no run there, or
+-- the device failed.
 pub record IsStopped (honest : Type 0) (x : ExtentsState) (view : ℕ → List ℕ) (places : List Locator) (left : ℕ) (damaged : DamagedRun) : Type 0 where
   pub some : 0 < left
   pub last : slice_get places (left - 1) ≡ Some damaged.place
@@ -33,7 +35,8 @@ abbrev pub IsEndOf : (honest : Type 0) → ExtentsState → (view : ℕ → List
 IsEndOf honest x view places left None = left ≡ 0
 IsEndOf honest x view places left (Some damaged) = IsStopped honest x view places left damaged
 
--- Of the runs at these places, oldest first, the newest were read, up to the first that can't be: so many older ones are left.
+-- Of the runs at these places, oldest first, the newest were read, up to the first that can't be. So many older ones
+-- are left.
 pub record AreNewestRead (honest : Type 0) (x : ExtentsState) (view : ℕ → List ℕ) (places : List Locator) (runs : List StoredRun) (damaged : Option DamagedRun) : Type 0 where
   pub left : ℕ
   pub no_more : left ≤ length places

@@ -12,6 +12,7 @@ use Rattle.law_machine.specs.Events.{ArePayloads}
 use Rattle.cs_salvage.specs.Parts.{IsChunkAt, IsPart, formats_in, shape_in}
 use Rattle.cs_salvage.specs.declared.parts.Part.{Part}
 use Rattle.cs_salvage.specs.declared.parts.Put.{Put}
+use Rattle.cs_salvage.specs.declared.searches.Sought.{Sought}
 use Rattle.cs_salvage.specs.declared.whole_shards.WholeShard.{WholeShard}
 
 -- the put that a part is of, by its head
@@ -22,9 +23,10 @@ put_of part = record { id = part.head.id; command = part.head.command }
 abbrev pub HasPayloads : Dimensions → Put → (bytes : List ℕ) → (payloads : List (List ℕ)) → Type 0
 HasPayloads g put bytes payloads = ArePayloads (shape_in g) (formats_in g) (id_number put.id) put.command bytes payloads
 
--- Two parts can't be of the same bytes: they say different numbers of chunks, or have different payloads of one number.
+-- Two parts can't be of one put: they are of different stores, say different numbers of chunks, or have different
+-- payloads of one number.
 abbrev pub Conflict : Part → Part → Type 0
-Conflict a b = (a.head.count ≢ b.head.count) ⊎ ((a.head.number ≡ b.head.number) × (a.digest ≢ b.digest))
+Conflict a b = (a.store ≢ b.store) ⊎ (a.head.count ≢ b.head.count) ⊎ ((a.head.number ≡ b.head.number) × (a.digest ≢ b.digest))
 
 -- two parts of the put are there that conflict
 pub record IsAmbiguous (parts : List Part) (put : Put) : Type 0 where
@@ -36,7 +38,8 @@ pub record IsAmbiguous (parts : List Part) (put : Put) : Type 0 where
   pub other_of : put_of other ≡ put
   pub conflict : Conflict one other
 
--- These are the parts of a put, one of each number, in order, as many as each of them says; and no two parts of the put conflict.
+-- These are the parts of a put, one of each number, in order, as many as each of them says. No two parts of the put
+-- conflict.
 pub record AreAllOf (parts : List Part) (put : Put) (pieces : List Part) : Type 0 where
   pub some : 0 < length pieces
   pub there : All (Contains parts) pieces
@@ -53,7 +56,8 @@ IsWhole parts put = (pieces : List Part) × AreAllOf parts put pieces
 abbrev pub ComesBefore : ShardId → ShardId → Type 0
 ComesBefore a b = slice_cmp nat_cmp a.0 b.0 ≡ Less
 
--- These are the shards of which some put is whole, each once, in the order of their identifiers, and each as its newest whole put has it.
+-- These are the shards of which some put is whole, each once, in the order of their identifiers. Each is as its newest
+-- whole put has it.
 pub record AreNewest (parts : List Part) (shards : List WholeShard) : Type 0 where
   pub whole : All (λ (shard : WholeShard). AreAllOf parts shard.put shard.parts.items) shards
   pub newest : All (λ (shard : WholeShard). (put : Put) → put.id ≡ shard.put.id → IsWhole parts put → put.command ≤ shard.put.command) shards
@@ -66,9 +70,9 @@ pub record AreAmbiguous (parts : List Part) (puts : List Put) : Type 0 where
   pub complete : (put : Put) → IsAmbiguous parts put → Contains puts put
   pub once : AllPairs (λ (a b : Put). a ≢ b) puts
 
--- the parts of a put on the device have these payloads and no others
-abbrev pub HasOnly : Dimensions → Image → Put → (payloads : List (List ℕ)) → Type 0
-HasOnly g image put payloads = (part : Part) (payload : List ℕ) → IsPart g image part payload → put_of part ≡ put → Contains payloads payload
+-- the parts of a put on the device, of a store whose chunks are sought, have these payloads and no others
+abbrev pub HasOnly : Sought → Image → Put → (payloads : List (List ℕ)) → Type 0
+HasOnly sought image put payloads = (part : Part) (payload : List ℕ) → IsPart sought image part payload → put_of part ≡ put → Contains payloads payload
 
 -- of each of the payloads a whole frame stands on the device
 abbrev pub HasFrames : Dimensions → Image → (payloads : List (List ℕ)) → Type 0

@@ -15,8 +15,8 @@ LiesStill x whole view kind l = (payload : List ℕ)
     → Stand (shape x) (formats_of (shape x)) whole l.extent l.page ((formats_of (shape x)).frame kind payload)
     → Stand (shape x) (formats_of (shape x)) view l.extent l.page ((formats_of (shape x)).frame kind payload)
 
--- Of a device that read as `whole` these are left as they were: the pages of superblock and root, the frames of the runs that were read, and
--- those of the chunks that these runs name under an identifier. All else may be damaged.
+-- Of a device that read as `whole` these are left as they were: the pages of superblock and root, the frames of the
+-- runs that were read, and those of the chunks that these runs name under an identifier. All else may be damaged.
 pub record IsSpared (f : Found) (whole view : ℕ → List ℕ) (id : ℕ) : Type 0 where
   pub superblock : (j : ℕ) → j < (shape f.extents).sections → view ((shape f.extents).section_page j) ≡ whole ((shape f.extents).section_page j)
   pub root : view (shape f.extents).root_page ≡ whole (shape f.extents).root_page

@@ -1,12 +1,14 @@
 //! What can be got of a store that can't be opened as usual. Nothing is written to its disk, and nothing is flushed.
 //!
-//! A rescue goes by the index: where a run of it is damaged, where places that entries name are gone, or where the root that is there is older
-//! than one that was persistent. Superblock and root are read as at an opening, but whatever the sections record of the root; then
-//! the runs of the root, the newest first, up to one that can't be read. What these runs name is answered; what they don't name may be in one
-//! that is damaged, or older, and is refused by a name of its own.
+//! A rescue goes by the index. It is for a store whose index has a damaged run, or entries that name places which are
+//! gone. It is also for a store whose root is older than one that was persistent. Superblock and root are read as at an
+//! opening, whatever the sections record of the root. Then the runs of the root are read, the newest first, up to one
+//! that can't be read. What these runs name is answered. What they don't name may be in one that is damaged, or older.
+//! That is refused by a name of its own.
 //!
-//! A salvage goes by the frames alone, whatever superblock, root and index are: the chunks that are whole, by the heads that their payloads
-//! begin with, and of each identifier the newest put all of whose parts are there.
+//! A salvage goes by the frames alone, whatever superblock, root and index are. It reads the chunks that are whole, by
+//! the heads that their payloads end with. Of each identifier it has the newest put all of whose parts are there. It
+//! takes the chunks of one store, or those of any.
 #![tactic(auto)]
 
 mod parts;
@@ -14,6 +16,7 @@ mod rescued_runs;
 mod rescues;
 mod salvage_laws;
 mod scans;
+mod searches;
 mod whole_shards;
 
 pub use parts::{Part, Put, find_parts, read_whole};
@@ -24,4 +27,5 @@ pub use salvage_laws::{
     what_stands_is_whole, whole_shards_are_what_was_put,
 };
 pub use scans::{Patience, Scanned, scan_commands};
+pub use searches::{Sought, Whose};
 pub use whole_shards::{Missing, WholeShard, ambiguous, missing_puts, newest_whole};

@@ -1,20 +1,22 @@
 //! Parts of shards: the whole frames of chunks that are on a device, and what they hold.
-ghost use Rattle.std.specs.Prelude.{◌*◌, ◌+◌, ◌-◌, ◌<◌, ◌^◌, ◌≡◌, ◌≤◌, All, IfOk, IfSome, List, MatchBool, MatchOption, OnOk, length, ℕ};
+ghost use Rattle.std.specs.Prelude.{◌*◌, ◌+◌, ◌-◌, ◌<◌, ◌^◌, ◌≡◌, ◌≤◌, All, IfOk, IfSome, List, MatchBool, MatchOption, OnOk, length, true, ℕ};
 ghost use Rattle.std.specs.List.{AllZip};
 ghost use Rattle.cs_disk.specs.Disk.{HasCause, page as device_page, seen};
 ghost use Rattle.cs_disk.specs.Reads.{OnlyReads};
 ghost use Rattle.cs_frame.specs.Frames.{SpellsFrame};
 ghost use Rattle.cs_frame.specs.Geometries.{IsGeometry};
 ghost use Rattle.cs_salvage.specs.Frames.{AreReadAs, IsFrontOf, IsMeant, IsOfFrame, IsPartIn, IsSpelled, pages_at};
-ghost use Rattle.cs_salvage.specs.Parts.{AreParts, ArePartsBefore, BeginsWith, IsChunkAt, IsNumbered, IsPart, IsSpellable, NoPartAt, formats_in};
+ghost use Rattle.cs_salvage.specs.Parts.{AreParts, ArePartsBefore, AreSought, EndsWith, IsChunkAt, IsNumbered, IsPart, IsSought, IsSpellable, NoPartAt, formats_in};
 ghost use Rattle.cs_salvage.specs.Shards.{put_of};
+ghost use Rattle.law_machine.specs.Geometry.{heads_in};
 ghost use Rattle.law_machine.specs.Index.{joined_bodies};
 
+use crate::searches::{Sought, Whose, if_sought};
 use crate::whole_shards::WholeShard;
 use cs_disk::{DiskFault, PageDisk};
 use cs_frame::{
-    ChunkHead, FormatFault, FrameKind, Geometry, ShardId, chunk_body, decode_frame,
-    decode_frame_header, decode_head, frame_pages,
+    ChunkHead, FormatFault, FormatNumber, FoundHead, FrameKind, Geometry, ShardId, chunk_body,
+    decode_frame, decode_frame_header, decode_head, frame_pages,
 };
 use std::alloc::{AllocError, Global};
 
@@ -36,8 +38,10 @@ pub struct Part {
     pub page: u16,
     /// How many pages it has.
     pub pages: usize,
-    /// The head that its payload begins with.
+    /// The head that its payload ends with.
     pub head: ChunkHead,
+    /// The first eight bytes of the identity of the store that wrote it.
+    pub store: [u8; 8],
     /// The digest of its payload.
     pub digest: [u8; 32],
 }
@@ -54,22 +58,22 @@ impl Part {
     }
 }
 
-/// The payload of a part, where it is as it was found.
+/// The payload of a part, if it is as it was found.
 fn payload_of<D: PageDisk>(
     alloc: Global,
     disk: &mut D,
-    geometry: Geometry,
+    sought: &Sought,
     part: Part,
 ) -> Result<Option<Vec<u8>>, DiskFault>
-    requires { 2 + geometry.extents * geometry.pages ≤ D.page_count disk.old }
+    requires { 2 + sought.now.geometry.extents * sought.now.geometry.pages ≤ D.page_count disk.old }
     ensures payload { D.honest disk.old → IfOk result (λ found. MatchOption found
-        ((payload : List ℕ) → IsPart geometry (seen (D.state disk.old)) part payload → ⊥)
-        (λ payload. IsPart geometry (seen (D.state disk.old)) part payload.items)) }
+        ((payload : List ℕ) → IsPart sought.now (seen (D.state disk.old)) part payload → ⊥)
+        (λ payload. IsPart sought.now (seen (D.state disk.old)) part payload.items)) }
     ensures meant { IfOk result (λ found. IfSome found (λ payload. IsMeant part payload.items)) }
     ensures disk { OnlyReads D.PageDisk disk.old disk.new }
     ensures cause { HasCause (D.failure_count disk.old) (D.failure_count disk.new) result }
 {
-    let found = match part_at(alloc, disk, geometry, part.extent, part.page) {
+    let found = match part_at(alloc, disk, sought, part.extent, part.page) {
         Ok(Some(found)) => found,
         Ok(None) => return Ok(None),
         Err(fault) => return Err(fault),
@@ -81,31 +85,32 @@ fn payload_of<D: PageDisk>(
     }
 }
 
-/// The bytes of a whole shard: what is behind the heads of its parts' payloads, which are read again, one after another. None where a part
-/// isn't there any more as it was found.
+/// The bytes of a whole shard: its parts' payloads without their heads, which are read again, one after another. None
+/// if a part isn't there any more as it was found.
 ///
-/// 1 `DeviceFault` where a read failed, 9 `OutOfMemory`. The disk holds what it held.
+/// 1 `DeviceFault` if a read failed, 9 `OutOfMemory`. The disk holds what it held.
 pub fn read_whole<D: PageDisk>(
     alloc: Global,
     disk: &mut D,
-    geometry: Geometry,
+    sought: &Sought,
     shard: &WholeShard,
 ) -> Result<Option<Vec<u8>>, DiskFault>
-    requires { 2 + geometry.extents * geometry.pages ≤ D.page_count disk.old }
+    requires { 2 + sought.now.geometry.extents * sought.now.geometry.pages ≤ D.page_count disk.old }
     ensures bytes { D.honest disk.old → IfOk result (λ found. MatchOption found
-        ((payloads : List (List ℕ)) → AllZip (IsPart geometry (seen (D.state disk.old))) shard.now.parts.items payloads → ⊥)
-        (λ bytes. (payloads : List (List ℕ)) × AllZip (IsPart geometry (seen (D.state disk.old))) shard.now.parts.items payloads
-        × (bytes.items ≡ joined_bodies (formats_in geometry) payloads))) }
+        ((payloads : List (List ℕ)) → AllZip (IsPart sought.now (seen (D.state disk.old))) shard.now.parts.items payloads → ⊥)
+        (λ bytes. (payloads : List (List ℕ)) × AllZip (IsPart sought.now (seen (D.state disk.old))) shard.now.parts.items payloads
+        × (bytes.items ≡ joined_bodies (formats_in sought.now.geometry) payloads))) }
     // Whatever the disk answers, they are bytes that the parts mean, by their digests and their heads.
     ensures meant { IfOk result (λ found. IfSome found (λ bytes. (payloads : List (List ℕ)) × AllZip IsMeant shard.now.parts.items payloads
-        × (bytes.items ≡ joined_bodies (formats_in geometry) payloads))) }
+        × (bytes.items ≡ joined_bodies (formats_in sought.now.geometry) payloads))) }
     ensures disk { OnlyReads D.PageDisk disk.old disk.new }
     ensures cause { HasCause (D.failure_count disk.old) (D.failure_count disk.new) result }
 {
     let mut bytes = Vec::new(alloc);
+    let geometry = sought.geometry;
     let format = geometry.format();
     for part in &shard.parts {
-        match payload_of(alloc, disk, geometry, *part) {
+        match payload_of(alloc, disk, sought, *part) {
             Ok(Some(payload)) => bytes.extend_from_slice(chunk_body(format, &payload))?,
             Ok(None) => return Ok(None),
             Err(fault) => return Err(fault),
@@ -154,8 +159,9 @@ fn read_pages<D: PageDisk>(
     Ok(pages)
 }
 
-/// As many pages from a place on as the header of a chunk's frame counts, where there is a header and they end on the extent. The header
-/// is tested before the second page is read; digest and padding aren't tested.
+/// As many pages from a place on as the header of a chunk's frame counts. There are none without a header, or if they
+/// don't end on the extent.
+/// The header is tested before the second page is read. Digest and padding aren't tested.
 fn read_frame_pages<D: PageDisk>(
     alloc: Global,
     disk: &mut D,
@@ -180,7 +186,8 @@ fn read_frame_pages<D: PageDisk>(
         Err(fault) => return Err(fault),
     }
     let there = usize::from(geometry.pages() - page);
-    let Ok(header) = decode_frame_header(FrameKind::Chunk, &first, there) else {
+    let format = geometry.format().number();
+    let Ok(header) = decode_frame_header(format, FrameKind::Chunk, &first, there) else {
         return Ok(None);
     };
     match read_pages(alloc, disk, number, &first, header.pages()) {
@@ -189,14 +196,14 @@ fn read_frame_pages<D: PageDisk>(
     }
 }
 
-/// The payload of the chunk's frame that begins in these pages, where a whole one does.
+/// The payload of the chunk's frame of format 4 that begins in these pages, if a whole one does.
 fn payload_in(alloc: Global, pages: &[[u8; 4096]]) -> Result<Option<Vec<u8>>, AllocError>
     requires { 0 < length pages.now }
     ensures { IfOk result (λ found. MatchOption found
-        ((payload : List ℕ) → SpellsFrame 0 pages.now payload → ⊥)
-        (λ payload. SpellsFrame 0 pages.now payload.items)) }
+        ((payload : List ℕ) → SpellsFrame FormatNumber.Four 0 pages.now payload → ⊥)
+        (λ payload. SpellsFrame FormatNumber.Four 0 pages.now payload.items)) }
 {
-    match decode_frame(alloc, FrameKind::Chunk, pages) {
+    match decode_frame(alloc, FormatNumber::Four, FrameKind::Chunk, pages) {
         Ok(payload) => Ok(Some(payload)),
         Err(FormatFault::OutOfMemory) => Err(AllocError),
         Err(_) => Ok(None),
@@ -204,38 +211,40 @@ fn payload_in(alloc: Global, pages: &[[u8; 4096]]) -> Result<Option<Vec<u8>>, Al
 }
 
 /// Whether a chunk can have this head.
-fn is_of_chunk(head: ChunkHead) -> bool
-    ensures numbered { MatchBool result (IsNumbered head) (IsNumbered head → ⊥) }
-    ensures spellable { IsSpellable head }
+fn is_of_chunk(found: FoundHead) -> bool
+    ensures numbered { MatchBool result (IsNumbered found.head) (IsNumbered found.head → ⊥) }
+    ensures spellable { IsSpellable found.head found.store }
 {
-    head.number < head.count && head.count <= MOST_CHUNKS
+    found.head.number < found.head.count && found.head.count <= MOST_CHUNKS
 }
 
-/// The part that these pages of a frame and its payload are, where the payload begins with a head that a chunk can have.
+/// The part that these pages of a frame and its payload are, if the payload ends with a head that a chunk can have.
 fn part_of(extent: u16, page: u16, pages: &[[u8; 4096]], payload: &[u8]) -> Option<Part>
     requires some { 0 < length pages.now }
-    requires spelled { SpellsFrame 0 pages.now payload.now }
+    requires spelled { SpellsFrame FormatNumber.Four 0 pages.now payload.now }
     ensures part { MatchOption result
-        ((part : Part) → BeginsWith part.head payload.now → IsNumbered part.head → ⊥)
+        ((part : Part) → EndsWith part.head part.store payload.now → IsSpellable part.head part.store → IsNumbered part.head → ⊥)
         (λ part. IsPartIn pages.now part payload.now) }
     ensures place { IfSome result (λ part. (part.extent ≡ extent) × (part.page ≡ page)) }
 {
-    let head = decode_head(payload)?;
-    if !is_of_chunk(head) {
+    let found = decode_head(payload)?;
+    if !is_of_chunk(found) {
         return None;
     }
+    let store = found.store;
     let mut digest = [0; 32];
     digest.copy_from_slice(&pages[0][9..41]);
     Some(Part {
         extent,
         page,
         pages: frame_pages(payload.len()),
-        head,
+        head: found.head,
+        store,
         digest,
     })
 }
 
-/// The part whose frame begins in these pages, with its payload, where a whole one does.
+/// The part whose frame begins in these pages, with its payload, if a whole one does.
 fn part_in(
     alloc: Global,
     extent: u16,
@@ -257,8 +266,8 @@ fn part_in(
     }
 }
 
-/// The part that begins at a place, with its payload, where one does.
-pub fn part_at<D: PageDisk>(
+/// The part that begins at a place, of any store, with its payload, if one does.
+fn any_part_at<D: PageDisk>(
     alloc: Global,
     disk: &mut D,
     geometry: Geometry,
@@ -267,10 +276,11 @@ pub fn part_at<D: PageDisk>(
 ) -> Result<Option<FoundPart>, DiskFault>
     requires { 2 + geometry.extents * geometry.pages ≤ D.page_count disk.old }
     ensures part { D.honest disk.old → IfOk result (λ found. MatchOption found
-        (NoPartAt geometry (seen (D.state disk.old)) extent page)
-        (λ it. IsPart geometry (seen (D.state disk.old)) it.part it.payload.items)) }
+        (NoPartAt (record { geometry = geometry; whose = Whose.OfAny }) (seen (D.state disk.old)) extent page)
+        (λ it. IsPart (record { geometry = geometry; whose = Whose.OfAny }) (seen (D.state disk.old)) it.part it.payload.items)) }
     // Whatever the disk answers, it is the part of a frame.
     ensures spelled { IfOk result (λ found. IfSome found (λ it. IsSpelled it.part it.payload.items)) }
+    ensures heads { IfOk result (λ found. IfSome found (λ _. heads_in geometry.format ≡ true)) }
     ensures place { IfOk result (λ found. IfSome found (λ it. (it.part.extent ≡ extent) × (it.part.page ≡ page))) }
     ensures known { IsGeometry geometry.format geometry.extents geometry.pages geometry.sections }
     ensures disk { OnlyReads D.PageDisk disk.old disk.new }
@@ -286,23 +296,51 @@ pub fn part_at<D: PageDisk>(
     }
 }
 
-/// Adds the part that begins at a place to those before it, where one does.
+/// The part that begins at a place, with its payload, if one does that is sought.
+pub fn part_at<D: PageDisk>(
+    alloc: Global,
+    disk: &mut D,
+    sought: &Sought,
+    extent: u16,
+    page: u16,
+) -> Result<Option<FoundPart>, DiskFault>
+    requires { 2 + sought.now.geometry.extents * sought.now.geometry.pages ≤ D.page_count disk.old }
+    ensures part { D.honest disk.old → IfOk result (λ found. MatchOption found
+        (NoPartAt sought.now (seen (D.state disk.old)) extent page)
+        (λ it. IsPart sought.now (seen (D.state disk.old)) it.part it.payload.items)) }
+    // Whatever the disk answers, it is the part of a frame, and is sought.
+    ensures spelled { IfOk result (λ found. IfSome found (λ it. IsSpelled it.part it.payload.items)) }
+    ensures taken { IfOk result (λ found. IfSome found (λ it. IsSought sought.now it.part.store)) }
+    ensures place { IfOk result (λ found. IfSome found (λ it. (it.part.extent ≡ extent) × (it.part.page ≡ page))) }
+    ensures known { IsGeometry sought.now.geometry.format sought.now.geometry.extents sought.now.geometry.pages sought.now.geometry.sections }
+    ensures disk { OnlyReads D.PageDisk disk.old disk.new }
+    ensures cause { HasCause (D.failure_count disk.old) (D.failure_count disk.new) result }
+{
+    match any_part_at(alloc, disk, sought.geometry, extent, page) {
+        Ok(Some(found)) => Ok(if_sought(sought, found)),
+        Ok(None) => Ok(None),
+        Err(fault) => Err(fault),
+    }
+}
+
+/// Adds the part that begins at a place to those before it, if one does.
 fn add_part_at<D: PageDisk>(
     alloc: Global,
     disk: &mut D,
-    geometry: Geometry,
+    sought: &Sought,
     extent: u16,
     page: u16,
     parts: &mut Vec<Part>,
 ) -> Result<(), DiskFault>
-    requires { 2 + geometry.extents * geometry.pages ≤ D.page_count disk.old }
-    ensures parts { D.honest disk.old → ArePartsBefore geometry (seen (D.state disk.old)) extent page parts.old.items
-        → OnOk result (ArePartsBefore geometry (seen (D.state disk.old)) extent (page + 1) parts.new.items) }
+    requires { 2 + sought.now.geometry.extents * sought.now.geometry.pages ≤ D.page_count disk.old }
+    ensures parts { D.honest disk.old → ArePartsBefore sought.now (seen (D.state disk.old)) extent page parts.old.items
+        → OnOk result (ArePartsBefore sought.now (seen (D.state disk.old)) extent (page + 1) parts.new.items) }
     ensures spelled { All IsOfFrame parts.old.items → OnOk result (All IsOfFrame parts.new.items) }
+    ensures taken { AreSought sought.now parts.old.items → OnOk result (AreSought sought.now parts.new.items) }
     ensures disk { OnlyReads D.PageDisk disk.old disk.new }
     ensures cause { HasCause (D.failure_count disk.old) (D.failure_count disk.new) result }
 {
-    match part_at(alloc, disk, geometry, extent, page) {
+    match part_at(alloc, disk, sought, extent, page) {
         Ok(Some(found)) => Ok(parts.push(found.part)?),
         Ok(None) => Ok(()),
         Err(fault) => Err(fault),
@@ -313,19 +351,21 @@ fn add_part_at<D: PageDisk>(
 fn add_parts_on<D: PageDisk>(
     alloc: Global,
     disk: &mut D,
-    geometry: Geometry,
+    sought: &Sought,
     extent: u16,
     parts: &mut Vec<Part>,
 ) -> Result<(), DiskFault>
-    requires { 2 + geometry.extents * geometry.pages ≤ D.page_count disk.old }
-    ensures parts { D.honest disk.old → ArePartsBefore geometry (seen (D.state disk.old)) extent 0 parts.old.items
-        → OnOk result (ArePartsBefore geometry (seen (D.state disk.old)) (extent + 1) 0 parts.new.items) }
+    requires { 2 + sought.now.geometry.extents * sought.now.geometry.pages ≤ D.page_count disk.old }
+    ensures parts { D.honest disk.old → ArePartsBefore sought.now (seen (D.state disk.old)) extent 0 parts.old.items
+        → OnOk result (ArePartsBefore sought.now (seen (D.state disk.old)) (extent + 1) 0 parts.new.items) }
     ensures spelled { All IsOfFrame parts.old.items → OnOk result (All IsOfFrame parts.new.items) }
+    ensures taken { AreSought sought.now parts.old.items → OnOk result (AreSought sought.now parts.new.items) }
     ensures disk { OnlyReads D.PageDisk disk.old disk.new }
     ensures cause { HasCause (D.failure_count disk.old) (D.failure_count disk.new) result }
 {
+    let geometry = sought.geometry;
     for page in 0..geometry.pages() {
-        match add_part_at(alloc, disk, geometry, extent, page, parts) {
+        match add_part_at(alloc, disk, sought, extent, page, parts) {
             Ok(()) => {}
             Err(fault) => return Err(fault),
         }
@@ -333,30 +373,35 @@ fn add_parts_on<D: PageDisk>(
     Ok(())
 }
 
-/// All parts on a device of this geometry: the whole frames of chunks whose payload begins with a head that a chunk can have, as each does
-/// that a put wrote in a format that has heads. In an older format there are none.
+/// All parts on a device that are sought: the whole frames of chunks whose payload ends with a head that a chunk can
+/// have. Each chunk that a put wrote has such a head. A payload that is shorter than a head has none, and format 2 has
+/// none at all. Frames of other stores are passed over, unless those of any store are sought.
 ///
-/// Superblock, root and runs aren't looked at: so there are chunks among them that were overwritten by a later put, deleted, or put by
-/// a command that was never acknowledged, and each copy that a sweep made. Each page of each extent is read once, and where the header
-/// of a chunk's frame is there the other pages of that frame once more: a shard whose bytes are pages that look like headers costs as many
-/// reads for each of them as it says, up to the end of its extent. Each part takes some 90 bytes of memory.
+/// Superblock, root and runs aren't looked at. So a chunk may have been overwritten by a later put, or deleted, or its
+/// put was never acknowledged. Each copy that a sweep made is there too.
 ///
-/// 1 `DeviceFault` where a read failed, 9 `OutOfMemory`. The disk holds what it held.
+/// Each page of each extent is read once. If a page has the header of a chunk's frame, the other pages of that frame
+/// are read once more. If a shard's bytes are pages that look like headers, each costs as many reads as it says, up to
+/// the end of its extent. Each part takes some 100 bytes of memory.
+///
+/// 1 `DeviceFault` if a read failed, 9 `OutOfMemory`. The disk holds what it held.
 pub fn find_parts<D: PageDisk>(
     alloc: Global,
     disk: &mut D,
-    geometry: Geometry,
+    sought: &Sought,
 ) -> Result<Vec<Part>, DiskFault>
-    requires { 2 + geometry.extents * geometry.pages ≤ D.page_count disk.old }
-    ensures parts { D.honest disk.old → IfOk result (λ parts. AreParts geometry (seen (D.state disk.old)) parts.items) }
-    // Whatever the disk answers, no part is made up: each is of a frame that some pages spell.
+    requires { 2 + sought.now.geometry.extents * sought.now.geometry.pages ≤ D.page_count disk.old }
+    ensures parts { D.honest disk.old → IfOk result (λ parts. AreParts sought.now (seen (D.state disk.old)) parts.items) }
+    // Whatever the disk answers, no part is made up: each is of a frame that some pages spell, and each is sought.
     ensures spelled { IfOk result (λ parts. All IsOfFrame parts.items) }
+    ensures taken { IfOk result (λ parts. AreSought sought.now parts.items) }
     ensures disk { OnlyReads D.PageDisk disk.old disk.new }
     ensures cause { HasCause (D.failure_count disk.old) (D.failure_count disk.new) result }
 {
+    let geometry = sought.geometry;
     let mut parts = Vec::new(alloc);
     for extent in 0..geometry.extents() {
-        match add_parts_on(alloc, disk, geometry, extent, &mut parts) {
+        match add_parts_on(alloc, disk, sought, extent, &mut parts) {
             Ok(()) => {}
             Err(fault) => return Err(fault),
         }

@@ -24,8 +24,8 @@ use std::alloc::{AllocError, Global};
 pub struct DamagedRun {
     /// Where the root has it.
     pub place: Locator,
-    /// Why it couldn't be: 1 where the device failed, 20 to 25 where it is damaged, 26 where another frame lies there, or where the place isn't
-    /// located any more.
+    /// Why it couldn't be: 1 if the device failed, 20 to 25 if it is damaged. 26 if another frame or a run of another
+    /// store lies there, or if the place isn't located any more.
     pub refusal: Refusal,
 }
 
@@ -36,7 +36,8 @@ pub struct NewestRuns {
     pub damaged: Option<DamagedRun>,
 }
 
-/// Reads the run at a place, where nothing waits. Refused 26 Misplaced where the place isn't located, before the device is asked.
+/// Reads the run at a place, while nothing waits. Refused 26 Misplaced if the place isn't located, before the device is
+/// asked.
 fn read_located<D: PageDisk>(
     alloc: Global,
     extents: &Extents,
@@ -98,8 +99,8 @@ fn put_first(runs: &mut Vec<StoredRun>, run: StoredRun) -> Result<(), AllocError
     Ok(())
 }
 
-/// Reads the runs at these places, which are listed oldest first, from the newest on, up to one that can't be read. Refused 9 OutOfMemory
-/// alone.
+/// Reads the runs at these places, which are listed oldest first, from the newest on, up to one that can't be read.
+/// Refused 9 OutOfMemory alone.
 pub fn read_newest<D: PageDisk>(
     alloc: Global,
     extents: &Extents,

@@ -53,14 +53,21 @@ impl<D: PageDisk> Model for Rescue<D> {
 }
 
 impl<D: PageDisk> Rescue<D> {
-    /// Reads the superblock section by section, then the root, whatever the sections record of it, and then its runs, the newest first, up
-    /// to one that can't be read. Chunks aren't read, and it isn't tested whether the places that entries name are located.
+    /// Reads the superblock section by section, then the root, whatever the sections record of it. Then reads its runs,
+    /// the newest first, up to one that can't be read. Chunks aren't read, and it isn't tested whether the places that
+    /// entries name are located.
     ///
-    /// The disk comes back where it is refused, by the first test that fails: 43 NotAStore where there are fewer than 10 pages, before the
-    /// disk is asked for anything; 20 to 24 for page 0; 43 where it has another section than the first, then where the disk hasn't the
-    /// superblock's pages; for each further section 20 to 24 for its page, and 43 where that has another section, or one of another
-    /// superblock; 20 to 24 for page 1; 43 where the newest entries weigh more than any index takes, which no store has. 1 DeviceFault, but
-    /// for a run, and 9 OutOfMemory may come in place of any but the first.
+    /// If the call is refused, it returns the disk. It is refused by the first test that fails:
+    ///
+    /// - 43 NotAStore if there are fewer than 10 pages, before the disk is asked for anything.
+    /// - 20 to 24 for page 0, then 43 if it has another section than the first.
+    /// - 43 if the disk has another number of pages than the superblock says.
+    /// - For each further section 20 to 24 for its page, then 43 if that has another section, or one of another
+    ///   superblock or store.
+    /// - 20 to 24 for page 1, then 43 if it has the root of another store.
+    /// - 43 if the newest entries weigh more than any index takes, which no store has.
+    ///
+    /// 1 DeviceFault, but for a run, and 9 OutOfMemory may come in place of any but the first.
     pub fn open(alloc: Global, disk: D) -> Result<Self, (Refusal, D)>
         // Of an honest disk this is what was read; of any the index is that of the runs that were read.
         ensures found { IfOk result (λ r. IsRescued (D.honest disk) (D.page_count disk) (page (seen (D.state disk))) r.found) }
@@ -84,16 +91,16 @@ impl<D: PageDisk> Rescue<D> {
         }
     }
 
-    /// Whether a section records a later root than the one that was read: commands that were acknowledged are missing then, and all that is
-    /// answered is as of the root.
+    /// Whether a section records a later root than the one that was read. Then commands that were acknowledged are
+    /// missing, and all that is answered is as of the root.
     pub fn root_lost(&self) -> bool
         ensures { result ≡ self.now.found.lost }
     {
         self.found.lost
     }
 
-    /// The run that couldn't be read, the newest of those that are damaged. It and the older ones aren't in the index. None where all were
-    /// read.
+    /// The run that couldn't be read, the newest of those that are damaged. It and the older ones aren't in the index.
+    /// None if all were read.
     pub fn damaged(&self) -> Option<DamagedRun>
         ensures { result ≡ self.now.found.damaged }
     {
@@ -135,12 +142,15 @@ impl<D: PageDisk> Rescue<D> {
         &self.disk
     }
 
-    /// The bytes of a shard, as the runs that were read have it: the newest of them that names it. None where that names it as deleted, or
-    /// where none names it and all were read.
+    /// The bytes of a shard, as the runs that were read have it: the newest of them that names it. None if that names
+    /// it as deleted, or if none names it and all were read. The call is refused by the first test that fails:
     ///
-    /// 28 RunLost where none names it and one couldn't be read; else 26 Misplaced where one of its places isn't located any more, as its
-    /// extent was emptied since, before the disk is asked; else the refusal of its first chunk that can't be read: 20 to 24, 26 where
-    /// another frame lies at its place, 1 DeviceFault, 9 OutOfMemory.
+    /// - 28 RunLost if none names it and one couldn't be read.
+    /// - 26 Misplaced if one of its places isn't located any more, as its extent was emptied since. Then the disk isn't
+    ///   asked.
+    /// - The refusal of its first chunk that can't be read: 20 to 24, or 26 if another frame lies at its place.
+    ///
+    /// 1 DeviceFault and 9 OutOfMemory may come in place of the last.
     pub fn get(&mut self, alloc: Global, id: ShardId) -> Result<Option<Vec<u8>>, RescueRefusal>
         ensures absent { (result ≡ Ok None) ↔ IsAbsent self.old.found (id_number id) }
         ensures run_lost { (result ≡ Err RescueRefusal.RunLost) ↔ IsUnknown self.old.found (id_number id) }
@@ -172,7 +182,8 @@ impl<D: PageDisk> Rescue<D> {
 /// What the newest entries may weigh together: as much as any index takes.
 const MOST_TAKEN: usize = 536_870_911;
 
-/// The index of runs that were read. Refused 43 NotAStore where their newest entries weigh more than any index takes, and 9 OutOfMemory.
+/// The index of runs that were read. Refused 43 NotAStore if their newest entries weigh more than any index takes, and
+/// 9 OutOfMemory.
 fn load_runs(alloc: Global, extents: &Extents, runs: Vec<StoredRun>) -> Result<Index, Refusal>
     requires few { length runs.items ≤ 24 }
     requires runs { AllByRecursion (λ run. IsRun (shape extents.now).format (record { entries = run.entries })) runs.items }
@@ -254,8 +265,8 @@ impl Model for Found {
     ghost invariant = { λ f. NothingWaits f.graph };
 }
 
-/// The bytes of a shard whose chunks lie at these places, where nothing waits. Refused 26 Misplaced where one of them isn't located any more,
-/// before the device is asked; else as `read_chunks` of cs_chunk.
+/// The bytes of a shard whose chunks lie at these places, while nothing waits. Refused 26 Misplaced if one of them
+/// isn't located any more, before the device is asked. Else refused as `read_chunks` of cs_chunk.
 fn read_places<D: PageDisk>(
     alloc: Global,
     extents: &Extents,

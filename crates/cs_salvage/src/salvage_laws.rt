@@ -1,62 +1,75 @@
-//! What salvaged shards have to do with puts, and rescued ones with the map that the store had. The functions do nothing; their contracts are the laws.
+//! What salvaged shards have to do with puts, and rescued ones with the map that the store had. The functions do
+//! nothing: their contracts are the laws.
 ghost use Rattle.std.specs.Prelude.{◌*◌, ◌<◌, ◌^◌, ◌≡◌, ◌≢◌, ◌≤◌, ◌⊎◌, List, None, Some, false, length, true, ℕ};
 ghost use Rattle.std.specs.List.{AllZip};
 ghost use Rattle.cs_disk.specs.Disk.{Image, page, seen};
 ghost use Rattle.cs_extent.specs.State.{shape};
 ghost use Rattle.cs_frame.specs.Formats.{formats_of};
-ghost use Rattle.cs_frame.specs.Geometries.{Dimensions, IsGeometry};
+ghost use Rattle.cs_frame.specs.Geometries.{Dimensions, FitsFormat, IsGeometry};
 ghost use Rattle.cs_index.specs.State.{index_of};
 ghost use Rattle.cs_reader.specs.ImageReads.{ArePages};
 ghost use Rattle.cs_salvage.specs.Answers.{HasContent, IsRefusedFor};
 ghost use Rattle.cs_salvage.specs.Founds.{Found};
 ghost use Rattle.cs_salvage.specs.Frames.{IsMeant, TwoWithOneDigest};
-ghost use Rattle.cs_salvage.specs.Parts.{AreParts, IsIdentifier, IsPart, formats_in, shape_in};
+ghost use Rattle.cs_salvage.specs.Parts.{AreParts, EndsWith, IsIdentifier, IsPart, formats_in, shape_in};
 ghost use Rattle.cs_salvage.specs.Rescued.{IsRescued};
 ghost use Rattle.cs_salvage.specs.Shards.{AreAllOf, HasFrames, HasOnly, HasPayloads, IsWhole};
 ghost use Rattle.cs_salvage.specs.Spared.{IsSpared};
 ghost use Rattle.cs_salvage.specs.declared.parts.Part.{Part as SomePart};
 ghost use Rattle.cs_salvage.specs.declared.parts.Put.{Put as SomePut};
+ghost use Rattle.cs_salvage.specs.declared.searches.Sought.{Sought as SomeSought};
 ghost use Rattle.law_machine.specs.Element.{Damaged, Map};
-ghost use Rattle.law_machine.specs.Geometry.{heads_in};
+ghost use Rattle.law_machine.specs.Geometry.{heads_in, store_front};
 ghost use Rattle.law_machine.specs.Index.{joined_bodies, lookup};
 ghost use Rattle.law_machine.specs.Recovery.{Recovers};
 ghost use Rattle.law_machine.specs.Refusal.{Refusal as Ground};
 
 use crate::rescued_runs::DamagedRun;
+use crate::searches::Whose;
 use cs_disk::PageDisk;
 use cs_refusal::Refusal;
 
-/// What is read of a whole shard is what was put, where all its parts on the device are of one put of these bytes: a crash that lost a put
-/// of the same identifier and number has left none of it.
+/// What is read of a whole shard is what was put, if all its parts that are sought are of one put of these bytes. So
+/// none may be left of a put of the same identifier and number that a crash lost. What other stores left doesn't
+/// matter, unless parts of any store are sought.
 pub fn whole_shards_are_what_was_put()
-    ensures { (g : Dimensions) (image : Image) (parts pieces : List SomePart) (put : SomePut) (bytes : List ℕ) (payloads read : List (List ℕ))
-        → IsGeometry g.format g.extents g.pages g.sections
-        → HasPayloads g put bytes payloads → HasOnly g image put payloads
-        → AreAllOf parts put pieces → AllZip (IsPart g image) pieces read → joined_bodies (formats_in g) read ≡ bytes }
+    ensures { (sought : SomeSought) (image : Image) (parts pieces : List SomePart) (put : SomePut) (bytes : List ℕ) (payloads read : List (List ℕ))
+        → IsGeometry sought.geometry.format sought.geometry.extents sought.geometry.pages sought.geometry.sections
+        → HasPayloads sought.geometry put bytes payloads → HasOnly sought image put payloads
+        → AreAllOf parts put pieces → AllZip (IsPart sought image) pieces read → joined_bodies (formats_in sought.geometry) read ≡ bytes }
 {}
 
-/// What stands is whole: a put of which each chunk has a whole frame on the device, where its parts there are of one put of these bytes.
+/// What stands is whole: a put is whole if each of its chunks has a whole frame on the device. Its parts there that are
+/// sought must be of one put of these bytes.
 pub fn what_stands_is_whole()
-    ensures { (g : Dimensions) (image : Image) (parts : List SomePart) (put : SomePut) (bytes : List ℕ) (payloads : List (List ℕ))
-        → heads_in g.format ≡ true → IsIdentifier put.id → put.command < 2 ^ 64
-        → length bytes ≤ (shape_in g).most_chunks * (shape_in g).chunk_bytes
-        → HasPayloads g put bytes payloads
-        → HasFrames g image payloads → HasOnly g image put payloads → AreParts g image parts → IsWhole parts put }
+    ensures { (sought : SomeSought) (image : Image) (parts : List SomePart) (put : SomePut) (bytes : List ℕ) (payloads : List (List ℕ))
+        → heads_in sought.geometry.format ≡ true → FitsFormat sought.geometry.format → IsIdentifier put.id → put.command < 2 ^ 64
+        → length bytes ≤ (shape_in sought.geometry).most_chunks * (shape_in sought.geometry).chunk_bytes
+        → HasPayloads sought.geometry put bytes payloads
+        → HasFrames sought.geometry image payloads → HasOnly sought image put payloads → AreParts sought image parts → IsWhole parts put }
 {}
 
-/// What parts mean is one list of payloads, or at one place of two lists that they mean two different texts have the same SHA-256 digest.
-/// What lay on the device when the parts were found is what they mean: so what is read of them later, whatever the disk answers, is that, or
-/// is itself one of two such texts.
+/// What parts mean is one list of payloads, unless at one place of two such lists two different texts have the same
+/// SHA-256 digest. What lay on the device when the parts were found is what they mean. So what is read of them later,
+/// whatever the disk answers, is that, or is itself one of two such texts.
 pub fn what_a_part_means_is_one()
     ensures one { (parts : List SomePart) (a b : List (List ℕ)) → AllZip IsMeant parts a → AllZip IsMeant parts b
         → (a ≡ b) ⊎ TwoWithOneDigest a b }
-    ensures found { (g : Dimensions) (image : Image) (part : SomePart) (payload : List ℕ) → IsPart g image part payload → IsMeant part payload }
+    ensures found { (sought : SomeSought) (image : Image) (part : SomePart) (payload : List ℕ) → IsPart sought image part payload → IsMeant part payload }
+    // What is sought of one store is that store's: the payload ends with the first bytes of its identity.
+    ensures own { (g : Dimensions) (image : Image) (part : SomePart) (payload : List ℕ)
+        → IsPart (record { geometry = g; whose = Whose.OfStore }) image part payload → EndsWith part.head (store_front g.format) payload }
+    // And it is found as well if the parts of any store are sought.
+    ensures any { (sought : SomeSought) (image : Image) (part : SomePart) (payload : List ℕ) → IsPart sought image part payload
+        → IsPart (record { geometry = sought.geometry; whose = Whose.OfAny }) image part payload }
 {}
 
-/// Where an honest disk recovers a map, all runs were read, unless the device failed for one. Where all were, no later root is recorded, the
-/// root counts the map's commands, and what is there of each identifier is what the map has. By the clauses `absent` and `read` of
-/// `Rescue::get` the answer is None then where the map has nothing, and the map's bytes where it has bytes, unless the device or memory
-/// refuses; by `bytes` and `why` what the map has damaged is refused as the damage is.
+/// If an honest disk recovers a map, all runs were read, unless the device failed for one. If all were, no later root
+/// is recorded and the root counts the map's commands. Then what is there of each identifier is what the map has.
+///
+/// So by the clauses `absent` and `read` of `Rescue::get` the answer is None if the map has nothing. It is the map's
+/// bytes if the map has bytes, unless the device or memory refuses. By `bytes` and `why` what the map has damaged is
+/// refused as the damage is.
 pub fn what_is_whole_is_got<D: PageDisk>()
     ensures got { (disk : D) (f : Found) (n : ℕ) (m : Map) → D.honest disk → IsRescued (D.honest disk) (D.page_count disk) (page (seen (D.state disk))) f → f.damaged ≡ None
         → Recovers (shape f.extents) (formats_of (shape f.extents)) (page (seen (D.state disk))) n m
@@ -69,10 +82,12 @@ pub fn what_is_whole_is_got<D: PageDisk>()
         → m id ≡ Some (Damaged reason) → IsRefusedFor f (page (seen (D.state disk))) id reason }
 {}
 
-/// Where the pages of an honest disk recovered a map before some of them were damaged, and damage spared superblock, root, the runs that were
-/// read and the chunks of an identifier which these runs name, what is there of it is what the map has. By the clauses `absent` and `read` of
-/// `Rescue::get` the answer is None then where it was deleted, and the map's bytes where it has bytes, unless the device or memory refuses.
-/// Runs that couldn't be read may be damaged in any way.
+/// What newer runs name is right. The pages of an honest disk recovered a map before some of them were damaged. Damage
+/// spared superblock, root, the runs that were read, and the chunks of an identifier which these runs name. Then what
+/// is there of the identifier is what the map has. Runs that couldn't be read may be damaged in any way.
+///
+/// So by the clauses `absent` and `read` of `Rescue::get` the answer is None if it was deleted. It is the map's bytes
+/// if the map has bytes, unless the device or memory refuses.
 pub fn what_newer_runs_name_is_right<D: PageDisk>()
     ensures { (disk : D) (f : Found) (whole : ℕ → List ℕ) (n : ℕ) (m : Map) (id : ℕ) → D.honest disk → IsRescued (D.honest disk) (D.page_count disk) (page (seen (D.state disk))) f
         → ArePages (D.page_count disk) whole → Recovers (shape f.extents) (formats_of (shape f.extents)) whole n m

@@ -20,8 +20,8 @@ pub struct WholeShard {
     pub parts: Vec<Part>,
 }
 
-/// The parts by their identifiers, and of one identifier those of the newest put first. So those of one put are side by side, as they
-/// came.
+/// The parts by their identifiers, and of one identifier those of the newest put first. So those of one put are side by
+/// side, as they came.
 pub fn by_puts(alloc: Global, parts: &[Part]) -> Result<Vec<Part>, AllocError>
     ensures same { IfOk result (λ sorted. IsPermutation parts.now sorted.items) }
     ensures ordered { IfOk result (λ sorted. AreInOrder sorted.items) }
@@ -57,6 +57,9 @@ fn conflicts(parts: &[Part], part: &Part) -> bool
     requires { 0 < length parts.now }
     ensures { MatchBool result (Conflicts parts.now part.now) (Agrees parts.now part.now) }
 {
+    if part.store != parts[0].store {
+        return true;
+    }
     if part.head.count != parts[0].head.count {
         return true;
     }
@@ -80,7 +83,7 @@ pub fn are_ambiguous(put: Put, parts: &[Part]) -> bool
     false
 }
 
-/// The first parts of the numbers below a count, where each is there.
+/// The first parts of the numbers below a count, if each is there.
 fn first_parts(alloc: Global, parts: &[Part], count: u8) -> Result<Option<Vec<Part>>, AllocError>
     ensures { IfOk result (λ found. MatchOption found (Lacks parts.now count) (λ pieces. AreFirst parts.now count pieces.items)) }
 {
@@ -94,7 +97,7 @@ fn first_parts(alloc: Global, parts: &[Part], count: u8) -> Result<Option<Vec<Pa
     Ok(Some(pieces))
 }
 
-/// Of these parts of a put, those that make up the shard, where they do.
+/// Of these parts of a put, those that make up the shard, if they do.
 pub fn whole_of(alloc: Global, put: Put, parts: &[Part]) -> Result<Option<Vec<Part>>, AllocError>
     requires some { 0 < length parts.now }
     requires own { AreOf put parts.now }
@@ -117,7 +120,8 @@ fn ends_with(shards: &[WholeShard], id: ShardId) -> bool
     }
 }
 
-/// Adds the shard that these parts of a put make up to those of the puts before, where no newer put of the same identifier is whole.
+/// Adds the shard that these parts of a put make up to those of the puts before. If a newer put of the same identifier
+/// is whole, nothing is added.
 fn add_newest(
     alloc: Global,
     shards: &mut Vec<WholeShard>,
@@ -138,14 +142,16 @@ fn add_newest(
     }
 }
 
-/// The shards that these parts make up, by their identifiers: of each identifier the newest put of which all parts are there and no two
-/// conflict, with a part of each number. Of copies of a part it is the first.
+/// The shards that these parts make up, by their identifiers. Each is the newest put of its identifier of which all
+/// parts are there and no two conflict, with a part of each number. Of copies of a part it is the first.
 ///
-/// A command's number isn't unique: after a crash the count goes on from the persistent root's, so that a put that was lost and a later
-/// one can have the same number, for the same identifier too. Where two parts of one put conflict, in the number of chunks or in the
-/// payload of one number, which goes by its digest, nothing tells what was put: it isn't whole, and `ambiguous` tells it. A mix of two
-/// such puts of as many chunks of which each chunk is left of one alone isn't seen. Nor is it seen that a shard was deleted since, or that
-/// its put was never acknowledged.
+/// A command's number isn't unique. After a crash the count goes on from the persistent root's. So a put that was lost
+/// and a later one can have the same number, for the same identifier too. And each store counts its own commands.
+///
+/// Two parts of one put conflict if they are of different stores, or say different numbers of chunks. They also do if
+/// they have different payloads of one number, by their digests. Then nothing shows what was put: it isn't whole, and
+/// `ambiguous` reports it. A mix of two such puts of one store may not be seen: if both have as many chunks, and each
+/// chunk is left of one alone. Nor is it seen that a shard was deleted since, or that its put was never acknowledged.
 ///
 /// The parts are sorted, in memory for as many again, and then each is held against the first ones of its put.
 pub fn newest_whole(alloc: Global, parts: &[Part]) -> Result<Vec<WholeShard>, AllocError>
@@ -162,7 +168,7 @@ pub fn newest_whole(alloc: Global, parts: &[Part]) -> Result<Vec<WholeShard>, Al
     Ok(shards)
 }
 
-/// Adds a put whose parts these are to the ambiguous ones before, where it is one.
+/// Adds a put whose parts these are to the ambiguous ones before, if it is one.
 fn add_ambiguous(puts: &mut Vec<Put>, put: Put, parts: &[Part]) -> Result<(), AllocError>
     requires some { 0 < length parts.now }
     requires own { AreOf put parts.now }
@@ -175,8 +181,8 @@ fn add_ambiguous(puts: &mut Vec<Put>, put: Put, parts: &[Part]) -> Result<(), Al
     Ok(())
 }
 
-/// The puts of which two parts conflict: there are frames of two puts of one identifier and one number of the command. The newest first
-/// of each identifier.
+/// The puts of which two parts conflict: there are frames of two puts of one identifier and one number of the command.
+/// The newest first of each identifier.
 pub fn ambiguous(alloc: Global, parts: &[Part]) -> Result<Vec<Put>, AllocError>
     ensures { IfOk result (λ puts. AreAmbiguous parts.now puts.items) }
 {
@@ -191,11 +197,12 @@ pub fn ambiguous(alloc: Global, parts: &[Part]) -> Result<Vec<Put>, AllocError>
     Ok(puts)
 }
 
-/// The newest put of an identifier of which parts are there, where it isn't whole.
+/// The newest put of an identifier of which parts are there, if it isn't whole.
 #[derive(Clone, Copy, Debug, PartialEq, Eq)]
 pub struct Missing {
     pub put: Put,
-    /// Whether there are parts of two puts of that identifier and that number of the command, so that nothing tells what was put.
+    /// Whether there are parts of two puts of that identifier and that number of the command. Then nothing shows what
+    /// was put.
     pub ambiguous: bool,
 }
 
@@ -209,7 +216,7 @@ fn is_last_of(parts: &[Part], id: ShardId) -> bool
     }
 }
 
-/// A put whose parts these are, where it isn't whole.
+/// A put whose parts these are, if it isn't whole.
 fn missing_of(alloc: Global, put: Put, parts: &[Part]) -> Result<Option<Missing>, AllocError>
     requires some { 0 < length parts.now }
     requires own { AreOf put parts.now }
@@ -222,7 +229,8 @@ fn missing_of(alloc: Global, put: Put, parts: &[Part]) -> Result<Option<Missing>
     Ok(Some(Missing { put, ambiguous }))
 }
 
-/// Adds a put whose parts these are to those that are missing of the parts before, where it is the newest of its identifier and isn't whole.
+/// Adds a put whose parts these are to those that are missing of the parts before. It is added if it is the newest of
+/// its identifier and isn't whole.
 fn add_missing(
     alloc: Global,
     missing: &mut Vec<Missing>,
@@ -244,10 +252,11 @@ fn add_missing(
     }
 }
 
-/// The newest put of each identifier of which there are parts, by their identifiers, without those that are whole. An older put of the
-/// same identifier may be whole, and `newest_whole` has it then.
+/// The newest put of each identifier of which there are parts, by their identifiers, without those that are whole. An
+/// older put of the same identifier may be whole, and `newest_whole` has it then.
 ///
-/// The parts are sorted, in memory for as many again, and then each is held against the first ones of its put, twice where it isn't whole.
+/// The parts are sorted, in memory for as many again. Then each is held against the first ones of its put, twice if the
+/// put isn't whole.
 pub fn missing_puts(alloc: Global, parts: &[Part]) -> Result<Vec<Missing>, AllocError>
     ensures { IfOk result (λ missing. AreMissing parts.now missing.items) }
 {

@@ -42,8 +42,8 @@ module _ {D : Type 0} (disks : PageDisk D) (can_crash : D → Type 0) (volatile_
   abbrev pub Reopens : List Bool → (old new : View D) → Type 0
   Reopens mask old new = (disk : D) × IsCrashed mask old.disk disk × IsReopened disk old.limit new
 
-  -- Opening a store on a disk answers this refusal. The disk was flushed or left as it was, and 1 is answered only where it
-  -- failed.
+  -- Opening a store on a disk answers this refusal. The disk was flushed or left as it was, and 1 is answered only
+  -- where it failed.
   pub record IsOpeningRefused (disk : D) (r : Refusal) : Type 0 where
     pub after : D
     pub number : IsOpeningRefusal r
@@ -57,8 +57,8 @@ module _ {D : Type 0} (disks : PageDisk D) (can_crash : D → Type 0) (volatile_
   abbrev pub IsNotReopened : List Bool → View D → Refusal → Type 0
   IsNotReopened mask old r = (disk : D) × IsCrashed mask old.disk disk × IsOpeningRefused disk r
 
-  -- the disk crashes, and the store that is left is opened: it is printed how many of the volatile writes were kept, and the
-  -- numbers with which the core was opened
+  -- the disk crashes, and the store that is left is opened: it is printed how many of the volatile writes were kept,
+  -- and the numbers with which the core was opened
   abbrev pub Crashes : List Bool → (old new : View D) → List ℕ → Type 0
   Crashes mask old new out = Reopens mask old new × (out ≡ crash_line (kept_count mask) (length mask) ++ open_line new.found.0 new.found.1)
 

@@ -10,9 +10,9 @@ use Rattle.hex.specs.declared.error.FromHexError.{FromHexError}
 use Rattle.cs_script.specs.declared.lines.Line.{Line}
 use Rattle.cs_script.specs.declared.lines.Line.TheVariants.{Put, Get, Delete, Sweep, Sync, Step, Plan, Document, Crash, Nothing, Bad}
 
--- to put these bytes under this identifier, to get or to delete what is under it, to sweep this extent, to make all persistent,
--- to make one step of that, to print the plan for it or its document, to crash and to keep those of the volatile writes for
--- which the mask says true, nothing, or it isn't readable
+-- to put these bytes under this identifier, to get or to delete what is under it, to sweep this extent, to make all
+-- persistent, to make one step of that, to print the plan for it or its document, to crash and to keep those of the
+-- volatile writes for which the mask says true, nothing, or it isn't readable
 pub data Said : Type 0 where
   says_put : List ℕ → List ℕ → Said
   says_get : List ℕ → Said

@@ -52,7 +52,8 @@ refusal_line r = line_of (codes "refused " ++ decimal (number_of r) ++ codes " "
 abbrev pub end_line : ℕ → List ℕ
 end_line n = line_of (codes "end acknowledged " ++ decimal n)
 
--- what is printed of a round that was out and was ended: how many commands are persistent then; nothing where none was out
+-- what is printed of a round that was out and was ended: how many commands are persistent then; nothing where none was
+-- out
 abbrev pub end_lines : Option ℕ → List ℕ
 end_lines None = []
 end_lines (Some n) = end_line n

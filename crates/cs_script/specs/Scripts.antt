@@ -62,8 +62,8 @@ module _ {D : Type 0} (disks : PageDisk D) where
   abbrev pub Answered : View D → Event → Reply → View D → (printed out : List ℕ) → Type 0
   Answered old event reply new printed out = Went disks old ((event, reply) ∷ []) new × (out ≡ printed)
 
-  -- A sync that ends well, and what it prints: the rounds that were begun and ended, which are a best plan of what waited after the Stage, with
-  -- the chain that is printed, and how many commands are persistent then.
+  -- A sync that ends well, and what it prints: the rounds that were begun and ended, which are a best plan of what
+  -- waited after the Stage, with the chain that is printed, and how many commands are persistent then.
   pub record PrintsSync (old new : View D) (out : List ℕ) : Type 0 where
     pub syncs : Syncs disks old new
     pub chain : List Element
@@ -83,7 +83,8 @@ module _ {D : Type 0} (disks : PageDisk D) where
     pub stops : StopsLater disks old r new
     pub printed : before ≡ end_lines stops.finished ++ round_lines 1 (rounds_of stops.turns)
 
-  -- A sync in which there is no memory for the plan: a round that was out was ended, and the index's changes were staged.
+  -- A sync in which there is no memory for the plan: a round that was out was ended, and the index's changes were
+  -- staged.
   pub record LacksPlan (old new : View D) (r : Refusal) (before : List ℕ) : Type 0 where
     pub finished : Option ℕ
     pub ended : View D
@@ -148,7 +149,8 @@ module _ {D : Type 0} (disks : PageDisk D) where
   IsBad unreadable old new out = (new ≡ old) × (out ≡ bad_line)
   IsBad said old new out = ⊥
 
-  -- what a line does to the core that is answered so, and what it prints. A line `crash` stands here for one that isn't readable
+  -- what a line does to the core that is answered so, and what it prints. A line `crash` stands here for one that isn't
+  -- readable
   abbrev pub AnswersSo : Said → Answer → View D → View D → List ℕ → Type 0
   AnswersSo said Given old new out = Does said old new out
   AnswersSo said Bad old new out = IsBad said old new out
@@ -175,15 +177,15 @@ module _ {D : Type 0} (disks : PageDisk D) (can_crash : D → Type 0) (volatile_
   AnswersOver said old status new after out =
       (can : Bool) × (IsTrue can ↔ can_crash old.disk) × Answers disks (said_to can said) old new out × (after ≡ status_after (said_to can said) status)
 
-  -- a line that isn't a readable `crash` is answered by the core, which makes room first where it has to; and after a crash the core goes on
-  -- that is opened then
+  -- a line that isn't a readable `crash` is answered by the core, which makes room first where it has to; and after a
+  -- crash the core goes on that is opened then
   abbrev pub GoesOn : Said → (old : View D) (status : ℕ) → (new : View D) (after : ℕ) → List ℕ → Type 0
   GoesOn said old status new after out =
       (((mask : List Bool) → ¬ IsCrash can_crash volatile_count said old mask) × (ready : View D) × MakesRoom old ready × AnswersOver said ready status new after out)
       ⊎ ((mask : List Bool) × IsCrash can_crash volatile_count said old mask × Crashes disks can_crash volatile_count mask old new out × (after ≡ status))
 
-  -- A script runs: nothing is left of it; or its first line is answered and the rest runs; or no store is opened after a crash, and
-  -- it ends with no core. Each line ends with a line feed, the last one may end with the text.
+  -- A script runs: nothing is left of it; or its first line is answered and the rest runs; or no store is opened after
+  -- a crash, and it ends with no core. Each line ends with a line feed, the last one may end with the text.
   pub data Runs : List ℕ → View D → ℕ → Option (View D) → ℕ → List ℕ → Type 0 where
     ended : (v : View D) (status : ℕ) → Runs [] v status (Some v) status []
     then_runs : (text : List ℕ) (old mid : View D) (new : Option (View D)) (status after last : ℕ) (out rest : List ℕ)

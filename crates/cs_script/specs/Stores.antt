@@ -20,7 +20,8 @@ module _ {D : Type 0} (disks : PageDisk D) (can_crash : D → Type 0) (volatile_
   RunsOverInPart (Ok core) text status out = (left : Option (View D)) × RunsInPart disks can_crash volatile_count text core left status out
   RunsOverInPart (Err refusal) text status out = (status ≡ 3) × (out ≡ refusal_line refusal)
 
-  -- a script runs with a watcher over the store that there is; or there is none, which is printed, and the watcher isn't told
+  -- a script runs with a watcher over the store that there is; or there is none, which is printed, and the watcher
+  -- isn't told
   abbrev pub RunsOverWatched : {V : Type 0} → (meets : V → ℕ → List ℕ → LineFault → Onward → V → Type 0) → Result (View D) Refusal → List ℕ → V → ℕ → V → List ℕ → Type 0
   RunsOverWatched meets (Ok core) text watcher status told out = (left : Option (View D)) × RunsWatched disks can_crash volatile_count meets text 1 core 0 watcher left status told out
   RunsOverWatched meets (Err refusal) text watcher status told out = (status ≡ 3) × (told ≡ watcher) × (out ≡ refusal_line refusal)

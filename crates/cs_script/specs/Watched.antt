@@ -69,8 +69,8 @@ module _ {D : Type 0} (disks : PageDisk D) (can_crash : D → Type 0) (volatile_
     abbrev pub EndsSo : (line : List ℕ) (number : ℕ) → (old : View D) (status : ℕ) (watcher : V) → Option (View D) → ℕ → V → List ℕ → Type 0
     EndsSo line number old status watcher left last told out = IsStopped line number old status watcher left last told out ⊎ IsLost line number old watcher left last told out
 
-    -- A script runs from a line of this number on: nothing is left of it; or its first line is answered, and the rest runs; or its first line ends it.
-    -- Each line ends with a line feed, the last one may end with the text.
+    -- A script runs from a line of this number on: nothing is left of it; or its first line is answered, and the rest
+    -- runs; or its first line ends it. Each line ends with a line feed, the last one may end with the text.
     pub data RunsWatched : List ℕ → ℕ → View D → ℕ → V → Option (View D) → ℕ → V → List ℕ → Type 0 where
       all_ran : (number : ℕ) (core : View D) (status : ℕ) (watcher : V) → RunsWatched [] number core status watcher (Some core) status watcher []
       went_on : (text : List ℕ) (number : ℕ) (old mid : View D) (left : Option (View D)) (status after last : ℕ) (watcher told end : V) (out rest : List ℕ)

@@ -44,8 +44,8 @@ pub enum BadLine {
 }
 
 impl BadLine {
-    /// Why a line that isn't readable isn't, over a disk that can crash, or one that can't, as in a file. Of a line that is readable
-    /// what it gives means nothing.
+    /// Why a line that isn't readable isn't, over a disk that can crash, or one that can't, as in a file. Of a line
+    /// that is readable what it gives means nothing.
     pub fn of(text: &[u8], crashable: bool) -> BadLine
         ensures { IsWhy crashable text.now result }
     {

@@ -13,9 +13,9 @@ use std::alloc::Global;
 use std::io::{Read, Write};
 use std::{io, str};
 
-/// Reads a plan document to its end, prints `optimal` and the number of its plan's flushes, or why it is refused, and gives
-/// the exit status: 0, 1 where it is refused, 4 where the reader or the writer failed, the input didn't end, or its text
-/// found no memory. The reader is read at most 4,294,967,296 times.
+/// Reads a plan document to its end, prints `optimal` and the number of its plan's flushes, or why it is refused, and
+/// gives the exit status: 0, 1 where it is refused, 4 where the reader or the writer failed, the input didn't end, or
+/// its text found no memory. The reader is read at most 4,294,967,296 times.
 pub fn run_check<R: Read + Drop, W: Write>(alloc: Global, reader: R, writer: &mut W) -> u8
     // What is printed, and the status, are those of a check of the text.
     ensures check { (text : List ℕ) → R.remaining reader ≡ Some text → result < 4 → (out : List ℕ) × Checks text result out × Appends (W.contents writer.old) (W.contents writer.new) out }

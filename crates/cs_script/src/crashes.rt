@@ -43,12 +43,13 @@ fn fitting<'a, D: CrashDisk>(disk: &D, mask: &'a [bool]) -> Option<&'a [bool]>
 pub enum End<D: PageDisk> {
     /// No store was opened after a crash, which is printed.
     Unopened(Refusal),
-    /// The reader or the writer failed, or the line's text found no memory. What is left of the core, if one was opened.
+    /// The reader or the writer failed, or the line's text found no memory. What is left of the core, if one was
+    /// opened.
     Broken(Option<Core<D>>),
 }
 
-/// Crashes the disk, opens the store that is left, and prints what was kept and what was found. It gives the core with which the
-/// script goes on, or how it ends.
+/// Crashes the disk, opens the store that is left, and prints what was kept and what was found. It gives the core with
+/// which the script goes on, or how it ends.
 pub fn crash<D: CrashDisk + Drop, W: Write>(
     alloc: Global,
     core: Core<D>,
@@ -107,8 +108,8 @@ fn reopen<D: CrashDisk + Drop>(
     }
 }
 
-/// The core's disk, after a crash that kept of its volatile writes what the mask says. It isn't inlined, and neither is a line's
-/// run: with all that a script does in one function LLVM's vectorizer takes minutes.
+/// The core's disk, after a crash that kept of its volatile writes what the mask says. It isn't inlined, and neither is
+/// a line's run: with all that a script does in one function LLVM's vectorizer takes minutes.
 #[inline(never)]
 fn crashed_disk<D: CrashDisk>(core: Core<D>, mask: &[bool]) -> D
     requires { D.can_crash core.disk × (length mask.now ≡ D.volatile_count core.disk) }

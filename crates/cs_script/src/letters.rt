@@ -1,4 +1,5 @@
-//! The letters of families: of the first section of a superblock, of the root, and of the further sections in their order.
+//! The letters of families: of the first section of a superblock, of the root, and of the further sections in their
+//! order.
 ghost use Rattle.std.specs.Prelude.{◌≡◌};
 ghost use Rattle.cs_deps.specs.View.{pending_of};
 ghost use Rattle.cs_script.specs.Outputs.{letter_of};

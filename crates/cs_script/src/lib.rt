@@ -1,6 +1,7 @@
-//! What the program does beneath its command line: scripts, whose lines are `put`, `get`, `del`, `sweep`, `sync`, `step`, `plan`, `document`
-//! and `crash`, and the check of plan documents. All of it reads and writes streams that it is given. Races of threads on one node stand in a
-//! crate of their own; here are the numbers that one is run with, so that what reads them needs no node.
+//! What the program does beneath its command line: scripts, whose lines are `put`, `get`, `del`, `sweep`, `sync`,
+//! `step`, `plan`, `document` and `crash`, and the check of plan documents. All of it reads and writes streams that it
+//! is given. Races of threads on one node stand in a crate of their own; here are the numbers that one is run with, so
+//! that what reads them needs no node.
 #![tactic(auto)]
 
 mod answers;

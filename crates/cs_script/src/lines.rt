@@ -44,8 +44,8 @@ pub enum Line {
 impl Line {
     /// Reads a line without its line feed. Words are parted by spaces alone: a tab belongs to its word. An identifier
     /// is any text that `uuid` reads, a payload is hex digits in either case, or `-` for no byte, an extent is decimal
-    /// digits of a number below 2^64, and a mask is binary digits, or `-` for none. The only memory that it takes is for
-    /// a payload or a mask.
+    /// digits of a number below 2^64, and a mask is binary digits, or `-` for none. The only memory that it takes is
+    /// for a payload or a mask.
     pub fn read(alloc: Global, text: &[u8]) -> Result<Line, AllocError>
         ensures { IfOk result (λ line. said_by line ≡ said_of text.now) }
     {

@@ -17,8 +17,8 @@ use cs_writeback::the_core::{Core, Event};
 use std::io;
 use std::io::Write;
 
-/// Prints how all that was put would be made persistent: the rounds, the chain and the number of flushes. As a `sync` does,
-/// it stages the index's changes first; nothing is written back, and nothing is acknowledged.
+/// Prints how all that was put would be made persistent: the rounds, the chain and the number of flushes. As a `sync`
+/// does, it stages the index's changes first; nothing is written back, and nothing is acknowledged.
 pub fn plan<D: PageDisk, W: Write>(core: &mut Core<D>, writer: &mut W) -> io::Result<Answer>
     ensures { IfOk result (λ answer. (out : List ℕ) × AnswersSo D.PageDisk says_plan answer core.old core.new out × Appends (W.contents writer.old) (W.contents writer.new) out) }
 {
@@ -30,8 +30,8 @@ pub fn plan<D: PageDisk, W: Write>(core: &mut Core<D>, writer: &mut W) -> io::Re
 
 /// Stages the index's changes, and plans all that waits.
 ///
-/// Refused 5 InFlight where a round is out, with nothing staged; then as Stage is. Where the plan itself finds no memory, 9
-/// OutOfMemory, the changes stay staged.
+/// Refused 5 InFlight where a round is out, with nothing staged; then as Stage is. Where the plan itself finds no
+/// memory, 9 OutOfMemory, the changes stay staged.
 fn stage_and_plan<D: PageDisk>(core: &mut Core<D>) -> Result<Plan, Refusal>
     ensures staged { OnOk result (Stages D.PageDisk core.old core.new) }
     ensures best { IfOk result (λ plan. IsBestOfAll core.new.store (rounds_of plan) plan.chain.items) }

@@ -12,14 +12,14 @@ ghost use Rattle.cs_script.specs.declared.watchers.Onward.TheVariants.{GoOn};
 use crate::watchers::Watcher;
 use cs_disk::{CrashDisk, PageDisk};
 
-/// Whatever its disk does, a line `sync` is refused 1 DeviceFault, 9 OutOfMemory, 30 Full, 35 WornOut or 40 Halted, and nothing else: the events that
-/// it asks for are due, so it is never refused 5 InFlight, 41 HistoryFull or 42 NoRound.
+/// Whatever its disk does, a line `sync` is refused 1 DeviceFault, 9 OutOfMemory, 30 Full, 35 WornOut or 40 Halted, and
+/// nothing else: the events that it asks for are due, so it is never refused 5 InFlight, 41 HistoryFull or 42 NoRound.
 pub fn a_sync_line_is_never_out_of_turn<D: PageDisk>()
     ensures { (old new : View D) (r : Refusal) (before : List ℕ) → PrintsStop D.PageDisk old new r before → MayRefuseSync r }
 {}
 
-/// What a script with a watcher does and prints is what its first lines do and print without one; and all of its lines, with the same
-/// status, where the watcher never ends it.
+/// What a script with a watcher does and prints is what its first lines do and print without one; and all of its lines,
+/// with the same status, where the watcher never ends it.
 pub fn a_watched_script_is_a_script<D: CrashDisk, V: Watcher>()
     ensures part { (text : List ℕ) (core : View D) (watcher : V) (left : Option (View D)) (status : ℕ) (told : V) (out : List ℕ)
         → RunsWatched D.PageDisk D.can_crash D.volatile_count V.meets text 1 core 0 watcher left status told out

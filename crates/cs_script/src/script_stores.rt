@@ -13,9 +13,9 @@ use cs_writeback::the_core::Core;
 use std::alloc::Global;
 use std::io::{Read, Write};
 
-/// Runs a script over the store that was made or opened, or prints why there is none, and gives the exit status: that of the
-/// script, 3 where there is no store, and 4 where the reader or the writer failed, the input didn't end, or a line's text found no
-/// memory.
+/// Runs a script over the store that was made or opened, or prints why there is none, and gives the exit status: that
+/// of the script, 3 where there is no store, and 4 where the reader or the writer failed, the input didn't end, or a
+/// line's text found no memory.
 pub fn run_over<D: CrashDisk + Drop, R: Read + Drop, W: Write>(
     alloc: Global,
     store: Result<Core<D>, Refusal>,
@@ -31,8 +31,8 @@ pub fn run_over<D: CrashDisk + Drop, R: Read + Drop, W: Write>(
     run_over_watched(alloc, store, reader, writer, &mut Unwatched)
 }
 
-/// Runs a script over the store that was made or opened, as `run_over`, and tells a watcher of its lines, as `run_watched`. It isn't told
-/// why there is no store.
+/// Runs a script over the store that was made or opened, as `run_over`, and tells a watcher of its lines, as
+/// `run_watched`. It isn't told why there is no store.
 pub fn run_over_watched<D: CrashDisk + Drop, R: Read + Drop, W: Write, V: Watcher>(
     alloc: Global,
     store: Result<Core<D>, Refusal>,

@@ -31,10 +31,11 @@ use std::io::{BufRead, BufReader, Read, Write};
 /// What a script left behind.
 #[derive(Drop)]
 pub struct Ran<D: PageDisk> {
-    /// The exit status: 0, 1 where a line wasn't readable, 3 where the store couldn't be opened after a crash, 4 where the
-    /// reader or the writer failed, the input didn't end, or a line's text found no memory.
+    /// The exit status: 0, 1 where a line wasn't readable, 3 where the store couldn't be opened after a crash, 4 where
+    /// the reader or the writer failed, the input didn't end, or a line's text found no memory.
     pub status: u8,
-    /// The core with what was added to its history, of which checkpoints may have replaced the most, or none where the store couldn't be opened after a crash.
+    /// The core with what was added to its history, of which checkpoints may have replaced the most, or none where the
+    /// store couldn't be opened after a crash.
     pub core: Option<Core<D>>,
 }
 
@@ -70,8 +71,8 @@ pub fn run_script<D: CrashDisk + Drop, R: Read + Drop, W: Write>(
     run_watched(alloc, core, reader, writer, &mut Unwatched)
 }
 
-/// Runs a script, and tells a watcher of each line that isn't readable or is refused, once what it prints is written out. Where the
-/// watcher says so, the script ends after that line with status 1; what it did and printed stays.
+/// Runs a script, and tells a watcher of each line that isn't readable or is refused, once what it prints is written
+/// out. Where the watcher says so, the script ends after that line with status 1; what it did and printed stays.
 pub fn run_watched<D: CrashDisk + Drop, R: Read + Drop, W: Write, V: Watcher>(
     alloc: Global,
     core: Core<D>,
@@ -160,8 +161,8 @@ fn without_line_feed(line: &[u8]) -> &[u8]
     }
 }
 
-/// Runs the line of this number, and tells the watcher what is wrong with it. It gives with what the script goes on, or what it left
-/// behind.
+/// Runs the line of this number, and tells the watcher what is wrong with it. It gives with what the script goes on, or
+/// what it left behind.
 fn watch_line<D: CrashDisk + Drop, W: Write, V: Watcher>(
     alloc: Global,
     going: Going<D>,
@@ -258,8 +259,8 @@ fn fault_of(answer: Answer, text: &[u8], crashable: bool) -> Option<LineFault>
     }
 }
 
-/// The line as it is answered over a disk of which it is told whether it can crash: where it can't, as in a file, a line `step`
-/// isn't readable.
+/// The line as it is answered over a disk of which it is told whether it can crash: where it can't, as in a file, a
+/// line `step` isn't readable.
 fn line_to(crashable: bool, line: Line) -> Line
     ensures { said_by result ≡ said_to crashable (said_by line) }
 {
@@ -279,7 +280,8 @@ fn after_line(line: &Line, status: u8) -> u8
     }
 }
 
-/// Answers a line that is no `crash` that fits the disk. It gives the core and how the line was answered, once all is written out.
+/// Answers a line that is no `crash` that fits the disk. It gives the core and how the line was answered, once all is
+/// written out.
 fn answer_line<D: PageDisk, W: Write>(
     alloc: Global,
     core: Core<D>,

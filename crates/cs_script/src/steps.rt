@@ -13,8 +13,8 @@ use cs_writeback::the_core::{Core, Event, Reply};
 use std::io;
 use std::io::Write;
 
-/// Makes one event of writeback and prints what it did: the next member of the round that is out is issued, or the round
-/// ends where all are, or a round begins where none is out.
+/// Makes one event of writeback and prints what it did: the next member of the round that is out is issued, or the
+/// round ends where all are, or a round begins where none is out.
 pub fn step<D: PageDisk, W: Write>(core: &mut Core<D>, writer: &mut W) -> io::Result<Answer>
     ensures { IfOk result (λ answer. (out : List ℕ) × AnswersSo D.PageDisk says_step answer core.old core.new out × Appends (W.contents writer.old) (W.contents writer.new) out) }
 {

@@ -12,8 +12,9 @@ use cs_writeback::the_core::Core;
 use std::io;
 use std::io::Write;
 
-/// Moves what is live on an extent, retires it, and prints how many chunks were moved and under which root. A sweep that is
-/// refused after it began is abandoned: what was copied counts where it lay (in the older formats it stays where it was moved to).
+/// Moves what is live on an extent, retires it, and prints how many chunks were moved and under which root. A sweep
+/// that is refused after it began is abandoned: what was copied counts where it lay (in format 2 it stays where it was
+/// moved to).
 pub fn sweep<D: PageDisk, W: Write>(
     core: &mut Core<D>,
     extent: usize,

@@ -30,7 +30,8 @@ pub enum Onward {
 
 /// Is told of each line that isn't readable or is refused, once its lines are printed.
 pub trait Watcher {
-    /// The watcher, the number of the line, its text and what is wrong with it, what the watcher says, and the watcher then.
+    /// The watcher, the number of the line, its text and what is wrong with it, what the watcher says, and the watcher
+    /// then.
     ghost meets: { Self → ℕ → List ℕ → Fault → Next → Self → Type 0 };
 
     /// Tells of a line without its line feed. The first line is number 1, and remarks and empty lines count.

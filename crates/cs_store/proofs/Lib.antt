@@ -4,6 +4,7 @@ pub mod Commands
 pub mod Accepting
 pub mod Asking
 pub mod Deleting
+pub mod Saying
 pub mod Fenced
 pub mod Filling
 pub mod Getting

@@ -22,7 +22,8 @@ use Rattle.cs_core.specs.Views.{Applies, IsIn, IsReached, IsUntouched, View}
 use Rattle.cs_writeback.specs.Runs.{Ran}
 use Rattle.cs_store.specs.Maps.{Accepts}
 
--- what a crash may leave: the map after some of the commands of the new core, none of those left out that were persistent in the old one
+-- what a crash may leave: the map after some of the commands of the new core, none of those left out that were
+-- persistent in the old one
 abbrev pub Left : {D : Type 0} → (old new : View D) → Image → Type 0
 Left old new = IsPrefix (shape old.store.extents) (page old.opened) (commands_said new.history) old.store.frontier new.store.accepted
 

@@ -20,7 +20,8 @@ module _ {D : Type 0} (disks : PageDisk D) where
   abbrev pub Does : (old : View D) → Event → Reply → (new : View D) → Type 0
   Does old event reply new = (ready : View D) × IsMadeReady disks old ready × Went disks ready ((event, reply) ∷ []) new
 
-  -- The same, with the state of the machine in which the store is once it is made ready: as far as commands go it is as it was.
+  -- The same, with the state of the machine in which the store is once it is made ready: as far as commands go it is as
+  -- it was.
   pub record DoesFrom (old : View D) (event : Event) (reply : Reply) (new : View D) : Type 0 where
     pub ready : View D
     pub machine : State

@@ -1,6 +1,8 @@
+pub mod Devices
 pub mod Errors
 pub mod Events
 pub mod Gets
+pub mod Identities
 pub mod Maps
 pub mod Opening
 pub mod Reclaims

@@ -17,8 +17,8 @@ pub record HasMap {D : Type 0} (v : View D) (m : Map) : Type 0 where
   pub after : (id : ℕ) → m id ≡ after_all start (commands_said v.history) id
 
 module _ {D : Type 0} (disks : PageDisk D) where
-  -- The store was opened on the same image, has the same shape, keeps as many events at most, and its disk is honest where it was; and these
-  -- commands were accepted since, newest first.
+  -- The store was opened on the same image, has the same shape, keeps as many events at most, and its disk is honest
+  -- where it was; and these commands were accepted since, newest first.
   pub record Accepts (commands : List Command) (old new : View D) : Type 0 where
     pub same_shape : shape new.store.extents ≡ shape old.store.extents
     pub opened : new.opened ≡ old.opened

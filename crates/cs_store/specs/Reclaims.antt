@@ -20,13 +20,14 @@ reclaimed_extent None = None
 reclaimed_extent (Some swept) = Some (swept.extent, swept.dead)
 
 module _ {D : Type 0} (disks : PageDisk D) where
-  -- After the reads the extent that was chosen is swept, so many chunks are moved off it and it is retired under this root; where none was chosen
-  -- nothing else is done.
+  -- After the reads the extent that was chosen is swept, so many chunks are moved off it and it is retired under this
+  -- root; where none was chosen nothing else is done.
   abbrev pub Reclaims : (read : View D) → Option Reclaimed → (new : View D) → Type 0
   Reclaims read None new = new ≡ read
   Reclaims read (Some swept) new = SweepsReady disks swept.extent read new swept.moved swept.root
 
-  -- The extent is chosen by what reads find, and reclaimed after them: so of any pages that the disk has, and of all the chunks that live on them.
+  -- The extent is chosen by what reads find, and reclaimed after them: so of any pages that the disk has, and of all
+  -- the chunks that live on them.
   abbrev pub ReclaimsChosen : {E : Type 0} → (old : View D) → Result (Option Reclaimed) E → (new : View D) → Type 0
   ReclaimsChosen old result new = (view : ℕ → List ℕ) (chunks : List Chunk) → AreNewest old.store.graph (seen (disks.state old.disk)) view → AreLiveChunks (index_of old.store.index) chunks
       → IfOk result (λ found. (read : View D) × ReadsOn disks old read × Reclaims read found new

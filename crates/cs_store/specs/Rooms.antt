@@ -9,7 +9,8 @@ use Rattle.cs_core.specs.Views.{View, kept}
 use Rattle.cs_writeback.specs.Histories.{MakesRoom}
 use Rattle.cs_writeback.specs.Syncs.{StopsSync, Syncs}
 
--- how it is told that a history isn't replaced after a sync: 41 HistoryFull where the store isn't settled, as an extent is being swept still
+-- how it is told that a history isn't replaced after a sync: 41 HistoryFull where the store isn't settled, as an extent
+-- is being swept still
 abbrev pub room_refusal : Refusal → Refusal
 room_refusal Unsettled = HistoryFull
 room_refusal refusal = refusal
@@ -18,8 +19,8 @@ room_refusal refusal = refusal
 abbrev pub IsSweeping : {D : Type 0} → View D → Type 0
 IsSweeping v = ¬ ((e : ℕ) → (extents_of v.store.extents).swept e ≡ false)
 
--- why no event can be kept, also after all was made persistent: none may be kept at all, or an extent is being swept, so that the events that are
--- kept can't be replaced
+-- why no event can be kept, also after all was made persistent: none may be kept at all, or an extent is being swept,
+-- so that the events that are kept can't be replaced
 abbrev pub HasNoRoom : {D : Type 0} → View D → Type 0
 HasNoRoom v = (v.limit ≡ 0) ⊎ IsSweeping v
 
@@ -28,8 +29,8 @@ module _ {D : Type 0} (disks : PageDisk D) where
   abbrev pub Empties : (full ready : View D) → Type 0
   Empties full ready = (synced : View D) × Syncs disks full synced × (n : ℕ) × Replaces synced n ready
 
-  -- What a store does so that an event can be kept: a checkpoint where at least half as many events are kept as may be and the store is settled;
-  -- and where as many are kept as may be all the same, a sync and then a checkpoint.
+  -- What a store does so that an event can be kept: a checkpoint where at least half as many events are kept as may be
+  -- and the store is settled; and where as many are kept as may be all the same, a sync and then a checkpoint.
   pub record IsMadeReady (old ready : View D) : Type 0 where
     pub room : View D
     pub made : MakesRoom old room

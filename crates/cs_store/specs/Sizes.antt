@@ -18,14 +18,14 @@ size_refusal size.BadLength = refusal.BadLength
 size_refusal size.BadVersion = refusal.BadVersion
 size_refusal size.Misplaced = refusal.Misplaced
 
--- what is told of an identifier that has this in the map: None where there is nothing; where there are bytes, how many, unless the device or memory
--- refuses; of a damaged shard some number, or the error of a header
+-- what is told of an identifier that has this in the map: None where there is nothing; where there are bytes, how many,
+-- unless the device or memory refuses; of a damaged shard some number, or the error of a header
 abbrev pub IsSized : Option Content → Result (Option ℕ) SizeError → Type 0
 IsSized content (Ok found) = IsSize content (Ok found)
 IsSized content (Err error) = IsSize content (Err (size_refusal error))
 
--- what the headers at these places say, as far as frames may reach in these extents: how many bytes together, None where there are no places; or the error
--- of the first header that fails, or that of device or memory
+-- what the headers at these places say, as far as frames may reach in these extents: how many bytes together, None
+-- where there are no places; or the error of the first header that fails, or that of device or memory
 abbrev pub IsSaidByHeaders : ExtentsState → (view : ℕ → List ℕ) → List Locator → Result (Option ℕ) SizeError → Type 0
 IsSaidByHeaders x view places (Ok found) = IsSaid x view places (Ok found)
 IsSaidByHeaders x view places (Err error) = IsSaid x view places (Err (size_refusal error))

@@ -1,5 +1,5 @@
-//! Why calls were refused: for each call an enum of just the refusals that it may have, under the numbers and names that all layers share. Each
-//! error prints as the refusal does.
+//! Why calls were refused: for each call an enum of just the refusals that it may have, under the numbers and names
+//! that all layers share. Each error prints as the refusal does.
 ghost use Rattle.std.specs.Prelude.{◌≡◌};
 ghost use Rattle.cs_store.specs.Errors.{IsDeleteRefusal, IsGetRefusal, IsOpenRefusal, IsPutRefusal, delete_refusal, get_refusal, open_refusal, put_refusal, sweep_refusal, sync_refusal};
 ghost use Rattle.cs_writeback.specs.Sweeps.{MayRefuseSweep};
@@ -37,13 +37,15 @@ pub enum PutError {
     Full,
     /// 31 TooLarge: the shard has more than the greatest number of chunks.
     TooLarge,
-    /// 32 IndexFull: the newest entries of the index would weigh more than they may. In the older formats: the index names as many identifiers as it may.
+    /// 32 IndexFull: the newest entries of the index would weigh more than they may. In the older formats: the index
+    /// names as many identifiers as it may.
     IndexFull,
     /// 35 WornOut: a number would pass its greatest value.
     WornOut,
     /// 40 Halted: a write or a flush failed earlier.
     Halted,
-    /// 41 HistoryFull: as many events are kept as may be, and an extent is being swept still, so that no checkpoint can be taken; or none may be kept at all.
+    /// 41 HistoryFull: as many events are kept as may be, and an extent is being swept still, so that no checkpoint can
+    /// be taken; or none may be kept at all.
     HistoryFull,
 }
 
@@ -80,7 +82,8 @@ pub enum DeleteError {
     WornOut,
     /// 40 Halted: a write or a flush failed earlier.
     Halted,
-    /// 41 HistoryFull: as many events are kept as may be, and an extent is being swept still, so that no checkpoint can be taken; or none may be kept at all.
+    /// 41 HistoryFull: as many events are kept as may be, and an extent is being swept still, so that no checkpoint can
+    /// be taken; or none may be kept at all.
     HistoryFull,
 }
 
@@ -121,7 +124,8 @@ pub enum GetError {
     BadPadding,
     /// 24 BadVersion: a chunk's format has another version, or the frame another kind.
     BadVersion,
-    /// 26 Misplaced: a whole frame lies where a chunk should, and it isn't the one that the index means; in stores of format 3 alone.
+    /// 26 Misplaced: a whole frame lies where a chunk should, and it isn't the one that the index means; never in
+    /// stores of format 2.
     Misplaced,
 }
 
@@ -184,7 +188,8 @@ impl SyncError {
 #[derive(Clone, Copy, Debug, PartialEq, Eq, Error)]
 #[error("{}", self.refusal())]
 pub enum SweepError {
-    /// 1 DeviceFault: a read of a chunk that is moved failed; or a write or a flush of the sync that makes room, and the store is halted then.
+    /// 1 DeviceFault: a read of a chunk that is moved failed; or a write or a flush of the sync that makes room, and
+    /// the store is halted then.
     DeviceFault,
     /// 9 OutOfMemory: memory was asked for and refused.
     OutOfMemory,
@@ -198,12 +203,13 @@ pub enum SweepError {
     BadPadding,
     /// 24 BadVersion: a chunk's format has another version, or the frame another kind.
     BadVersion,
-    /// 26 Misplaced: a whole frame lies where a chunk should, and it isn't the one that the index means; in stores of format 3 alone.
+    /// 26 Misplaced: a whole frame lies where a chunk should, and it isn't the one that the index means; never in
+    /// stores of format 2.
     Misplaced,
     /// 30 Full: no extent has room for what is moved or staged.
     Full,
-    /// 33 NotSweepable: the extent is open, empty, being swept or not there; in stores of format 3 it is empty, holds runs or isn't there, or a
-    /// sweep isn't over.
+    /// 33 NotSweepable: the extent is empty, holds runs or isn't there, or a sweep isn't over. In format 2: it is open,
+    /// empty, being swept or not there.
     NotSweepable,
     /// 34 StillLive: a chunk is live on the extent as it is to be retired.
     StillLive,
@@ -211,7 +217,8 @@ pub enum SweepError {
     WornOut,
     /// 40 Halted: a write or a flush failed earlier.
     Halted,
-    /// 41 HistoryFull: as many events are kept as may be, so that no further chunk is moved; or an extent is being swept still, so that no checkpoint can be taken.
+    /// 41 HistoryFull: as many events are kept as may be, so that no further chunk is moved; or an extent is being
+    /// swept still, so that no checkpoint can be taken.
     HistoryFull,
 }
 
@@ -258,9 +265,11 @@ pub enum OpenError {
     BadVersion,
     /// 25 OutOfOrder: the identifiers of the index don't rise.
     OutOfOrder,
-    /// 26 Misplaced: a whole frame lies where a run of the index should, and it isn't the one that the root means; in stores of format 3 alone.
+    /// 26 Misplaced: a whole frame lies where a run of the index should, and it isn't the one that the root means;
+    /// never in stores of format 2.
     Misplaced,
-    /// 27 RootLost: the root is older than one that a section of the superblock records as persistent; in stores of format 3 alone.
+    /// 27 RootLost: the root is older than one that a section of the superblock records as persistent; never in stores
+    /// of format 2.
     RootLost,
     /// 43 NotAStore: there is no store of that many pages.
     NotAStore,

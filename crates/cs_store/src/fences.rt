@@ -1,10 +1,11 @@
 //! How a store is opened to be written: what its opening passed over is fenced first.
-ghost use Rattle.std.specs.Prelude.{◌↔◌, ◌<◌, ◌≡◌, ◌≢◌, ◌⊎◌, Err, IfErr, IfOk, MatchResult, None, [], length};
+ghost use Rattle.std.specs.Prelude.{◌↔◌, ◌<◌, ◌≡◌, ◌≢◌, ◌⊎◌, Err, IfErr, IfOk, MatchResult, None, OnOk, [], length};
 ghost use Rattle.std.specs.List.{AllByRecursion, list_any};
 ghost use Rattle.cs_chunk.specs.Reads.{IsNoAnswer};
 ghost use Rattle.cs_core.specs.Openings.{IfStoreOn, IsOpened, IsOpenedAs};
 ghost use Rattle.cs_disk.specs.Disk.{Image, LeavesOnly, MayLeave, Rises, flushed, page, seen};
 ghost use Rattle.cs_extent.specs.State.{shape};
+ghost use Rattle.cs_mount.specs.Identities.{AreOfTwo, IsOfOne};
 ghost use Rattle.cs_mount.specs.Showing.{ShowsOn, findings_on, shown_on};
 ghost use Rattle.cs_mount.specs.StorePairs.{dimensions_on};
 ghost use Rattle.cs_reader.specs.Counts.{HasCount};
@@ -51,7 +52,7 @@ fn open_fenced<D: PageDisk + Drop>(
         (λ S n m. MatchResult result (λ again. IsOpenedAs S n m again.store again.found) (λ refused. IsNoAnswer refused.0)) }
     // No page is passed over any more.
     ensures fenced { D.honest (disk_below core.disk) → IfOk result (λ again. AllByRecursion (λ x. passed_over (finding_in (versions_of core.disk) (seen (D.state (disk_below again.disk))) x) ≡ None) (pairs_of core.disk)) }
-    // If it is refused, and a store of format 3 shows, the disk shows the same.
+    // If it is refused, and a store of format 4 shows, the disk shows the same.
     ensures kept { D.honest (disk_below core.disk) → IfErr result (λ refused. (image : Image) → length image ≡ D.page_count (disk_below core.disk) → dimensions_on (D.page_count (disk_below core.disk)) image ≢ None
         → state_shown core.disk ≡ record { durable = shown_on (D.page_count (disk_below core.disk)) image; volatile = [] } → shown_on (D.page_count (disk_below core.disk)) (seen (D.state refused.1)) ≡ shown_on (D.page_count (disk_below core.disk)) image) }
     ensures refusals { D.honest (disk_below core.disk) → IfErr result (λ refused. IsNoAnswer refused.0 ⊎ IsWhyNotOpened (D.page_count (disk_below core.disk)) (page (seen (state_shown core.disk))) refused.0) }
@@ -87,8 +88,13 @@ impl OpenOptions {
         // What was opened is what the disk showed before.
         ensures image { D.honest disk → IfOk result (λ opened. (opened.0.opened ≡ shown_on (D.page_count disk) (seen (D.state disk))) × (state_shown opened.0.disk ≡ record { durable = shown_on (D.page_count disk) (seen (D.state disk)); volatile = [] })) }
         ensures store { IfOk result (λ opened. IsOpened (D.honest disk) opened.0.opened opened.0.found opened.0.store) }
+        // Page 0 and the last page aren't of different stores.
+        ensures one { D.honest disk → OnOk result (IsOfOne (D.page_count disk) (seen (D.state disk))) }
+        // If they are, it is refused 43 before anything is flushed, unless the device or the memory refuses a call.
+        ensures two { D.honest disk → AreOfTwo (D.page_count disk) (seen (D.state disk))
+            → MatchResult result (λ opened. ⊥) (λ refused. (IsNoAnswer refused.0 ⊎ (refused.0 ≡ Refusal.NotAStore)) × (D.state refused.1 ≡ D.state disk)) }
         // Where the disk shows a store of some geometry with this map, that store is opened and has this map.
-        ensures recovers { D.honest disk → IfStoreOn (D.page_count disk) (page (shown_on (D.page_count disk) (seen (D.state disk))))
+        ensures recovers { D.honest disk → IsOfOne (D.page_count disk) (seen (D.state disk)) → IfStoreOn (D.page_count disk) (page (shown_on (D.page_count disk) (seen (D.state disk))))
             (λ S n m. MatchResult result (λ opened. (shape opened.0.store.extents ≡ S) × (opened.0.found.0 ≡ n) × HasCount (λ id. m id ≢ None) opened.0.found.1 × HasMap opened.0 m) (λ refused. IsNoAnswer refused.0)) }
         // They are what the disk held before.
         ensures findings { D.honest disk → IfOk result (λ opened. opened.1.items ≡ findings_on (D.page_count disk) (seen (D.state disk))) }
@@ -96,7 +102,7 @@ impl OpenOptions {
         ensures guarded { D.honest disk → IfOk result (λ opened. NoneIsPassedOver (findings_on (D.page_count disk) (seen (D.state (disk_below opened.0.disk))))) }
         // If it is refused, the disk shows the same.
         ensures shown { D.honest disk → IfErr result (λ refused. shown_on (D.page_count disk) (seen (D.state refused.1)) ≡ shown_on (D.page_count disk) (seen (D.state disk))) }
-        ensures refusals { D.honest disk → IfErr result (λ refused. IsNoAnswer refused.0 ⊎ IsWhyNotOpened (D.page_count disk) (page (shown_on (D.page_count disk) (seen (D.state disk)))) refused.0) }
+        ensures refusals { D.honest disk → IfErr result (λ refused. IsNoAnswer refused.0 ⊎ ((refused.0 ≡ Refusal.NotAStore) × AreOfTwo (D.page_count disk) (seen (D.state disk))) ⊎ IsWhyNotOpened (D.page_count disk) (page (shown_on (D.page_count disk) (seen (D.state disk)))) refused.0) }
         // Whatever the disk answers.
         ensures number { IfErr result (λ refused. IsOpeningRefusal refused.0) }
         ensures small { D.page_count disk < 10 → result ≡ Err (Refusal.NotAStore, disk) }

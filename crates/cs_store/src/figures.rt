@@ -44,8 +44,9 @@ pub struct StoreStats {
 }
 
 impl<D: PageDisk> Store<D> {
-    /// The figures of the store. Reads the first page of each live chunk, and goes through the index twice; takes memory for a list of all live chunks.
-    /// Where a header can't be read its chunk counts as unreadable. No event is kept of it, and a halted store answers it too.
+    /// The figures of the store. Reads the first page of each live chunk, and goes through the index twice; takes
+    /// memory for a list of all live chunks. Where a header can't be read its chunk counts as unreadable. No event is
+    /// kept of it, and a halted store answers it too.
     ///
     /// `AllocError` is 9 OutOfMemory.
     pub fn stats(&mut self) -> Result<StoreStats, AllocError>
@@ -178,7 +179,8 @@ impl<D: PageDisk> Store<D> {
         self.core.extents().geometry()
     }
 
-    /// How many extents are empty. Puts leave two of them empty and syncs one, so that there is room for a sweep. It goes through all extents.
+    /// How many extents are empty. Puts leave two of them empty and syncs one, so that there is room for a sweep. It
+    /// goes through all extents.
     pub fn empty_extents(&self) -> usize
         ensures { result ≡ empties (extents_of self.now.store.extents).pointer (shape self.now.store.extents).extents }
     {
@@ -205,9 +207,11 @@ impl<D: PageDisk> Store<D> {
         })
     }
 
-    /// Reads each live chunk and each run of the index, and names those that can't be read, each with its refusal: 20 BadMagic to 24 BadVersion or 26 Misplaced where it is
-    /// damaged, 1 DeviceFault where the device refused a read, when it may be whole. It goes on after each of them. Each page is read once; it takes
-    /// memory for a list of all live chunks, for the damages, and for one chunk at a time. No event is kept of it, and a halted store is scrubbed too.
+    /// Reads each live chunk and each run of the index, and names those that can't be read, each with its refusal: 20
+    /// BadMagic to 24 BadVersion or 26 Misplaced where it is damaged, 1 DeviceFault where the device refused a read,
+    /// when it may be whole. It goes on after each of them. Each page is read once; it takes memory for a list of all
+    /// live chunks, for the damages, and for one chunk at a time. No event is kept of it, and a halted store is
+    /// scrubbed too.
     ///
     /// `AllocError` is 9 OutOfMemory.
     pub fn scrub(&mut self) -> Result<Scrubbed, AllocError>

@@ -21,20 +21,22 @@ use cs_inspect::{first_on, ids, ids_from};
 use std::alloc::AllocError;
 
 impl<D: PageDisk> Store<D> {
-    /// The bytes under an identifier, None where there is nothing. Searches the index, and reads each page of each chunk once, from the newest write
-    /// to it that waits, else from the device. It takes memory for the bytes and for the pages of a chunk. No event is kept of it, and a halted store
-    /// answers it too.
+    /// The bytes under an identifier, None where there is nothing. Searches the index, and reads each page of each
+    /// chunk once, from the newest write to it that waits, else from the device. It takes memory for the bytes and for
+    /// the pages of a chunk. No event is kept of it, and a halted store answers it too.
     ///
-    /// Refused 1 DeviceFault where a read failed, 20 BadMagic, 21 BadDigest, 22 BadLength, 23 BadPadding or 24 BadVersion where a chunk is
-    /// damaged, by the first test that fails, 26 Misplaced where a whole frame lies there that isn't the one that the
-    /// index means, and 9 OutOfMemory.
+    /// Refused 1 DeviceFault where a read failed, 20 BadMagic, 21 BadDigest, 22 BadLength, 23 BadPadding or 24
+    /// BadVersion where a chunk is damaged, by the first test that fails, 26 Misplaced where a whole frame lies there
+    /// that isn't the one that the index means, and 9 OutOfMemory.
     pub fn get(&mut self, id: ShardId) -> Result<Option<Vec<u8>>, GetError>
         ensures answer { (m : Map) → HasMap self.old m → D.honest self.old.disk → IsGot (m (id_number id)) result }
-        // Whatever the disk does, the bytes are those that the places of the shard's chunks mean. These are what the map has, or one of
-        // these chunks and the map's at its place differ and agree in the first eight bytes of their digests (`what_places_mean_is_what_the_map_has`
-        // of the core). Places of the older formats mean nothing of that.
+        // Whatever the disk does, the bytes are those that the places of the shard's chunks mean. These are what the
+        // map has, or one of these chunks and the map's at its place differ and agree in the first eight bytes of their
+        // digests (`what_places_mean_is_what_the_map_has` of the core). Places of the older formats mean nothing of
+        // that.
         ensures meant { IfOk result (λ found. IfSome found (λ bytes. AreMeantBytes self.old.store (id_number id) bytes.items)) }
-        // Whatever the disk does, None is answered where the index has no places of the shard's chunks, and nowhere else.
+        // Whatever the disk does, None is answered where the index has no places of the shard's chunks, and nowhere
+        // else.
         ensures absent { (result ≡ Ok None) ↔ (live_at (index_of self.old.store.index) (id_number id) ≡ []) }
         ensures same { self.new ≡ record self.old { disk = self.new.disk } }
         ensures disk { OnlyReads D.PageDisk self.old.disk self.new.disk }
@@ -52,8 +54,8 @@ impl<D: PageDisk> Store<D> {
         }
     }
 
-    /// Whether there is something under an identifier, by the index alone: neither the device nor memory is asked for anything. Its chunks may be
-    /// damaged.
+    /// Whether there is something under an identifier, by the index alone: neither the device nor memory is asked for
+    /// anything. Its chunks may be damaged.
     pub fn contains(&self, id: ShardId) -> bool
         ensures map { (m : Map) → HasMap self.now m → D.honest self.now.disk → (IsTrue result ↔ (m (id_number id) ≢ None)) }
         ensures lookup { IsTrue result ↔ (live_at (index_of self.now.store.index) (id_number id) ≢ []) }
@@ -64,8 +66,9 @@ impl<D: PageDisk> Store<D> {
         self.core.contains(id)
     }
 
-    /// The identifiers of all shards that are there, by rising bytes. Takes memory for them, and time for all entries of the index; the disk isn't
-    /// asked, so a shard may be damaged. No event is kept of it, and a halted store answers it too.
+    /// The identifiers of all shards that are there, by rising bytes. Takes memory for them, and time for all entries
+    /// of the index; the disk isn't asked, so a shard may be damaged. No event is kept of it, and a halted store
+    /// answers it too.
     ///
     /// `AllocError` is 9 OutOfMemory.
     pub fn ids(&self) -> Result<Vec<ShardId>, AllocError>
@@ -80,8 +83,9 @@ impl<D: PageDisk> Store<D> {
         ids(self.alloc, self.core.index())
     }
 
-    /// The identifiers of the first so many shards that are there, from one on, by rising bytes: a page of a long list. The next page begins behind the
-    /// last of these. Takes memory for them, and time for their entries and for the deletions between them.
+    /// The identifiers of the first so many shards that are there, from one on, by rising bytes: a page of a long list.
+    /// The next page begins behind the last of these. Takes memory for them, and time for their entries and for the
+    /// deletions between them.
     ///
     /// `AllocError` is 9 OutOfMemory.
     pub fn ids_from(&self, from: ShardId, most: usize) -> Result<Vec<ShardId>, AllocError>
@@ -96,9 +100,10 @@ impl<D: PageDisk> Store<D> {
         ids_from(self.alloc, self.core.index(), from, most)
     }
 
-    /// The first chunk that lives on an extent, by identifier and then by number: what a sweep of it moves next; None where none lives there. After a
-    /// sweep was refused 20 BadMagic to 24 BadVersion or 26 Misplaced it is the one that can't be read: put its shard again or delete it, and sweep again. Takes no
-    /// memory, and time for the entries of the index up to it.
+    /// The first chunk that lives on an extent, by identifier and then by number: what a sweep of it moves next; None
+    /// where none lives there. After a sweep was refused 20 BadMagic to 24 BadVersion or 26 Misplaced it is the one
+    /// that can't be read: put its shard again or delete it, and sweep again. Takes no memory, and time for the entries
+    /// of the index up to it.
     pub fn first_on(&self, extent: usize) -> Option<LiveChunk>
         ensures { MatchOption result (NothingLive (index_of self.now.store.index) extent) (λ found. FirstLive (index_of self.now.store.index) extent (id_number found.id) found.chunk (place_of found.place)) }
     {

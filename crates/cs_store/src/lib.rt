@@ -6,18 +6,22 @@
 //! the persistent ones left out.
 #![tactic(auto)]
 
+mod devices;
 mod errors;
 mod fences;
 mod figures;
 mod gets;
+mod identities;
 mod options;
 mod puts;
 mod reclaims;
 mod sizes;
 mod stores;
 
+pub use devices::pages_said;
 pub use errors::{DeleteError, GetError, OpenError, PutError, SweepError, SyncError};
 pub use figures::{ExtentLook, StoreStats};
+pub use identities::{NO_IDENTITY, identified, new_identity};
 pub use options::OpenOptions;
 pub use reclaims::Reclaimed;
 pub use sizes::SizeError;
@@ -26,7 +30,7 @@ pub use stores::Store;
 // What callers need of the crates below, so that this one is enough.
 pub use cs_core::Limits;
 pub use cs_disk::{FileDisk, MemoryDisk, PageDisk};
-pub use cs_frame::{Format, Geometry, Locator, ShardId};
+pub use cs_frame::{Format, Geometry, Locator, ShardId, StoreId};
 pub use cs_index::LiveChunk;
 pub use cs_inspect::{Damage, ExtentUse, RunUse, Scrubbed, Stats};
 pub use cs_mount as mount;

@@ -34,14 +34,16 @@ fn copy_of(alloc: Global, bytes: &[u8]) -> Result<Bytes, AllocError>
 }
 
 impl<D: PageDisk> Store<D> {
-    /// Keeps these bytes under an identifier, in place of what was there, and gives the number that the put has among the commands accepted since
-    /// the store was opened. It is persistent once `sync` answers that number or a greater one, and a crash before may lose it.
+    /// Keeps these bytes under an identifier, in place of what was there, and gives the number that the put has among
+    /// the commands accepted since the store was opened. It is persistent once `sync` answers that number or a greater
+    /// one, and a crash before may lose it.
     ///
-    /// The bytes are copied once, and staged in memory; the disk is asked for nothing, but where as many events are kept as may be, when all that
-    /// was accepted is made persistent first, as by `sync`.
+    /// The bytes are copied once, and staged in memory; the disk is asked for nothing, but where as many events are
+    /// kept as may be, when all that was accepted is made persistent first, as by `sync`.
     ///
-    /// Refused 31 TooLarge, 32 IndexFull, 30 Full, 35 WornOut, 40 Halted, 9 OutOfMemory; 1 DeviceFault from that sync; and 41 HistoryFull where
-    /// as many events are kept as may be and an extent is being swept still. The map is as it was then.
+    /// Refused 31 TooLarge, 32 IndexFull, 30 Full, 35 WornOut, 40 Halted, 9 OutOfMemory; 1 DeviceFault from that sync;
+    /// and 41 HistoryFull where as many events are kept as may be and an extent is being swept still. The map is as it
+    /// was then.
     pub fn put(&mut self, id: ShardId, bytes: &[u8]) -> Result<u64, PutError>
         ensures done { IfOk result (λ n. Does D.PageDisk self.old (Put id bytes.now) (Accepted n) self.new) }
         ensures refused { IfErr result (λ error. DeclinesCopy D.PageDisk self.old (Put id bytes.now) (put_refusal error) self.new) }
@@ -57,7 +59,8 @@ impl<D: PageDisk> Store<D> {
         // It is made of calls of the core, one after another.
         ensures ran { Ran D.PageDisk self.old self.new }
         ensures rises { self.old.store.frontier ≤ self.new.store.frontier }
-        // A crash at any moment of it leaves the map after some of the commands, none of those left out that were persistent before.
+        // A crash at any moment of it leaves the map after some of the commands, none of those left out that were
+        // persistent before.
         ensures crash { D.honest self.old.disk → LeavesOnly D.moment D.left_since self.old.disk self.new.disk (IsPrefixBetween self.old self.new) }
         // A crash after it does so for the commands and the frontier then.
         ensures left { D.honest self.new.disk → Leaves (D.state self.new.disk) (IsPrefixOf self.new) }
@@ -78,13 +81,15 @@ impl<D: PageDisk> Store<D> {
         }
     }
 
-    /// Deletes what is under an identifier, and gives the number that the delete has among the commands accepted since the store was opened; None
-    /// where there is nothing under it, and then nothing is accepted. It is persistent once `sync` answers that number or a greater one.
+    /// Deletes what is under an identifier, and gives the number that the delete has among the commands accepted since
+    /// the store was opened; None where there is nothing under it, and then nothing is accepted. It is persistent once
+    /// `sync` answers that number or a greater one.
     ///
-    /// The disk is asked for nothing, but where as many events are kept as may be, when all that was accepted is made persistent first, as by `sync`.
+    /// The disk is asked for nothing, but where as many events are kept as may be, when all that was accepted is made
+    /// persistent first, as by `sync`.
     ///
-    /// Refused 35 WornOut, 40 Halted, 9 OutOfMemory; 1 DeviceFault or 30 Full from that sync; and 41 HistoryFull where as many events are kept as
-    /// may be and an extent is being swept still. The map is as it was then.
+    /// Refused 35 WornOut, 40 Halted, 9 OutOfMemory; 1 DeviceFault or 30 Full from that sync; and 41 HistoryFull where
+    /// as many events are kept as may be and an extent is being swept still. The map is as it was then.
     pub fn delete(&mut self, id: ShardId) -> Result<Option<u64>, DeleteError>
         ensures done { IfOk result (λ deleted. MatchOption deleted (Does D.PageDisk self.old (Delete id) Absent self.new) (λ n. Does D.PageDisk self.old (Delete id) (Accepted n) self.new)) }
         ensures refused { IfErr result (λ error. IsHalted self.old (delete_refusal error) self.new ⊎ Declines D.PageDisk self.old (Delete id) (delete_refusal error) self.new) }
@@ -103,7 +108,8 @@ impl<D: PageDisk> Store<D> {
         // It is made of calls of the core, one after another.
         ensures ran { Ran D.PageDisk self.old self.new }
         ensures rises { self.old.store.frontier ≤ self.new.store.frontier }
-        // A crash at any moment of it leaves the map after some of the commands, none of those left out that were persistent before.
+        // A crash at any moment of it leaves the map after some of the commands, none of those left out that were
+        // persistent before.
         ensures crash { D.honest self.old.disk → LeavesOnly D.moment D.left_since self.old.disk self.new.disk (IsPrefixBetween self.old self.new) }
         // A crash after it does so for the commands and the frontier then.
         ensures left { D.honest self.new.disk → Leaves (D.state self.new.disk) (IsPrefixOf self.new) }
@@ -153,11 +159,13 @@ pub(crate) fn ask_ready<D: PageDisk>(core: &mut Core<D>, event: &Event) -> Resul
     }
 }
 
-/// Makes room for an event: takes a checkpoint where at least half as many events are kept as may be and the store is settled; and where as many
-/// are kept as may be all the same, syncs and then takes one. So most calls cost nothing, one in so many goes through the events that are kept,
-/// and who never syncs pays for a sync once in as many events as may be kept.
+/// Makes room for an event: takes a checkpoint where at least half as many events are kept as may be and the store is
+/// settled; and where as many are kept as may be all the same, syncs and then takes one. So most calls cost nothing,
+/// one in so many goes through the events that are kept, and who never syncs pays for a sync once in as many events as
+/// may be kept.
 ///
-/// Refused as a sync is, 1 DeviceFault, 9 OutOfMemory, 30 Full, 35 WornOut or 40 Halted; and 41 HistoryFull where an extent is being swept still.
+/// Refused as a sync is, 1 DeviceFault, 9 OutOfMemory, 30 Full, 35 WornOut or 40 Halted; and 41 HistoryFull where an
+/// extent is being swept still.
 pub(crate) fn make_ready<D: PageDisk>(core: &mut Core<D>) -> Result<(), Refusal>
     ensures ready { OnOk result (IsMadeReady D.PageDisk core.old core.new) }
     ensures no_room { IfErr result (λ refusal. IsNoRoom D.PageDisk core.old refusal core.new) }

@@ -48,19 +48,24 @@ pub struct Reclaimed {
 }
 
 impl<D: PageDisk> Store<D> {
-    /// Sweeps the extent that is worth it, and says what it freed; None where none is. It sweeps as `sweep` does; a `sync` makes it persistent. To
-    /// choose, it reads the first page of each live chunk, and takes memory for a list of them.
+    /// Sweeps the extent that is worth it, and says what it freed; None where none is. It sweeps as `sweep` does; a
+    /// `sync` makes it persistent. To choose, it reads the first page of each live chunk, and takes memory for a list
+    /// of them.
     ///
-    /// It is the one with fewest live pages of those that hold chunks, where these and the live pages of another one have room on one extent
-    /// (`fewest_live` of cs_inspect). Sweeps of such two give an extent, the first one or the second.
+    /// It is the one with fewest live pages of those that hold chunks, where these and the live pages of another one
+    /// have room on one extent (`fewest_live` of cs_inspect). Sweeps of such two give an extent, the first one or the
+    /// second.
     ///
-    /// In the older formats it is the extent with most pages that no shard has, where these are more than the index takes that the sweep writes
-    /// anew. So each call that answers something frees pages, and a loop that ends at None ends.
+    /// In the older formats it is the extent with most pages that no shard has, where these are more than the index
+    /// takes that the sweep writes anew. So each call that answers something frees pages, and a loop that ends at None
+    /// ends.
     ///
-    /// Refused as `sweep` is. 33 NotSweepable isn't to come, since only an extent is chosen that can be swept; the contracts leave it open. In stores of
-    /// format 3 it comes while an extent is marked still (`abandon`), and after a sweep that was given up until a `sync`.
+    /// Refused as `sweep` is. 33 NotSweepable comes while an extent is marked still (`abandon`), and after a sweep that
+    /// was given up until a `sync`. In format 2 it isn't to come, since only an extent is chosen that can be swept; the
+    /// contracts leave it open.
     pub fn reclaim(&mut self) -> Result<Option<Reclaimed>, SweepError>
-        // What is chosen is chosen by the extents as they are and the headers of their chunks, which are read first, and then it is swept.
+        // What is chosen is chosen by the extents as they are and the headers of their chunks, which are read first,
+        // and then it is swept.
         ensures chosen { D.honest self.old.disk → ReclaimsChosen D.PageDisk self.old result self.new }
         ensures none { result ≡ Ok None → ReadsOn D.PageDisk self.old self.new }
         ensures done { IfOk result (λ found. (swept : Reclaimed) → found ≡ Some swept → (read : View D) × ReadsOn D.PageDisk self.old read × SweepsReady D.PageDisk swept.extent read self.new swept.moved swept.root) }
@@ -76,7 +81,8 @@ impl<D: PageDisk> Store<D> {
         // It is made of calls of the core, one after another.
         ensures ran { Ran D.PageDisk self.old self.new }
         ensures rises { self.old.store.frontier ≤ self.new.store.frontier }
-        // A crash at any moment of it leaves the map after some of the commands, none of those left out that were persistent before.
+        // A crash at any moment of it leaves the map after some of the commands, none of those left out that were
+        // persistent before.
         ensures crash { D.honest self.old.disk → LeavesOnly D.moment D.left_since self.old.disk self.new.disk (IsPrefixBetween self.old self.new) }
         // A crash after it does so for the commands and the frontier then.
         ensures left { D.honest self.new.disk → Leaves (D.state self.new.disk) (IsPrefixOf self.new) }
@@ -146,16 +152,18 @@ pub(crate) fn sweep_ready<D: PageDisk>(core: &mut Core<D>, extent: usize) -> Res
 }
 
 impl<D: PageDisk> Store<D> {
-    /// Moves what is live on an extent off it and retires it, so that its pages can be written anew once that is persistent, and gives how many chunks
-    /// were moved and under which root it was retired. Each chunk is read and staged again. A sweep that is refused after it began is abandoned; what
-    /// was moved stays where it is then, and in stores of format 3 lies where it lay.
+    /// Moves what is live on an extent off it and retires it, so that its pages can be written anew once that is
+    /// persistent, and gives how many chunks were moved and under which root it was retired. Each chunk is read and
+    /// staged again. A sweep that is refused after it began is abandoned; what was moved lies where it lay then. In
+    /// format 2 it stays where it is.
     ///
-    /// Refused 33 NotSweepable where the extent is open, empty, being swept or not there, in stores of format 3 where it is empty, holds runs or isn't
-    /// there, where any extent is being swept, and after a sweep that was given up until a `sync`; 1 DeviceFault; 9 OutOfMemory, where the extent may be being
-    /// swept still; 20 BadMagic, 21 BadDigest, 22 BadLength, 23 BadPadding or 24 BadVersion where a chunk is damaged, and 26 Misplaced where
-    /// another frame lies there, of the chunk that `first_on` tells; 30 Full; 34 StillLive; 35 WornOut;
-    /// 40 Halted; and 41 HistoryFull where more chunks are to be moved than further events may be kept, of which it makes sure of one alone: sync ahead
-    /// of it, or sweep again.
+    /// Refused 33 NotSweepable where the extent is empty, holds runs or isn't there, where any extent is being swept,
+    /// and after a sweep that was given up until a `sync` (in format 2 where it is open, empty, being swept or not
+    /// there); 1 DeviceFault; 9 OutOfMemory, where the extent may be being swept still; 20 BadMagic, 21 BadDigest, 22
+    /// BadLength, 23 BadPadding or 24 BadVersion where a chunk is damaged, and 26 Misplaced where another frame lies
+    /// there, of the chunk that `first_on` tells; 30 Full; 34 StillLive; 35 WornOut; 40 Halted; and 41 HistoryFull
+    /// where more chunks are to be moved than further events may be kept, of which it makes sure of one alone: sync
+    /// ahead of it, or sweep again.
     pub fn sweep(&mut self, extent: usize) -> Result<Swept, SweepError>
         ensures done { IfOk result (λ swept. SweepsReady D.PageDisk extent self.old self.new swept.moved swept.root) }
         ensures refused { IfErr result (λ error. IsHalted self.old (sweep_refusal error) self.new ⊎ DeclinesSweep D.PageDisk extent self.old self.new (sweep_refusal error)) }
@@ -167,7 +175,8 @@ impl<D: PageDisk> Store<D> {
         // It is made of calls of the core, one after another.
         ensures ran { Ran D.PageDisk self.old self.new }
         ensures rises { self.old.store.frontier ≤ self.new.store.frontier }
-        // A crash at any moment of it leaves the map after some of the commands, none of those left out that were persistent before.
+        // A crash at any moment of it leaves the map after some of the commands, none of those left out that were
+        // persistent before.
         ensures crash { D.honest self.old.disk → LeavesOnly D.moment D.left_since self.old.disk self.new.disk (IsPrefixBetween self.old self.new) }
         // A crash after it does so for the commands and the frontier then.
         ensures left { D.honest self.new.disk → Leaves (D.state self.new.disk) (IsPrefixOf self.new) }
@@ -187,9 +196,9 @@ impl<D: PageDisk> Store<D> {
         }
     }
 
-    /// Takes the mark off an extent that is being swept: what a sweep leaves to do that was refused 9 OutOfMemory. Where one is marked no checkpoint can
-    /// be taken, so that puts are refused 41 HistoryFull at last. What was moved stays where it is, and in stores of format 3 lies where it lay. Neither
-    /// the disk nor room for an event is needed.
+    /// Takes the mark off an extent that is being swept: what a sweep leaves to do that was refused 9 OutOfMemory.
+    /// Where one is marked no checkpoint can be taken, so that puts are refused 41 HistoryFull at last. What was moved
+    /// lies where it lay; in format 2 it stays where it is. Neither the disk nor room for an event is needed.
     ///
     /// Refused 33 NotSweepable where the extent isn't marked, 40 Halted and 9 OutOfMemory.
     pub fn abandon(&mut self, extent: usize) -> Result<(), SweepError>
@@ -206,7 +215,8 @@ impl<D: PageDisk> Store<D> {
         // It is made of calls of the core, one after another.
         ensures ran { Ran D.PageDisk self.old self.new }
         ensures rises { self.old.store.frontier ≤ self.new.store.frontier }
-        // A crash at any moment of it leaves the map after some of the commands, none of those left out that were persistent before.
+        // A crash at any moment of it leaves the map after some of the commands, none of those left out that were
+        // persistent before.
         ensures crash { D.honest self.old.disk → LeavesOnly D.moment D.left_since self.old.disk self.new.disk (IsPrefixBetween self.old self.new) }
         // A crash after it does so for the commands and the frontier then.
         ensures left { D.honest self.new.disk → Leaves (D.state self.new.disk) (IsPrefixOf self.new) }

@@ -36,7 +36,8 @@ pub enum SizeError {
     /// 24 BadVersion: a chunk's header has another version or another kind.
     #[error("a chunk's header has another version or kind")]
     BadVersion,
-    /// 26 Misplaced: the header is of another frame than the one that the index means, or its digest is damaged; in stores of format 3 alone.
+    /// 26 Misplaced: the header is of another frame than the one that the index means, or its digest is damaged; never
+    /// in stores of format 2.
     Misplaced,
 }
 
@@ -68,18 +69,21 @@ impl From<SizeError> for Refusal {
 }
 
 impl<D: PageDisk> Store<D> {
-    /// How many bytes a shard has, None where there is none: as many as `get` gives. Searches the index, and reads the first page alone of each chunk,
-    /// from the newest write to it that waits, else from the device. The bytes themselves aren't tested, so a damaged shard may have a size, though
-    /// `get` refuses it. No event is kept of it, and a halted store answers it too.
+    /// How many bytes a shard has, None where there is none: as many as `get` gives. Searches the index, and reads the
+    /// first page alone of each chunk, from the newest write to it that waits, else from the device. The bytes
+    /// themselves aren't tested, so a damaged shard may have a size, though `get` refuses it. No event is kept of it,
+    /// and a halted store answers it too.
     ///
-    /// Refused 1 DeviceFault or 9 OutOfMemory where the disk refused a read so, 20 BadMagic, 22 BadLength or 24 BadVersion where the header of a
-    /// chunk is damaged, by the first test that fails, and 26 Misplaced where it is that of another frame, or its digest is damaged.
+    /// Refused 1 DeviceFault or 9 OutOfMemory where the disk refused a read so, 20 BadMagic, 22 BadLength or 24
+    /// BadVersion where the header of a chunk is damaged, by the first test that fails, and 26 Misplaced where it is
+    /// that of another frame, or its digest is damaged.
     pub fn size_of(&mut self, id: ShardId) -> Result<Option<usize>, SizeError>
         ensures answer { (m : Map) → HasMap self.old m → D.honest self.old.disk → IsSized (m (id_number id)) result }
         // Also of a damaged shard what is told is what the headers say.
         ensures headers { D.honest self.old.disk → (view : ℕ → List ℕ) → AreNewest self.old.store.graph (seen (D.state self.old.disk)) view
             → IsSaidByHeaders self.old.store.extents view (map as_locator (live_at (index_of self.old.store.index) (id_number id))) result }
-        // Whatever the disk does, None is answered where the index has no places of the shard's chunks, and nowhere else.
+        // Whatever the disk does, None is answered where the index has no places of the shard's chunks, and nowhere
+        // else.
         ensures absent { (result ≡ Ok None) ↔ (live_at (index_of self.old.store.index) (id_number id) ≡ []) }
         ensures same { self.new ≡ record self.old { disk = self.new.disk } }
         ensures disk { OnlyReads D.PageDisk self.old.disk self.new.disk }

@@ -35,9 +35,9 @@ impl<D: PageDisk> Model for Store<D> {
 }
 
 impl<D: PageDisk> Store<D> {
-    /// What the pages held of which the store has two, before it was opened by `open_file` or `open_older_file`: those of
-    /// the root, which show as page 1, and of each section of the superblock. `Finding::passed_over` names a page that
-    /// was damaged. `open_file` filled it with bytes of 255.
+    /// What the pages held of which the store has two, before it was opened by `open_file` or `open_older_file`: those
+    /// of the root, which show as page 1, and of each section of the superblock. `Finding::passed_over` names a page
+    /// that was damaged. `open_file` filled it with bytes of 255.
     ///
     /// The list is empty for a store that was made, and for one of the older formats. It is also empty for one that
     /// `open`, `open_to_write` or `open_older` opened: they return it beside the store, with a contract. The value of a
@@ -58,11 +58,11 @@ impl<D: PageDisk> Store<D> {
         core.into_disk()
     }
 
-    /// Makes all accepted commands persistent, and gives how many they are since the store was opened. It is a write for each element that waits, and
-    /// a flush a round.
+    /// Makes all accepted commands persistent, and gives how many they are since the store was opened. It is a write
+    /// for each element that waits, and a flush a round.
     ///
-    /// Refused 1 DeviceFault, 9 OutOfMemory, 30 Full, 35 WornOut or 40 Halted. The map is as it was then, and what was persistent stays so; the
-    /// next sync goes on where this one stopped, unless the store is halted.
+    /// Refused 1 DeviceFault, 9 OutOfMemory, 30 Full, 35 WornOut or 40 Halted. The map is as it was then, and what was
+    /// persistent stays so; the next sync goes on where this one stopped, unless the store is halted.
     pub fn sync(&mut self) -> Result<u64, SyncError>
         ensures done { IfOk result (λ frontier. Syncs D.PageDisk self.old self.new × (frontier ≡ self.new.store.frontier)) }
         // What it gives is the number of commands accepted, so the whole map is persistent.
@@ -77,7 +77,8 @@ impl<D: PageDisk> Store<D> {
         // It is made of calls of the core, one after another.
         ensures ran { Ran D.PageDisk self.old self.new }
         ensures rises { self.old.store.frontier ≤ self.new.store.frontier }
-        // A crash at any moment of it leaves the map after some of the commands, none of those left out that were persistent before.
+        // A crash at any moment of it leaves the map after some of the commands, none of those left out that were
+        // persistent before.
         ensures crash { D.honest self.old.disk → LeavesOnly D.moment D.left_since self.old.disk self.new.disk (IsPrefixBetween self.old self.new) }
         // A crash after it does so for the commands and the frontier then.
         ensures left { D.honest self.new.disk → Leaves (D.state self.new.disk) (IsPrefixOf self.new) }

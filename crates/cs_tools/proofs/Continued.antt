@@ -1,10 +1,15 @@
 -- Bytes that are written behind others, whichever they are.
-use Rattle.std.proofs.Common.{◌≡◌, ◌∙◌, ℕ, List, ◌++◌, ap}
+use Rattle.std.proofs.Common.{◌≡◌, ◌∙◌, ℕ, List, [], ◌++◌, ap, append_assoc, sym}
+use Rattle.std.proofs.lemmas.List.{append-nil}
 use Rattle.std.specs.Prelude.{Option}
 use Rattle.std.specs.Io.KnownBytes.{Appends, Keeps}
-use Rattle.cs_tools.specs.Stats.{BeginsWith, GoesOn, geometry_text}
+use Rattle.cs_tools.specs.Stats.{BeginsWith, GoesOn, dimensions_text}
+use Rattle.cs_frame.specs.declared.identities.StoreId.{StoreId}
+use Rattle.cs_tools.specs.Tellings.{GrowsWith, two_text}
+use Rattle.cs_tools.specs.declared.advices.Todo.{Todo}
+use Rattle.cs_tools.specs.declared.advices.Todo.TheVariants.{TwoStores}
 use Rattle.cs_tools.specs.declared.outputs.Style.{Style}
-use Rattle.cs_tools.proofs.Appended.{appends_kept, appends_then}
+use Rattle.cs_tools.proofs.Appended.{appends_kept, appends_same, appends_then}
 
 pub goes_then : (a b c : Option (List ℕ)) → GoesOn a b → GoesOn b c → GoesOn a c
 goes_then a b c (xs, h) (ys, k) = (xs ++ ys, appends_then a b c xs ys h k)
@@ -17,14 +22,36 @@ pub begins_then : (a b c : Option (List ℕ)) (text : List ℕ) → Appends a b 
 begins_then a b c text h (ys, k) = (ys, appends_then a b c text ys h k)
 
 -- the same numbers have the same text
-pub same_geometry : (style : Style) (e p s f extents pages sections format : ℕ) → e ≡ extents → p ≡ pages → s ≡ sections → f ≡ format
-    → geometry_text style e p s f ≡ geometry_text style extents pages sections format
-same_geometry style e p s f extents pages sections format es ps ss fs =
-    ap (λ (n : ℕ). geometry_text style n p s f) es ∙ ap (λ (n : ℕ). geometry_text style extents n s f) ps
-    ∙ ap (λ (n : ℕ). geometry_text style extents pages n f) ss ∙ ap (λ (n : ℕ). geometry_text style extents pages sections n) fs
+pub same_dimensions : (style : Style) (e p s f extents pages sections format : ℕ) → e ≡ extents → p ≡ pages → s ≡ sections → f ≡ format
+    → dimensions_text style e p s f ≡ dimensions_text style extents pages sections format
+same_dimensions style e p s f extents pages sections format es ps ss fs =
+    ap (λ (n : ℕ). dimensions_text style n p s f) es ∙ ap (λ (n : ℕ). dimensions_text style extents n s f) ps
+    ∙ ap (λ (n : ℕ). dimensions_text style extents pages n f) ss ∙ ap (λ (n : ℕ). dimensions_text style extents pages sections n) fs
 
 -- the numbers of a geometry, one after another, and the end
 pub five_then : (a b c d e z : Option (List ℕ)) (ks ls ms ns end : List ℕ) → Appends a b ks → Appends b c ls → Appends c d ms → Appends d e ns → Appends e z end
     → Appends a z (ks ++ ls ++ ms ++ ns ++ end)
 five_then a b c d e z ks ls ms ns end k l m n last =
     appends_then a e z (ks ++ ls ++ ms ++ ns) end (appends_then a d e (ks ++ ls ++ ms) ns (appends_then a c d (ks ++ ls) ms (appends_then a b c ks ls k l) m) n) last
+
+-- ---- bytes in which some stand
+
+pub grows_same : (a b : Option (List ℕ)) (text : List ℕ) → Appends a b text → GrowsWith a b text
+grows_same a b text h = ([], [], appends_same a b text (text ++ []) (sym (append-nil text)) h)
+
+-- with others before them
+pub grows_behind : (a b c : Option (List ℕ)) (text : List ℕ) → GoesOn a b → GrowsWith b c text → GrowsWith a c text
+grows_behind a b c text (more, h) (front, behind, k) =
+    (more ++ front, behind, appends_same a c (more ++ (front ++ text ++ behind)) ((more ++ front) ++ text ++ behind) (sym (append_assoc more (front ++ text) behind) ∙ ap (λ l. l ++ behind) (sym (append_assoc more front text))) (appends_then a b c more (front ++ text ++ behind) h k))
+
+-- and with others behind them
+pub grows_on : (a b c : Option (List ℕ)) (text : List ℕ) → GrowsWith a b text → GoesOn b c → GrowsWith a c text
+grows_on a b c text (front, behind, h) (more, k) =
+    (front, behind ++ more, appends_same a c ((front ++ text ++ behind) ++ more) (front ++ text ++ (behind ++ more)) (append_assoc (front ++ text) behind more) (appends_then a b c (front ++ text ++ behind) more h k))
+
+-- two identities are told as they are named
+pub two_named : (todo : Todo) (f l first last : StoreId) → todo ≡ TwoStores f l → todo ≡ TwoStores first last → two_text f.0 l.0 ≡ two_text first.0 last.0
+two_named todo f l first last is told =
+    let one : f ≡ first = cc (is, told) in
+    let other : l ≡ last = cc (is, told) in
+    ap (λ (id : StoreId). two_text id.0 l.0) one ∙ ap (λ (id : StoreId). two_text first.0 id.0) other

@@ -8,6 +8,7 @@ pub mod Exported
 pub mod Exporting
 pub mod Getting
 pub mod Hexes
+pub mod Knowing
 pub mod Payloads
 pub mod Putting
 pub mod Quiet

@@ -1,5 +1,5 @@
 -- What was read of a store that is read for what can be got of it, by another fact that says that the disk is honest.
-use Rattle.std.proofs.Common.{ℕ, List, Some, None}
+use Rattle.std.proofs.Common.{◌⊎◌, ℕ, List, Some, None, inl, inr}
 use Rattle.std.specs.Prelude.{Option}
 use Rattle.cs_extent.specs.State.{State as ExtentsState}
 use Rattle.cs_frame.specs.declared.locators.Locator.{Locator}
@@ -7,6 +7,22 @@ use Rattle.cs_salvage.specs.Founds.{Found}
 use Rattle.cs_salvage.specs.Rescued.{IsOfNewest, IsRescued}
 use Rattle.cs_salvage.specs.Runs.{IsEndOf}
 use Rattle.cs_salvage.specs.declared.rescued_runs.DamagedRun.{DamagedRun}
+
+-- ---- why it is refused: by the rescue, or before that by the disk in pairs, as no answer or as of two stores
+
+pub of_rescue : {NoAnswer Two Why : Type 0} → NoAnswer ⊎ Why → NoAnswer ⊎ Two ⊎ Why
+of_rescue (inl none) = inl none
+of_rescue (inr why) = inr (inr why)
+
+pub of_pairs : {NoAnswer Two Why : Type 0} → NoAnswer ⊎ Two → NoAnswer ⊎ Two ⊎ Why
+of_pairs (inl none) = inl none
+of_pairs (inr two) = inr (inl two)
+
+pub no_store : {NoAnswer NotAStore Two : Type 0} → NoAnswer ⊎ (NotAStore × Two) → NoAnswer ⊎ NotAStore
+no_store (inl none) = inl none
+no_store (inr (not, two)) = inr not
+
+-- ---- what was read
 
 module _ (honest other : Type 0) (says : other → honest) where
   end_by : (x : ExtentsState) (view : ℕ → List ℕ) (places : List Locator) (left : ℕ) (damaged : Option DamagedRun) → IsEndOf honest x view places left damaged → IsEndOf other x view places left damaged

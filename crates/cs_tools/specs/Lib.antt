@@ -2,6 +2,7 @@ pub mod Changes
 pub mod Exports
 pub mod Gets
 pub mod Graphs
+pub mod Knowns
 pub mod Outcomes
 pub mod Outputs
 pub mod Pages

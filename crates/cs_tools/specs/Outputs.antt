@@ -16,6 +16,10 @@ quote = 34
 abbrev pub id_text : ShardId → List ℕ
 id_text id = hyphenated_text lower id.0
 
+-- the identity of a store, two hex digits a byte
+abbrev pub identity_text : (identity : List ℕ) → List ℕ
+identity_text identity = encode_lower identity
+
 -- what stands before and behind the identifier in its JSON object, and the line feed
 abbrev pub before_id : List ℕ
 before_id = 123 ∷ quote ∷ 105 ∷ 100 ∷ quote ∷ 58 ∷ quote ∷ []

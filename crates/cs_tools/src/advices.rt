@@ -1,12 +1,13 @@
 //! What a refusal means, and what to do about it.
-ghost use Rattle.std.specs.Prelude.{◌≡◌, ◌<◌, false, length};
-ghost use Rattle.cs_tools.specs.Advices.{says_make, words_of};
+ghost use Rattle.std.specs.Prelude.{◌≡◌, ◌≢◌, ◌<◌, false, length, true};
+ghost use Rattle.cs_tools.specs.Advices.{is_of_pages, moving_words, says_how_to_move, says_make, words_of};
 ghost use Rattle.cs_tools.specs.declared.advices.Todo.TheVariants.{Make};
-ghost use Rattle.cs_tools.specs.declared.knowns.Content.TheVariants.{Empty};
+ghost use Rattle.cs_tools.specs.declared.advices.Todo.TheVariants as todo;
+ghost use Rattle.cs_tools.specs.declared.knowns.Content.TheVariants.{Empty, Superseded, TwoStores, Written};
 
 use crate::knowns::{Content, Known};
 use cs_disk::SystemFault;
-use cs_frame::Format;
+use cs_frame::{FormatNumber, StoreId};
 use cs_refusal::Refusal;
 
 /// What to do about a refusal.
@@ -16,6 +17,12 @@ pub enum Todo {
     Make,
     /// The file has another number of pages than its superblock names.
     Length { pages: u64, wanted: u64 },
+    /// The device holds pages of these two stores: one has to be named.
+    TwoStores { first: StoreId, last: StoreId },
+    /// This page of the device isn't zeros, so something is on it.
+    Written { page: u64 },
+    /// The shards have to be moved into another store, as this text says.
+    Move(&'static str),
     /// What this text says.
     Text(&'static str),
 }
@@ -34,17 +41,17 @@ const ROOT_LOST: &str =
 
 /// Of a file in which a superblock names a store that can't be opened for its other pages.
 const NOT_WHOLE: &str =
-    "The file holds a store, but not all of it is there as it was written. Restore the file from a copy, or read what is left by `--salvage` (format 3).";
+    "The file holds a store, but not all of it is there as it was written. Restore the file from a copy, or read what is left by `--salvage`.";
 
 /// Of a store of an older format that is read in a way that it hasn't.
 const OLDER: &str =
-    "The file holds a store of format 2; `--as-of` and `export --salvage` read format 3 alone. Use the command without them, or `list --salvage` and `get --salvage`.";
+    "The file holds a store of format 2, of which `--as-of` and `export --salvage` read nothing. Use the command without them, or `list --salvage` and `get --salvage`.";
 
 /// Of a store of format 2 of whose superblock or root a page isn't whole.
 const BROKEN: &str =
     "A page is damaged that the store needs, and a store of format 2 has no other copy of it: restore the file from a copy.";
 
-/// Of a store of format 3 of whose superblock or root neither copy is whole.
+/// Of a store of whose superblock or root neither copy is whole.
 const TORN: &str =
     "Neither copy of a page is whole that the store needs. Copy the file before anything else is done with it, and restore it from an older copy; `export --salvage` reads the shards without the root.";
 
@@ -55,6 +62,10 @@ const LEFT: &str =
 /// Of a file that holds something else, as far as can be told.
 const FOREIGN: &str =
     "The file holds no store, or none that can be recognised: look at its name. If it held one, restore it from a copy.";
+
+/// Of a store of format 3.
+const SUPERSEDED: &str =
+    "The file holds a store of format 3, which this version doesn't read. Build the commit 8d0b7298936e: its `cs_cli export --file OLD` prints all shards as a script, for `cs_cli run --strict --file NEW` over a store that `cs_cli create NEW` made.";
 
 /// Of a file that wasn't looked into.
 const NO_STORE: &str =
@@ -123,6 +134,14 @@ pub fn system_text(fault: SystemFault) -> &'static str
 pub fn advice(refusal: Refusal, known: &Known) -> Todo
     ensures make { result ≡ Make → known.now.content ≡ Empty }
     ensures words { says_make (words_of result) ≡ false }
+    // Of pages of two stores both are named.
+    ensures two { (first last : _) → is_of_pages refusal ≡ true → known.now.content ≡ TwoStores first last → result ≡ todo.TwoStores first last }
+    // Of a store of format 3 it says which version reads it, and by which commands its shards come into another store.
+    ensures superseded { is_of_pages refusal ≡ true → known.now.content ≡ Superseded → says_how_to_move (moving_words result) ≡ true }
+    // Another store is advised for such a one alone.
+    ensures moves { (text : _) → result ≡ todo.Move text → known.now.content ≡ Superseded }
+    // Of a device that isn't empty it names the page.
+    ensures written { (page : _) → refusal ≡ Refusal.NotEmpty → known.now.content ≡ Written page → result ≡ todo.Written page }
 {
     match refusal {
         Refusal::DeviceFault => Todo::Text(advice_of_system(known.system)),
@@ -135,7 +154,21 @@ pub fn advice(refusal: Refusal, known: &Known) -> Todo
         | Refusal::OutOfOrder
         | Refusal::Misplaced
         | Refusal::RootLost => advice_of_content(refusal, known.content),
+        Refusal::NotEmpty => advice_of_written(known.content),
         _ => Todo::Text(advice_of_call(refusal)),
+    }
+}
+
+/// What to do about a file or a device that isn't empty, by what is known of it.
+fn advice_of_written(content: Content) -> Todo
+    ensures make { result ≢ Make }
+    ensures moves { (text : _) → result ≢ todo.Move text }
+    ensures words { says_make (words_of result) ≡ false }
+    ensures written { (page : _) → content ≡ Written page → result ≡ todo.Written page }
+{
+    match content {
+        Content::Written { page } => Todo::Written { page },
+        _ => Todo::Text(advice_of_call(Refusal::NotEmpty)),
     }
 }
 
@@ -143,6 +176,9 @@ pub fn advice(refusal: Refusal, known: &Known) -> Todo
 fn advice_of_content(refusal: Refusal, content: Content) -> Todo
     ensures make { result ≡ Make → content ≡ Empty }
     ensures words { says_make (words_of result) ≡ false }
+    ensures two { (first last : _) → content ≡ TwoStores first last → result ≡ todo.TwoStores first last }
+    ensures superseded { content ≡ Superseded → says_how_to_move (moving_words result) ≡ true }
+    ensures moves { (text : _) → result ≡ todo.Move text → content ≡ Superseded }
 {
     match content {
         Content::Empty => Todo::Make,
@@ -152,16 +188,23 @@ fn advice_of_content(refusal: Refusal, content: Content) -> Todo
         Content::Left => Todo::Text(LEFT),
         Content::Foreign => Todo::Text(FOREIGN),
         Content::Store { format } => Todo::Text(advice_of_store(refusal, format)),
-        Content::Unknown => Todo::Text(advice_of_damage(refusal, NO_STORE)),
+        Content::TwoStores { first, last } => Todo::TwoStores { first, last },
+        Content::Superseded => Todo::Move(SUPERSEDED),
+        Content::Unknown | Content::Written { .. } => Todo::Text(advice_of_damage(
+            refusal, NO_STORE,
+        )),
     }
 }
 
 /// What to do about a page of a store of this format.
-fn advice_of_store(refusal: Refusal, format: Format) -> &'static str
+fn advice_of_store(refusal: Refusal, format: FormatNumber) -> &'static str
     ensures some { 0 < length result.now }
     ensures words { says_make result.now ≡ false }
 {
-    let other = if format.has_twins() { NOT_WHOLE } else { OLDER };
+    let other = match format {
+        FormatNumber::Two => OLDER,
+        FormatNumber::Four => NOT_WHOLE,
+    };
     advice_of_damage(refusal, other)
 }
 
@@ -221,7 +264,7 @@ fn advice_of_call(refusal: Refusal) -> &'static str
             "The file is cut, has something behind its end, or holds no store. Copy it, and bring the copy to a multiple of 4,096 bytes by `truncate -s /4096 COPY` (down) or `truncate -s %4096 COPY` (up): what is refused then says how many pages its superblock names."
         }
         Refusal::BadGeometry => {
-            "A store of format 3 has 5 to 7,680 extents of 2 to 65,535 pages, and 1 to 15 sections of at most 512 extents; one of format 2 has 4 to 2,048 of 2 to 256, and 1 to 8 sections."
+            "A store has 5 to 7,680 extents of 2 to 65,535 pages, and 1 to 15 sections of at most 512 extents; one of format 2 has 4 to 2,048 of 2 to 256, and 1 to 8 sections."
         }
         Refusal::OutOfMemory => "Give the program more memory, and try again.",
         Refusal::BadDocument => {
@@ -234,7 +277,7 @@ fn advice_of_call(refusal: Refusal) -> &'static str
             "A shard has at most 8 chunks of an extent each: cut it into several shards, or `copy` all into a store with more pages an extent."
         }
         Refusal::IndexFull => {
-            "The index has as many entries as the store's geometry allows, in format 3 by their bytes: delete some shards and `reclaim`, or `copy` all into a store with more pages an extent."
+            "The entries of the index take as many bytes as the store's geometry allows, or in format 2 they are as many: delete some shards and `reclaim`, or `copy` all into a store with more pages an extent."
         }
         Refusal::NotSweepable => "No extent can be swept now: put something, and try again.",
         Refusal::StillLive => "Something lives on the extent still: try again.",

@@ -1,17 +1,21 @@
 //! What is known of a file beside how a command over it ended.
-ghost use Rattle.std.specs.Prelude.{◌≡◌, ◌≢◌, ◌↔◌, ◌<◌, ◌≤◌, None};
+ghost use Rattle.std.specs.Prelude.{◌≡◌, ◌≢◌, ◌↔◌, ◌<◌, ◌≤◌, IsTrue, None, Some, true};
+ghost use Rattle.cs_disk.specs.Disk.{page, seen};
 ghost use Rattle.cs_disk.specs.Reads.{OnlyReads};
-ghost use Rattle.cs_tools.specs.declared.knowns.Content.TheVariants.{Empty, Length, Unknown};
+ghost use Rattle.cs_tools.specs.declared.knowns.Content.TheVariants.{Empty, Length, Superseded, TwoStores, Unknown, Written};
+ghost use Rattle.cs_mount.specs.Identities.{stores_on};
+ghost use Rattle.cs_tools.specs.Knowns.{IsSuperseded, begins_superseded};
 
 use cs_disk::{PageDisk, SystemFault};
-use cs_frame::{
-    Format, FormatFault, Superblock, decode_root, decode_section, decode_superblock, device_pages,
-};
-use cs_mount::look;
+use cs_frame::{FormatNumber, StoreId, Superblock, decode_root, decode_section, decode_superblock};
+use cs_mount::{holds_superblock, look, two_stores};
 use std::alloc::Global;
 
 /// The page of the root.
 const ROOT: u64 = 1;
+
+/// How a superblock begins in the format that is read no more.
+const SUPERSEDED: &[u8; 4] = b"CSS3";
 
 /// How many of the last pages are read for a superblock.
 const LAST: u64 = 1_024;
@@ -26,15 +30,21 @@ pub enum Content {
     /// No store is recognised.
     Foreign,
     /// A superblock names a store of this format and of the device's pages.
-    Store { format: Format },
+    Store { format: FormatNumber },
     /// A superblock names a store of `wanted` pages, and the device has `pages`.
     Length { pages: u64, wanted: u64 },
-    /// A store of format 3, and neither page of this pair is whole.
+    /// A store of which neither page of this pair is whole.
     Torn { page: u64, twin: u64 },
     /// A store of format 2, which has one copy of each page, and its root or a section of its superblock isn't whole.
     Broken,
     /// What is left of a store: its root is whole, and no page that was read is its superblock.
     Left,
+    /// Pages of two stores: page 0 is of the first, and the last page is of the other.
+    TwoStores { first: StoreId, last: StoreId },
+    /// A store of a format that is read no more.
+    Superseded,
+    /// Something: this page of a device on which a store was to be made isn't zeros.
+    Written { page: u64 },
 }
 
 /// What is known of a file: its pages, and why the system refused a call.
@@ -45,6 +55,16 @@ pub struct Known {
 }
 
 impl Known {
+    /// This page of a device on which a store was to be made isn't zeros.
+    pub fn of_written(page: u64) -> Self
+        ensures { (result.content ≡ Written page) × (result.system ≡ None) }
+    {
+        Known {
+            content: Content::Written { page },
+            system: None,
+        }
+    }
+
     /// Nothing is known.
     pub fn nothing() -> Self
         ensures { (result.content ≡ Unknown) × (result.system ≡ None) }
@@ -66,7 +86,7 @@ impl Known {
 /// The store that a superblock names.
 #[derive(Clone, Copy)]
 struct Named {
-    format: Format,
+    format: FormatNumber,
     pages: u64,
     sections: u8,
 }
@@ -77,9 +97,8 @@ fn named_by(superblock: &Superblock) -> Option<Named> {
         return None;
     }
     Some(Named {
-        format: superblock.format,
-        pages: device_pages(
-            superblock.format,
+        format: superblock.format.number(),
+        pages: superblock.format.device_pages(
             superblock.extent_count,
             superblock.pages,
             superblock.sections,
@@ -94,7 +113,7 @@ fn named_in(alloc: Global, number: u64, bytes: &[u8; 4096]) -> Option<Named> {
     let read = if number == 0 {
         decode_superblock(alloc, bytes)
     } else {
-        decode_section(alloc, bytes, Format::three())
+        decode_section(alloc, bytes, FormatNumber::Four)
     };
     match read {
         Ok(superblock) => match named_by(&superblock) {
@@ -144,18 +163,59 @@ fn find_named<D: PageDisk>(alloc: Global, disk: &mut D) -> Option<Named>
 
 /// Whether the bytes of page 1 are a root, of any format.
 fn is_root(alloc: Global, bytes: &[u8; 4096]) -> bool {
-    decode_root(alloc, bytes, Format::two()).is_ok()
-        || decode_root(alloc, bytes, Format::three()).is_ok()
+    decode_root(alloc, bytes, FormatNumber::Two).is_ok()
+        || decode_root(alloc, bytes, FormatNumber::Four).is_ok()
+}
+
+/// Whether these bytes begin as a superblock does in the format that is read no more.
+fn begins_superseded(bytes: &[u8; 4096]) -> bool
+    ensures { result ≡ begins_superseded bytes.now }
+{
+    bytes[0..4] == SUPERSEDED[..]
+}
+
+/// Whether a page begins so. A page that can't be read doesn't.
+fn is_superseded_on<D: PageDisk>(disk: &mut D, number: u64) -> bool
+    requires { number < D.page_count disk.old }
+    ensures begins { D.honest disk.old → IsTrue result → begins_superseded (page (seen (D.state disk.old)) number) ≡ true }
+    ensures disk { OnlyReads D.PageDisk disk.old disk.new }
+{
+    let mut buffer = [0; 4096];
+    match disk.read(number, &mut buffer) {
+        Ok(()) => begins_superseded(&buffer),
+        Err(_) => false,
+    }
+}
+
+/// Whether page 0 begins so, or isn't whole while the last page does.
+fn is_superseded<D: PageDisk>(alloc: Global, disk: &mut D) -> bool
+    requires { 0 < D.page_count disk.old }
+    ensures superseded { D.honest disk.old → IsTrue result → IsSuperseded (D.page_count disk.old) (seen (D.state disk.old)) }
+    ensures disk { OnlyReads D.PageDisk disk.old disk.new }
+{
+    if is_superseded_on(disk, 0) {
+        return true;
+    }
+    let last = disk.pages() - 1;
+    match holds_superblock(alloc, disk) {
+        Ok(false) => is_superseded_on(disk, last),
+        _ => false,
+    }
 }
 
 /// What a device holds on which no page is a superblock.
 fn content_without<D: PageDisk>(alloc: Global, disk: &mut D) -> Content
     ensures some { result ≢ Empty }
     ensures length { (pages wanted : _) → result ≢ Length pages wanted }
+    ensures two { (first last : _) → result ≢ TwoStores first last }
+    ensures superseded { D.honest disk.old → result ≡ Superseded → IsSuperseded (D.page_count disk.old) (seen (D.state disk.old)) }
     ensures disk { OnlyReads D.PageDisk disk.old disk.new }
 {
     if disk.pages() <= ROOT {
         return Content::Foreign;
+    }
+    if is_superseded(alloc, disk) {
+        return Content::Superseded;
     }
     let mut buffer = [0; 4096];
     match disk.read(ROOT, &mut buffer) {
@@ -164,15 +224,17 @@ fn content_without<D: PageDisk>(alloc: Global, disk: &mut D) -> Content
     }
 }
 
-/// What a device holds that has a store of format 3 of its pages.
+/// What a device holds that has a store of its pages, of which superblock and root lie twice.
 fn content_of_pairs<D: PageDisk>(alloc: Global, disk: &mut D) -> Content
     ensures some { result ≢ Empty }
     ensures length { (pages wanted : _) → result ≢ Length pages wanted }
+    ensures two { (first last : _) → result ≢ TwoStores first last }
+    ensures superseded { result ≢ Superseded }
     ensures disk { OnlyReads D.PageDisk disk.old disk.new }
 {
     let Ok(findings) = look(alloc, disk) else {
         return Content::Store {
-            format: Format::three(),
+            format: FormatNumber::Four,
         };
     };
     for finding in &findings {
@@ -184,7 +246,7 @@ fn content_of_pairs<D: PageDisk>(alloc: Global, disk: &mut D) -> Content
         }
     }
     Content::Store {
-        format: Format::three(),
+        format: FormatNumber::Four,
     }
 }
 
@@ -195,8 +257,8 @@ fn is_whole<D: PageDisk>(alloc: Global, disk: &mut D, number: u64) -> bool
 {
     let mut buffer = [0; 4096];
     match disk.read(number, &mut buffer) {
-        Ok(()) if number == ROOT => decode_root(alloc, &buffer, Format::two()).is_ok(),
-        Ok(()) => decode_section(alloc, &buffer, Format::two()).is_ok(),
+        Ok(()) if number == ROOT => decode_root(alloc, &buffer, FormatNumber::Two).is_ok(),
+        Ok(()) => decode_section(alloc, &buffer, FormatNumber::Two).is_ok(),
         Err(_) => false,
     }
 }
@@ -218,24 +280,28 @@ fn are_sections<D: PageDisk>(alloc: Global, disk: &mut D, first: u64) -> bool
 fn content_of_sections<D: PageDisk>(alloc: Global, disk: &mut D, sections: u8) -> Content
     ensures some { result ≢ Empty }
     ensures length { (pages wanted : _) → result ≢ Length pages wanted }
+    ensures two { (first last : _) → result ≢ TwoStores first last }
+    ensures superseded { result ≢ Superseded }
     ensures disk { OnlyReads D.PageDisk disk.old disk.new }
 {
     let pages = disk.pages();
     let first = pages.saturating_add(1).saturating_sub(u64::from(sections));
     if pages > ROOT && is_whole(alloc, disk, ROOT) && are_sections(alloc, disk, first) {
         Content::Store {
-            format: Format::two(),
+            format: FormatNumber::Two,
         }
     } else {
         Content::Broken
     }
 }
 
-/// What a device of some pages holds.
-fn content_of<D: PageDisk>(alloc: Global, disk: &mut D) -> Content
+/// What a device of some pages holds that doesn't hold pages of two stores.
+fn content_of_one<D: PageDisk>(alloc: Global, disk: &mut D) -> Content
     requires { 0 < D.page_count disk.old }
     ensures some { result ≢ Empty }
     ensures length { (pages wanted : _) → result ≡ Length pages wanted → (pages ≡ D.page_count disk.old) × (wanted ≢ pages) }
+    ensures two { (first last : _) → result ≢ TwoStores first last }
+    ensures superseded { D.honest disk.old → result ≡ Superseded → IsSuperseded (D.page_count disk.old) (seen (D.state disk.old)) }
     ensures disk { OnlyReads D.PageDisk disk.old disk.new }
 {
     let pages = disk.pages();
@@ -245,17 +311,37 @@ fn content_of<D: PageDisk>(alloc: Global, disk: &mut D) -> Content
             pages,
             wanted: named.pages,
         },
-        Some(named) if named.format.has_twins() => content_of_pairs(alloc, disk),
-        Some(named) => content_of_sections(alloc, disk, named.sections),
+        Some(named) => match named.format {
+            FormatNumber::Four => content_of_pairs(alloc, disk),
+            FormatNumber::Two => content_of_sections(alloc, disk, named.sections),
+        },
+    }
+}
+
+/// What a device of some pages holds.
+fn content_of<D: PageDisk>(alloc: Global, disk: &mut D) -> Content
+    requires { 0 < D.page_count disk.old }
+    ensures some { result ≢ Empty }
+    ensures length { (pages wanted : _) → result ≡ Length pages wanted → (pages ≡ D.page_count disk.old) × (wanted ≢ pages) }
+    ensures two { (first last : _) → D.honest disk.old → result ≡ TwoStores first last → stores_on (D.page_count disk.old) (seen (D.state disk.old)) ≡ Some (first.0, last.0) }
+    ensures superseded { D.honest disk.old → result ≡ Superseded → IsSuperseded (D.page_count disk.old) (seen (D.state disk.old)) }
+    ensures disk { OnlyReads D.PageDisk disk.old disk.new }
+{
+    match two_stores(alloc, disk) {
+        Ok(Some((first, last))) => Content::TwoStores { first, last },
+        _ => content_of_one(alloc, disk),
     }
 }
 
 /// What is known of a device by its pages: which store a superblock on it names, and whether that is of the device's
-/// pages. It reads page 0, some of the last pages if page 0 isn't a superblock, and the pages that a store of format 3
-/// has twice. Pages that can't be read are taken for damaged ones.
+/// pages. It reads page 0 and the last page, and others of the last pages if page 0 isn't a superblock. It also reads
+/// the pages that a store has twice. Pages that can't be read are taken for damaged ones.
 pub fn known_of<D: PageDisk>(alloc: Global, disk: &mut D) -> Known
     ensures empty { (result.content ≡ Empty) ↔ (D.page_count disk.old ≡ 0) }
     ensures length { (pages wanted : _) → result.content ≡ Length pages wanted → (pages ≡ D.page_count disk.old) × (wanted ≢ pages) }
+    // Page 0 and the last page are of these two stores.
+    ensures two { (first last : _) → D.honest disk.old → result.content ≡ TwoStores first last → stores_on (D.page_count disk.old) (seen (D.state disk.old)) ≡ Some (first.0, last.0) }
+    ensures superseded { D.honest disk.old → result.content ≡ Superseded → IsSuperseded (D.page_count disk.old) (seen (D.state disk.old)) }
     ensures disk { OnlyReads D.PageDisk disk.old disk.new }
 {
     let content = if disk.pages() == 0 {

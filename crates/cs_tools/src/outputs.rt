@@ -2,9 +2,9 @@
 ghost use Rattle.std.specs.Prelude.{length, OnOk, ◌≤◌};
 ghost use Rattle.std.specs.Io.KnownBytes.{Appends};
 ghost use Rattle.hex.specs.Hex.{encode_lower};
-ghost use Rattle.cs_tools.specs.Outputs.{id_text, payload_text, refusal_text};
+ghost use Rattle.cs_tools.specs.Outputs.{id_text, identity_text, payload_text, refusal_text};
 
-use cs_frame::ShardId;
+use cs_frame::{ShardId, StoreId};
 use cs_refusal::Refusal;
 use std::io;
 use std::io::Write;
@@ -25,6 +25,13 @@ pub fn print_id<W: Write>(writer: &mut W, id: ShardId) -> io::Result<()>
 {
     let name = Uuid::from_bytes(id.0).hyphenated();
     write!(writer, "{name}")
+}
+
+/// The identity of a store, as 32 hex digits.
+pub fn print_identity<W: Write>(writer: &mut W, store: StoreId) -> io::Result<()>
+    ensures { OnOk result (Appends (W.contents writer.old) (W.contents writer.new) (identity_text store.0)) }
+{
+    print_bytes(writer, &store.0)
 }
 
 /// `refused`, the number and the name of a refusal.

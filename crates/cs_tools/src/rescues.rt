@@ -11,6 +11,7 @@ ghost use Rattle.cs_index.specs.State.{id_number, index_of};
 ghost use Rattle.law_machine.specs.Index.{live_at};
 ghost use Rattle.cs_twin.specs.Paired.{disk_below, state_shown};
 ghost use Rattle.cs_mount.specs.Showing.{findings_on, shown_on};
+ghost use Rattle.cs_mount.specs.Identities.{AreOfTwo};
 ghost use Rattle.cs_salvage.specs.Answers.{IsAbsent, IsUnknown};
 ghost use Rattle.cs_salvage.specs.Rescued.{IsRescued, IsWhyNotRescued};
 ghost use Rattle.cs_inspect.specs.Listings.{AreFirst};
@@ -26,7 +27,7 @@ use crate::list_command::print_ids;
 use crate::outcomes::Outcome;
 use crate::outputs::Style;
 use crate::tellings::{Reason, explain, tell_reason};
-use cs_disk::{PageDisk, refusal_of_disk};
+use cs_disk::PageDisk;
 use cs_frame::ShardId;
 use cs_inspect::ids_from;
 use cs_mount::{Finding, Mounted, open_pairs};
@@ -37,7 +38,7 @@ use std::io::Write;
 
 /// What to do if it isn't known whether there is a shard.
 const RUN_LOST: &str =
-    "No run of the index that can be read names it, and older ones can't be read. In format 3 `export --salvage` reads the frames themselves. Else restore the file from a copy.";
+    "No run of the index that can be read names it, and older ones can't be read. `export --salvage` reads the frames themselves, but not in format 2. Else restore the file from a copy.";
 
 /// How a get ended.
 #[derive(Clone, Copy)]
@@ -51,8 +52,9 @@ pub enum Got {
 /// Opens a damaged store to read what is left of it, and returns what it found in the pages that are there twice.
 /// Nothing is written.
 ///
-/// If the call is refused, it returns the disk. 43 NotAStore: no store of that many pages is there. 20 to 24: a page of
-/// the superblock or of the root is damaged, and so is its other copy, if it has one. 1 DeviceFault. 9 OutOfMemory.
+/// If the call is refused, it returns the disk. 43 NotAStore: no store of that many pages is there, or the disk holds
+/// pages of two stores. 20 to 24: a page of the superblock or of the root is damaged, and so is its other copy, if it
+/// has one. 1 DeviceFault. 9 OutOfMemory.
 pub fn open_rescue<D: PageDisk + Drop>(
     alloc: Global,
     disk: D,
@@ -61,7 +63,10 @@ pub fn open_rescue<D: PageDisk + Drop>(
     ensures found { D.honest disk → IfOk result (λ opened. IsRescued (D.honest disk) (D.page_count disk) (page (shown_on (D.page_count disk) (seen (D.state disk)))) opened.0.found) }
     ensures shown { D.honest disk → IfOk result (λ opened. state_shown opened.0.disk ≡ record { durable = shown_on (D.page_count disk) (seen (D.state disk)); volatile = [] }) }
     ensures findings { D.honest disk → IfOk result (λ opened. opened.1.items ≡ findings_on (D.page_count disk) (seen (D.state disk))) }
-    ensures why { D.honest disk → IfErr result (λ refused. IsNoAnswer refused.0 ⊎ IsWhyNotRescued (D.page_count disk) (page (shown_on (D.page_count disk) (seen (D.state disk)))) refused.0) }
+    ensures why { D.honest disk → IfErr result (λ refused. IsNoAnswer refused.0 ⊎ ((refused.0 ≡ Refusal.NotAStore) × AreOfTwo (D.page_count disk) (seen (D.state disk)))
+        ⊎ IsWhyNotRescued (D.page_count disk) (page (shown_on (D.page_count disk) (seen (D.state disk)))) refused.0) }
+    // Of two stores none is opened: it is refused 43, unless the device failed or memory ran out.
+    ensures two { D.honest disk → AreOfTwo (D.page_count disk) (seen (D.state disk)) → MatchResult result (λ _. ⊥) (λ refused. IsNoAnswer refused.0 ⊎ (refused.0 ≡ Refusal.NotAStore)) }
     ensures small { D.page_count disk < 10 → result ≡ Err (Refusal.NotAStore, disk) }
     // Whatever the disk answers.
     ensures number { IfErr result (λ refused. IsOpeningRefusal refused.0) }
@@ -80,7 +85,7 @@ pub fn open_rescue<D: PageDisk + Drop>(
             Ok(rescue) => Ok((rescue, found)),
             Err((refusal, paired)) => Err((refusal, paired.into_disk())),
         },
-        Err((fault, disk)) => Err((refusal_of_disk(fault), disk)),
+        Err((refusal, disk)) => Err((refusal, disk)),
     }
 }
 

@@ -4,27 +4,30 @@ ghost use Rattle.cs_chunk.specs.Reads.{IsCaused};
 ghost use Rattle.cs_disk.specs.Disk.{seen};
 ghost use Rattle.cs_disk.specs.Reads.{OnlyReads};
 ghost use Rattle.cs_mount.specs.StorePairs.{dimensions_on};
+ghost use Rattle.cs_frame.specs.Geometries.{Dimensions};
 ghost use Rattle.cs_salvage.specs.Greatest.{IsOfAFrame, IsScanOf};
+ghost use Rattle.cs_tools.specs.Salvages.{of_store};
 
 use cs_disk::{PageDisk, refusal_of_disk};
 use cs_mount::find_geometry;
 use cs_refusal::Refusal;
-use cs_salvage::{Patience, Scanned, scan_commands};
+use cs_salvage::{Patience, Scanned, Sought, Whose, scan_commands};
 use std::alloc::Global;
 
-/// The greatest number of a command among the whole frames on a device, extent after extent, as long as patience lasts.
-/// If it is above the number of commands that the root counts, the commands between them are lost, or were never
-/// acknowledged.
+/// The greatest number of a command among the store's whole frames on a device, extent after extent, as long as
+/// patience lasts. Frames that another store left there don't count. If it is above the number of commands that the root
+/// counts, the commands between them are lost, or were never acknowledged.
 ///
-/// It is refused 43 NotAStore if no store of format 3 of that many pages is there, 1 DeviceFault, or 9 OutOfMemory.
+/// It is refused 43 NotAStore if no store of that many pages is there, but one of format 2, and if the device holds
+/// pages of two stores. It is refused 1 DeviceFault, or 9 OutOfMemory.
 pub fn greatest_command<D: PageDisk, P: Patience>(
     alloc: Global,
     disk: &mut D,
     patience: &P,
 ) -> Result<Scanned, Refusal>
-    ensures scanned { D.honest disk.old → IfOk result (λ scanned. MatchOption (dimensions_on (D.page_count disk.old) (seen (D.state disk.old))) ⊥ (λ g. IsScanOf g (seen (D.state disk.old)) scanned)) }
-    // Whatever the disk answers, no number is made up: some pages spell a frame with it.
-    ensures spelled { IfOk result (λ scanned. IsOfAFrame scanned.greatest) }
+    ensures scanned { D.honest disk.old → IfOk result (λ scanned. MatchOption (dimensions_on (D.page_count disk.old) (seen (D.state disk.old))) ⊥ (λ g. IsScanOf (of_store g) (seen (D.state disk.old)) scanned)) }
+    // Whatever the disk answers, no number is made up: some pages spell a frame with it, of the store that was found.
+    ensures spelled { IfOk result (λ scanned. (g : Dimensions) × IsOfAFrame (of_store g) scanned.greatest) }
     ensures refusals { IfErr result (λ r. (r ≡ Refusal.NotAStore) ⊎ (r ≡ Refusal.DeviceFault) ⊎ (r ≡ Refusal.OutOfMemory)) }
     ensures small { D.page_count disk.old < 10 → result ≡ Err Refusal.NotAStore }
     ensures no_store { D.honest disk.old → 10 ≤ D.page_count disk.old → result ≡ Err Refusal.NotAStore → dimensions_on (D.page_count disk.old) (seen (D.state disk.old)) ≡ None }
@@ -39,7 +42,11 @@ pub fn greatest_command<D: PageDisk, P: Patience>(
         Ok(None) => return Err(Refusal::NotAStore),
         Err(fault) => return Err(refusal_of_disk(fault)),
     };
-    match scan_commands(alloc, disk, geometry, patience) {
+    let sought = Sought {
+        geometry,
+        whose: Whose::OfStore,
+    };
+    match scan_commands(alloc, disk, &sought, patience) {
         Ok(scanned) => Ok(scanned),
         Err(fault) => Err(refusal_of_disk(fault)),
     }

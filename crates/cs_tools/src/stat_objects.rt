@@ -1,11 +1,13 @@
 //! What `stat` prints as one JSON object.
 ghost use Rattle.std.specs.Prelude.{◌<◌, OnOk};
 ghost use Rattle.std.specs.Io.KnownBytes.{Appends};
-ghost use Rattle.cs_tools.specs.Stats.{BeginsWith, GoesOn, geometry_text};
+ghost use Rattle.cs_frame.specs.FormatNumbers.{counted_as, number_in};
+ghost use Rattle.cs_tools.specs.Stats.{BeginsWith, GoesOn, dimensions_text, geometry_text, store_text};
 ghost use Rattle.cs_tools.specs.declared.outputs.Style.TheVariants.{Json};
 
+use crate::outputs::print_identity;
 use crate::stats::{Kept, Room, bytes_of, is_low, print_number, room_of, word_where};
-use cs_frame::Geometry;
+use cs_frame::{Geometry, StoreId};
 use cs_inspect::{ExtentUse, Quota, RunUse, Stats};
 use std::io;
 use std::io::Write;
@@ -23,7 +25,7 @@ pub fn print_object<W: Write>(
     print_figure_members(writer, room_of(geometry, &stats.extents), kept, stats)
 }
 
-/// The members after those of the geometry.
+/// The members after those of the geometry and of the identity.
 fn print_figure_members<W: Write>(
     writer: &mut W,
     room: Room,
@@ -40,14 +42,35 @@ fn print_figure_members<W: Write>(
     writer.flush()
 }
 
-/// The members of the geometry.
+/// The members of the geometry and of the identity.
 fn print_geometry_members<W: Write>(writer: &mut W, geometry: Geometry) -> io::Result<()>
     ensures { OnOk result (Appends (W.contents writer.old) (W.contents writer.new) (geometry_text Json geometry.extents geometry.pages geometry.sections geometry.format)) }
+{
+    print_dimension_members(writer, geometry)?;
+    match geometry.format().store() {
+        Some(store) => print_store_member(writer, store),
+        None => Ok(()),
+    }
+}
+
+/// The member of the identity of a store.
+fn print_store_member<W: Write>(writer: &mut W, store: StoreId) -> io::Result<()>
+    ensures { OnOk result (Appends (W.contents writer.old) (W.contents writer.new) (store_text Json store.0)) }
+{
+    write!(writer, "\"id\":\"")?;
+    print_identity(writer, store)?;
+    write!(writer, "\",")
+}
+
+/// The members of the geometry.
+fn print_dimension_members<W: Write>(writer: &mut W, geometry: Geometry) -> io::Result<()>
+    ensures { OnOk result (Appends (W.contents writer.old) (W.contents writer.new)
+        (dimensions_text Json geometry.extents geometry.pages geometry.sections (counted_as (number_in geometry.format)))) }
 {
     let extents = u64::from(geometry.extents());
     let pages = u64::from(geometry.pages());
     let sections = u64::from(geometry.sections());
-    let format = u64::from(geometry.format().number());
+    let format = u64::from(geometry.format().number().value());
     print_number(writer, "{\"extents\":", extents)?;
     print_number(writer, ",\"pages\":", pages)?;
     print_number(writer, ",\"sections\":", sections)?;

@@ -4,16 +4,17 @@ ghost use Rattle.std.specs.Io.KnownBytes.{Appends};
 ghost use Rattle.cs_disk.specs.Reads.{OnlyReads};
 ghost use Rattle.cs_extent.specs.State.{shape};
 ghost use Rattle.law_machine.specs.Device.{Shape};
-ghost use Rattle.cs_tools.specs.Stats.{BeginsWith, GoesOn, geometry_text, number_text};
+ghost use Rattle.cs_frame.specs.FormatNumbers.{counted_as, number_in};
+ghost use Rattle.cs_tools.specs.Stats.{BeginsWith, GoesOn, dimensions_text, geometry_text, number_text, store_text};
 ghost use Rattle.cs_tools.specs.declared.outcomes.Outcome.TheVariants.{Done, Failed, Refused};
 ghost use Rattle.cs_tools.specs.declared.outputs.Style.TheVariants.{Json, Text};
 
 use crate::outcomes::Outcome;
-use crate::outputs::Style;
+use crate::outputs::{Style, print_identity};
 use crate::stat_objects::print_object;
 use cs_core::Core;
 use cs_disk::PageDisk;
-use cs_frame::Geometry;
+use cs_frame::{Geometry, StoreId};
 use cs_inspect::{ExtentUse, Quota, RunUse, Stats};
 use cs_refusal::Refusal;
 use std::alloc::Global;
@@ -72,7 +73,7 @@ pub fn stat<D: PageDisk, W: Write>(
     ensures ends { (result ≡ Done) ⊎ (result ≡ Refused Refusal.OutOfMemory) ⊎ (result ≡ Failed) }
     ensures same { core.new ≡ record core.old { disk = core.new.disk } }
     ensures disk { OnlyReads D.PageDisk core.old.disk core.new.disk }
-    // What is printed begins with the dimensions of the store, its format among them.
+    // What is printed begins with the dimensions of the store, its format among them, and with its identity.
     ensures geometry { result ≡ Done → let S : Shape = shape core.old.store.extents in
         BeginsWith (W.contents writer.old) (W.contents writer.new) (geometry_text style S.extents S.pages S.sections S.format) }
 {
@@ -122,8 +123,8 @@ fn print_all<W: Write>(
     }
 }
 
-/// A line each: the geometry, the extents that aren't empty, how many are, how many may hold what, the runs, and the
-/// counts.
+/// A line each: the geometry, the identity, the extents that aren't empty, how many are, how many may hold what, the
+/// runs, and the counts.
 fn print_lines<W: Write>(
     writer: &mut W,
     geometry: Geometry,
@@ -136,7 +137,7 @@ fn print_lines<W: Write>(
     print_figures(writer, room_of(geometry, &stats.extents), kept, stats)
 }
 
-/// The lines after the first one.
+/// The lines after those of the geometry.
 fn print_figures<W: Write>(writer: &mut W, room: Room, kept: Kept, stats: &Stats) -> io::Result<()>
     ensures { OnOk result (GoesOn (W.contents writer.old) (W.contents writer.new)) }
 {
@@ -149,14 +150,35 @@ fn print_figures<W: Write>(writer: &mut W, room: Room, kept: Kept, stats: &Stats
     writer.flush()
 }
 
-/// The line of the geometry.
+/// The lines of the geometry and of the identity.
 fn print_geometry<W: Write>(writer: &mut W, geometry: Geometry) -> io::Result<()>
     ensures { OnOk result (Appends (W.contents writer.old) (W.contents writer.new) (geometry_text Text geometry.extents geometry.pages geometry.sections geometry.format)) }
+{
+    print_dimensions(writer, geometry)?;
+    match geometry.format().store() {
+        Some(store) => print_store(writer, store),
+        None => Ok(()),
+    }
+}
+
+/// The line of the identity of a store.
+fn print_store<W: Write>(writer: &mut W, store: StoreId) -> io::Result<()>
+    ensures { OnOk result (Appends (W.contents writer.old) (W.contents writer.new) (store_text Text store.0)) }
+{
+    write!(writer, "id ")?;
+    print_identity(writer, store)?;
+    writeln!(writer)
+}
+
+/// The line of the geometry.
+fn print_dimensions<W: Write>(writer: &mut W, geometry: Geometry) -> io::Result<()>
+    ensures { OnOk result (Appends (W.contents writer.old) (W.contents writer.new)
+        (dimensions_text Text geometry.extents geometry.pages geometry.sections (counted_as (number_in geometry.format)))) }
 {
     let extents = u64::from(geometry.extents());
     let pages = u64::from(geometry.pages());
     let sections = u64::from(geometry.sections());
-    let format = u64::from(geometry.format().number());
+    let format = u64::from(geometry.format().number().value());
     print_number(writer, "geometry extents ", extents)?;
     print_number(writer, " pages ", pages)?;
     print_number(writer, " sections ", sections)?;

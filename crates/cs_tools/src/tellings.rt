@@ -1,16 +1,20 @@
 //! Messages on standard error: how a command ended, and what to do.
-ghost use Rattle.std.specs.Prelude.{◌≡◌, ◌≤◌, IfSome, OnOk};
+ghost use Rattle.std.specs.Prelude.{◌≡◌, ◌≤◌, IfSome, OnOk, Some, true};
 ghost use Rattle.std.specs.Io.KnownBytes.{Appends};
 ghost use Rattle.cs_refusal.specs.Refusals.{name_of, number_of};
 ghost use Rattle.cs_tools.specs.Outcomes.{refusal_in, status_of};
 ghost use Rattle.cs_tools.specs.Stats.{BeginsWith, GoesOn};
-ghost use Rattle.cs_tools.specs.Tellings.{head_text};
+ghost use Rattle.cs_tools.specs.Advices.{is_of_pages};
+ghost use Rattle.cs_tools.specs.Tellings.{GrowsWith, head_text, two_text};
+ghost use Rattle.cs_tools.specs.declared.advices.Todo.TheVariants.{TwoStores};
+ghost use Rattle.cs_tools.specs.declared.knowns.Content.TheVariants as content;
 
 use crate::advices::{Todo, advice, advice_of_system, meaning, system_text};
 use crate::knowns::Known;
 use crate::outcomes::Outcome;
-use crate::outputs::Style;
+use crate::outputs::{Style, print_identity};
 use cs_disk::SystemFault;
+use cs_frame::StoreId;
 use cs_refusal::Refusal;
 use std::io;
 use std::io::Write;
@@ -58,6 +62,7 @@ impl Reason {
     fn of(refusal: Refusal, known: &Known) -> Self
         ensures number { result.number ≡ number_of refusal }
         ensures name { result.name.now ≡ name_of refusal }
+        ensures two { (first last : _) → is_of_pages refusal ≡ true → known.now.content ≡ content.TwoStores first last → result.advice ≡ TwoStores first last }
     {
         let system = match refusal {
             Refusal::DeviceFault => known.system,
@@ -89,7 +94,8 @@ impl Reason {
 
 /// Prints why something was refused: by its number and its name first, then what it is, and what to do.
 pub fn print_reason<W: Write>(writer: &mut W, reason: &Reason, style: Style) -> io::Result<()>
-    ensures { OnOk result (BeginsWith (W.contents writer.old) (W.contents writer.new) (head_text style reason.now.number reason.now.name.now)) }
+    ensures head { OnOk result (BeginsWith (W.contents writer.old) (W.contents writer.new) (head_text style reason.now.number reason.now.name.now)) }
+    ensures two { (first last : _) → reason.now.advice ≡ TwoStores first last → OnOk result (GrowsWith (W.contents writer.old) (W.contents writer.new) (two_text first.0 last.0)) }
 {
     print_head(writer, reason.number, reason.name, style)?;
     print_rest(writer, reason, style)
@@ -110,7 +116,8 @@ fn print_head<W: Write>(writer: &mut W, number: u8, name: &str, style: Style) ->
 
 /// Prints what a refusal is, and what to do.
 fn print_rest<W: Write>(writer: &mut W, reason: &Reason, style: Style) -> io::Result<()>
-    ensures { OnOk result (GoesOn (W.contents writer.old) (W.contents writer.new)) }
+    ensures more { OnOk result (GoesOn (W.contents writer.old) (W.contents writer.new)) }
+    ensures two { (first last : _) → reason.now.advice ≡ TwoStores first last → OnOk result (GrowsWith (W.contents writer.old) (W.contents writer.new) (two_text first.0 last.0)) }
 {
     print_text(writer, reason.text, reason.system)?;
     print_advice(writer, reason.advice, style)
@@ -131,7 +138,8 @@ fn print_text<W: Write>(writer: &mut W, text: &str, system: Option<SystemFault>)
 
 /// Prints what to do, and the end of the message.
 fn print_advice<W: Write>(writer: &mut W, advice: Todo, style: Style) -> io::Result<()>
-    ensures { OnOk result (GoesOn (W.contents writer.old) (W.contents writer.new)) }
+    ensures more { OnOk result (GoesOn (W.contents writer.old) (W.contents writer.new)) }
+    ensures two { (first last : _) → advice ≡ TwoStores first last → OnOk result (GrowsWith (W.contents writer.old) (W.contents writer.new) (two_text first.0 last.0)) }
 {
     match style {
         Style::Text => {
@@ -142,23 +150,74 @@ fn print_advice<W: Write>(writer: &mut W, advice: Todo, style: Style) -> io::Res
         Style::Json => {
             write!(writer, "\",\"advice\":\"")?;
             print_todo(writer, advice)?;
-            writeln!(writer, "\"}}")
+            print_end(writer, advice)
         }
     }
 }
 
+/// Prints the end of a JSON object after what to do.
+fn print_end<W: Write>(writer: &mut W, advice: Todo) -> io::Result<()>
+    ensures { OnOk result (GoesOn (W.contents writer.old) (W.contents writer.new)) }
+{
+    write!(writer, "\"")?;
+    print_members(writer, advice)?;
+    writeln!(writer, "}}")
+}
+
+/// The members of a JSON object that say what the advice names: both identities, if a device holds pages of two stores.
+fn print_members<W: Write>(writer: &mut W, advice: Todo) -> io::Result<()>
+    ensures { OnOk result (GoesOn (W.contents writer.old) (W.contents writer.new)) }
+{
+    match advice {
+        Todo::TwoStores { first, last } => {
+            print_id_member(writer, "first_id", first)?;
+            print_id_member(writer, "last_id", last)
+        }
+        _ => Ok(()),
+    }
+}
+
+/// The member with this name of the identity of a store, after a comma.
+fn print_id_member<W: Write>(writer: &mut W, name: &str, store: StoreId) -> io::Result<()>
+    ensures { OnOk result (GoesOn (W.contents writer.old) (W.contents writer.new)) }
+{
+    write!(writer, ",\"{name}\":\"")?;
+    print_identity(writer, store)?;
+    write!(writer, "\"")
+}
+
 /// Prints what to do.
 fn print_todo<W: Write>(writer: &mut W, advice: Todo) -> io::Result<()>
-    ensures { OnOk result (GoesOn (W.contents writer.old) (W.contents writer.new)) }
+    ensures more { OnOk result (GoesOn (W.contents writer.old) (W.contents writer.new)) }
+    ensures two { (first last : _) → advice ≡ TwoStores first last → OnOk result (GrowsWith (W.contents writer.old) (W.contents writer.new) (two_text first.0 last.0)) }
 {
     match advice {
         Todo::Make => write!(
             writer,
             "The file is empty: make a store in it by `cs_cli create` with its name."
         ),
-        Todo::Text(text) => write!(writer, "{text}"),
+        Todo::Text(text) | Todo::Move(text) => write!(writer, "{text}"),
         Todo::Length { pages, wanted } => print_length(writer, pages, wanted),
+        Todo::TwoStores { first, last } => print_two(writer, first, last),
+        Todo::Written { page } => write!(
+            writer,
+            "Page {page} of the device isn't zeros: something is on it. `--force` makes the store over it."
+        ),
     }
+}
+
+/// Prints what to do about a device with pages of two stores.
+fn print_two<W: Write>(writer: &mut W, first: StoreId, last: StoreId) -> io::Result<()>
+    ensures { OnOk result (Appends (W.contents writer.old) (W.contents writer.new) (two_text first.0 last.0)) }
+{
+    write!(writer, "The device holds pages of two stores, ")?;
+    print_identity(writer, first)?;
+    write!(writer, " on page 0 and ")?;
+    print_identity(writer, last)?;
+    write!(
+        writer,
+        " on the last page. Name one by `--id` to read it: nothing is written to such a device."
+    )
 }
 
 /// Prints what to do about a file of so many pages whose superblock names another number.
@@ -173,7 +232,7 @@ fn print_length<W: Write>(writer: &mut W, pages: u64, wanted: u64) -> io::Result
     };
     write!(
         writer,
-        "The file has {pages} pages, and its superblock says {wanted}: it is too {how} by {by}. Copy it, `truncate -s {bytes} COPY`, and try again with the copy. If that doesn't open either, `export --salvage` of the copy reads the shards whose frames are there (format 3)."
+        "The file has {pages} pages, and its superblock says {wanted}: it is too {how} by {by}. Copy it, `truncate -s {bytes} COPY`, and try again with the copy. If that doesn't open either, `export --salvage` of the copy reads the shards whose frames are there. A device that has grown is opened by `--device-pages {wanted}`. In format 2 there is neither."
     )
 }
 
@@ -186,6 +245,9 @@ pub fn print_outcome<W: Write>(
 ) -> io::Result<()>
     // Each refusal is printed with its own number and name.
     ensures refused { IfSome (refusal_in outcome) (λ r. OnOk result (BeginsWith (W.contents writer.old) (W.contents writer.new) (head_text style (number_of r) (name_of r)))) }
+    // That of a device with pages of two stores names both.
+    ensures two { (first last : _) → refusal_in outcome ≡ Some Refusal.NotAStore → known.now.content ≡ content.TwoStores first last
+        → OnOk result (GrowsWith (W.contents writer.old) (W.contents writer.new) (two_text first.0 last.0)) }
 {
     match outcome {
         Outcome::Refused(refusal) | Outcome::NoStore(refusal) | Outcome::Unread(refusal) => {

@@ -17,7 +17,8 @@ abbrev pub IsNoRefusal : Reply → Type 0
 IsNoRefusal (Refused r) = ⊥
 IsNoRefusal reply = Unit {0}
 
--- why an event is refused and not recorded: for want of memory; or since it is one that is refused where as many events are kept as may be
+-- why an event is refused and not recorded: for want of memory; or since it is one that is refused where as many events
+-- are kept as may be
 abbrev pub IsUnrecorded : {D : Type 0} → View D → Event → Refusal → Type 0
 IsUnrecorded new event r = (r ≡ OutOfMemory) ⊎ ((r ≡ HistoryFull) × IsLimited event × (new.limit ≤ length (kept new)))
 
@@ -25,7 +26,8 @@ IsUnrecorded new event r = (r ≡ OutOfMemory) ⊎ ((r ≡ HistoryFull) × IsLim
 abbrev pub IsRefused : {D : Type 0} → (new : View D) → Event → Refusal → List (Event × Reply) → Type 0
 IsRefused new event r xs = (xs ≡ (event, Refused r) ∷ []) ⊎ ((xs ≡ []) × IsUnrecorded new event r)
 
--- the events that are kept may be replaced by the state that they led to: they are half as many as may be, or more, and the store is settled
+-- the events that are kept may be replaced by the state that they led to: they are half as many as may be, or more, and
+-- the store is settled
 abbrev pub MayReplace : {D : Type 0} → View D → Type 0
 MayReplace v = (v.limit ≤ 2 * length (kept v)) × (v.store.halted ≡ false) × IsSettled v.store × (length v.history < 2 ^ 63)
 
@@ -50,8 +52,8 @@ module _ {D : Type 0} (disks : PageDisk D) where
   Went old [] new = Stays old new
   Went old (x ∷ xs) new = (before : View D) × (after : View D) × Stays old before × Goes before x.0 x.1 after × Went after xs new
 
-  -- These events were recorded with their replies, and then this event was refused: it is recorded so, or it isn't recorded
-  -- for a reason that stands.
+  -- These events were recorded with their replies, and then this event was refused: it is recorded so, or it isn't
+  -- recorded for a reason that stands.
   pub record IsStopped (old : View D) (done : List (Event × Reply)) (event : Event) (refusal : Refusal) (new : View D) : Type 0 where
     pub added : List (Event × Reply)
     pub went : Went old (done ++ added) new

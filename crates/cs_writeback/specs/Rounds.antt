@@ -45,8 +45,8 @@ events_of_all turns = flat_map events_of turns
 abbrev pub rounds_of : List Turn → List (List Element)
 rounds_of turns = map elements_of turns
 
--- the event of writeback that is due where this round is out, of which so many members are issued: the next of them goes out, or
--- the round ends; where none is out one begins
+-- the event of writeback that is due where this round is out, of which so many members are issued: the next of them
+-- goes out, or the round ends; where none is out one begins
 abbrev pub event_due : Option (List Element) → ℕ → Event
 event_due None issued = Begin
 event_due (Some round) issued = if nat_lt issued (length round) then Issue else End
@@ -64,16 +64,17 @@ abbrev pub IsPart : List (Event × Reply) → Type 0
 IsPart part = (part ≡ []) ⊎ ((round : List Element) × (members : Members) × (part ≡ (Begin, Begun round) ∷ issues members))
 
 module _ {D : Type 0} (disks : PageDisk D) where
-  -- These events were recorded with their replies, and then the event of writeback that was due was refused: as the core was when that was
-  -- asked for, it was the next Issue of the round that was out, its End where all was issued, or a Begin where none was out and something
-  -- waited.
+  -- These events were recorded with their replies, and then the event of writeback that was due was refused: as the
+  -- core was when that was asked for, it was the next Issue of the round that was out, its End where all was issued, or
+  -- a Begin where none was out and something waited.
   pub record IsStoppedAtDue (old : View D) (done : List (Event × Reply)) (refusal : Refusal) (new : View D) : Type 0 where
     pub asked : View D
     pub went : Went disks old done asked
     pub due : HasWriteback asked.store
     pub stopped : IsStopped disks asked [] (step_event asked.store) refusal new
 
-  -- a round that was out is ended: what is left of it is issued, and so many commands are persistent then; where none was out nothing is done
+  -- a round that was out is ended: what is left of it is issued, and so many commands are persistent then; where none
+  -- was out nothing is done
   abbrev pub Finishes : (old : View D) → Option ℕ → (ended : View D) → Type 0
   Finishes old None ended = (old.store.out ≡ None) × Stays disks old ended
   Finishes old (Some frontier) ended = (old.store.out ≢ None) × (members : Members) × Went disks old (rest_of_round members frontier) ended

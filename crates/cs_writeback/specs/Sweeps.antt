@@ -11,9 +11,9 @@ use Rattle.cs_core.specs.declared.events.Reply.TheVariants.{Abandoned, Moved, No
 use Rattle.cs_core.specs.Views.{View}
 use Rattle.cs_writeback.specs.Histories.{IsStopped, Went}
 
--- the refusals of a sweep, whatever the disk does: the device or memory refused, a chunk that is to be moved is damaged or another frame lies there, there
--- was no place for what is moved, the extent may not be swept or has something live still, a number was worn out, the store was halted, or as
--- many events are kept as may be
+-- the refusals of a sweep, whatever the disk does: the device or memory refused, a chunk that is to be moved is damaged
+-- or another frame lies there, there was no place for what is moved, the extent may not be swept or has something live
+-- still, a number was worn out, the store was halted, or as many events are kept as may be
 abbrev pub MayRefuseSweep : Refusal → Type 0
 MayRefuseSweep refusal.DeviceFault = Unit {0}
 MayRefuseSweep refusal.OutOfMemory = Unit {0}
@@ -48,8 +48,8 @@ module _ {D : Type 0} (disks : PageDisk D) where
       × (IsStopped disks begun (moves extent moved) (MoveOne extent) r mid
       ⊎ IsStopped disks begun (moves extent moved ++ (MoveOne extent, NoneLive) ∷ []) (Retire extent) r mid)
 
-  -- a sweep that was refused so is abandoned, and that refusal is told; or the Abandon is refused too, and where that is for want
-  -- of memory, it is what is told
+  -- a sweep that was refused so is abandoned, and that refusal is told; or the Abandon is refused too, and where that
+  -- is for want of memory, it is what is told
   abbrev pub Abandons : ℕ → View D → View D → (refused told : Refusal) → Type 0
   Abandons extent mid new r told = (Went disks mid ((Abandon extent, Abandoned) ∷ []) new × (told ≡ r))
       ⊎ ((why : Refusal) × IsStopped disks mid [] (Abandon extent) why new

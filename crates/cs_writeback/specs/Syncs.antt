@@ -14,8 +14,8 @@ use Rattle.cs_writeback.specs.declared.syncs.Stop.TheVariants.{Refused, Untold}
 use Rattle.cs_writeback.specs.Histories.{IsStopped, Went}
 use Rattle.cs_writeback.specs.Rounds.{Finishes, IsPart, IsStoppedAtDue, StopsFirst, Turn, events_of_all, rounds_of}
 
--- the refusals of a sync, whatever the disk does: the device or memory refused, there was no place for the index's run, a number was
--- worn out, or the store was halted
+-- the refusals of a sync, whatever the disk does: the device or memory refused, there was no place for the index's run,
+-- a number was worn out, or the store was halted
 abbrev pub MayRefuseSync : Refusal → Type 0
 MayRefuseSync DeviceFault = Unit {0}
 MayRefuseSync OutOfMemory = Unit {0}
@@ -35,8 +35,8 @@ module _ {S : Type 0} (tells : S → ℕ → List Element → S → Type 0) wher
   AreTold number (round ∷ rounds) before after = (mid : S) × tells before number round mid × AreTold (number + 1) rounds mid after
 
 module _ {D : Type 0} (disks : PageDisk D) where
-  -- A sync that ends well. A round that was out is ended, then the index's changes are staged, and then round after round is written; nothing
-  -- is left to stage or to write.
+  -- A sync that ends well. A round that was out is ended, then the index's changes are staged, and then round after
+  -- round is written; nothing is left to stage or to write.
   pub record Syncs (old new : View D) : Type 0 where
     pub finished : Option ℕ
     pub ended : View D
@@ -64,11 +64,13 @@ module _ {D : Type 0} (disks : PageDisk D) where
     pub turns : List Turn
     pub stopped : ((turns ≡ []) × IsStopped disks ended [] Stage refusal new) ⊎ StopsInTurn ended turns refusal new
 
-  -- a sync in which an event is refused: what is due of the round that was out, or the Stage, or what is due of a later round
+  -- a sync in which an event is refused: what is due of the round that was out, or the Stage, or what is due of a later
+  -- round
   abbrev pub StopsSync : (old : View D) → Refusal → (new : View D) → Type 0
   StopsSync old r new = StopsFirst disks old r new ⊎ StopsLater old r new
 
-  -- Rounds that ended early, after so many, which are told, and a part of a further one. Where one couldn't be told nothing is said of them.
+  -- Rounds that ended early, after so many, which are told, and a part of a further one. Where one couldn't be told
+  -- nothing is said of them.
   abbrev pub StopsInRounds : {S E : Type 0} → (tells : S → ℕ → List Element → S → Type 0) → (old new : View D) → (before after : S) → Stop E → Type 0
   StopsInRounds tells old new before after (Refused r) = (turns : List Turn) × (part : List (Event × Reply)) × IsPart part
       × IsStoppedAtDue disks old (events_of_all turns ++ part) r new × AreTold tells 1 (rounds_of turns) before after

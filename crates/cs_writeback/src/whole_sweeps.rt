@@ -28,14 +28,14 @@ pub struct Swept {
 /// was retired. It reads each chunk that it moves. What it stages waits until it is written back.
 ///
 /// A sweep that is refused after it began is abandoned. What was copied still counts where it lay. The copies are
-/// garbage, and no sweep begins before the next root. In the older formats a chunk stays where it was moved to.
+/// garbage, and no sweep begins before the next root. In format 2 a chunk stays where it was moved to.
 ///
 /// 33 `NotSweepable` if the extent is empty, being swept or not there, if it holds runs, or if another sweep goes on or
-/// was given up since the last root (in the older formats: if it is open). 41 `HistoryFull` if as many events are kept
-/// as may be; 40 `Halted`. 20 to 24 if a chunk that is to be moved is damaged, and 26 `Misplaced` if another frame lies
-/// in its place. 30 `Full`; 34 `StillLive`, by the Retire; 35 `WornOut`; 1 `DeviceFault`. 9 `OutOfMemory`, also if
-/// there was none for the Abandon: the extent is still being swept then. Whatever the disk does, no other refusal
-/// comes.
+/// was given up since the last root (in format 2: if it is open). 41 `HistoryFull` if as many events are kept as may
+/// be; 40 `Halted`. 20 to 24 if a chunk that is to be moved is damaged, 26 `Misplaced` if another frame lies in its
+/// place, and then 22 if its payload is shorter than a head. 30 `Full`; 34 `StillLive`, by the Retire; 35 `WornOut`; 1
+/// `DeviceFault`. 9 `OutOfMemory`, also if there was none for the Abandon: the extent is still being swept then.
+/// Whatever the disk does, no other refusal comes.
 pub fn sweep<D: PageDisk>(core: &mut Core<D>, extent: usize) -> Result<Swept, Refusal>
     ensures done { IfOk result (λ swept. Sweeps D.PageDisk extent core.old core.new swept.moved swept.root) }
     ensures refused { IfErr result (λ refusal. IsSweepRefused D.PageDisk extent core.old core.new refusal) }

@@ -20,6 +20,7 @@ use Rattle.law_machine.specs.Element.{Entry, Locator, Run}
 use Rattle.law_machine.specs.Events.{Does, mark}
 use Rattle.law_machine.specs.Example.{example_format}
 use Rattle.law_machine.specs.Extents.{ForMove, ForPut, ForRun, Goes, Purpose, Takes}
+use Rattle.law_machine.specs.Format.{Two, number_of}
 use Rattle.law_machine.specs.Formats.{RunFrame}
 use Rattle.law_machine.specs.Frames.{IsFormat}
 use Rattle.law_machine.specs.Grounds.{PastLimit, WouldPass}
@@ -35,7 +36,7 @@ use Rattle.law_machine.specs.Step.{History, Step}
 pub is_new : IsNew example_apart example_format example_image
 is_new = record {
   superblock = λ j lt. subst (λ (i : ℕ). example_image (example_apart.section_page i)
-      ≡ example_format.superblock example_apart.format i 1 0 (λ e. 0) (λ e. 0)) (let e : 0 ≡ j = omega arith in e) refl;
+      ≡ example_format.superblock (number_of example_apart.format) i 1 0 (λ e. 0) (λ e. 0)) (let e : 0 ≡ j = omega arith in e) refl;
   root = refl;
   root_fits = refl;
   some_number = omega arith;
@@ -43,7 +44,7 @@ is_new = record {
 
 abbrev gives : Recovers example_apart example_format example_image 0 (λ id. None)
 gives = record {
-  formats = λ j. 1;
+  formats = λ j. 2;
   versions = λ j. 1;
   recorded = λ j. 0;
   pointers = λ e. 0;
@@ -241,7 +242,7 @@ abbrev s4 : State
 s4 = record s3 { world = world4; copies = record { id = 1; chunk = 0; from = chunk; to = moved } ∷ [] }
 
 pub shape : IsShape example_apart
-shape = let base = is_shape 6 2 1 8 1 (record {
+shape = let base = is_shape 6 2 1 8 Two (record {
   some_page = omega arith;
   some_section = omega arith;
   some_extent = omega arith;
@@ -286,6 +287,7 @@ moves = (
     within = omega arith;
     stand = (refl, tt);
     marked = own_mark (mark_of example_apart (payload ∷ []));
+    long = refl;
   },
   (world4, appends s3.world ForMove (payload ∷ []) 2 copy_goes, refl),
   refl,

@@ -138,7 +138,7 @@ module _ (S : Shape) (F : Formats) (shape : IsShape S) (format : IsFormat S F) w
                 one_sweep = (a.sound.apart on).one_sweep;
                 copied = λ some. each (λ (c : Copy). IsCopy S F mid c × (mid.world.extents.swept c.from.extent ≡ true))
                     copy mid.copies (
-                      (payload, old, a.reads, ap (λ (h : Opening). h.damage l) a.opening ∙ o.6),
+                      (payload, old, a.reads (λ fits. o.7.long), ap (λ (h : Opening). h.damage l) a.opening ∙ o.6),
                       ap (λ (f : ℕ → Bool). f l.extent) a.swept
                           ∙ ap s.world.extents.swept o.5.on_it ∙ o.4,
                     )

@@ -270,6 +270,7 @@ module _ (S : Shape) (F : Formats) (shape : IsShape S) (on : S.apart ≡ true) (
     within = r.within;
     stand = r.stand;
     marked = r.marked;
+    long = r.long;
   }
 
   thawed : (d : ℕ) → (after S.extents).generation d ≡ suc (s.world.extents.generation d)

@@ -77,6 +77,7 @@ module _ (S : Shape) (F : Formats) (opening : Opening) (img old : ℕ → Page) 
         below = f.0;
         stand = f.1;
         marked = r.marked;
+        long = r.long;
       }
 
   pub carry_chunks : (ls : List Locator) (cs : List (List ℕ)) → Chunks S F opening old p g ls cs

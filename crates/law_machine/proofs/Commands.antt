@@ -13,7 +13,7 @@ use Rattle.law_machine.specs.Refusal.{Full, Halted, IndexFull, Refusal, TooLarge
 use Rattle.law_machine.specs.Sound.{Bounded, Sound}
 use Rattle.law_machine.specs.State.{Accepted, Delete, Event, Put, Reply, State, index_now, map_now, next_command}
 use Rattle.std.specs.Prelude.{is_some}
-use Rattle.law_machine.proofs.Payloads.{payloads_bytes, payloads_few, payloads_length, payloads_some}
+use Rattle.law_machine.proofs.Payloads.{payloads_bytes, payloads_few, payloads_length, payloads_long, payloads_some}
 use Rattle.law_machine.proofs.Bounds.{not_first, bounded_same, bounded_entry}
 use Rattle.law_machine.proofs.Gives.{chunks_pass, chunks_hold}
 use Rattle.law_machine.proofs.Frames.{put_in}
@@ -80,11 +80,12 @@ module _ (S : Shape) (F : Formats) (shape : IsShape S) (format : IsFormat S F) w
       let p = put_in S F shape format S.apart (λ on. on) s d.2 d.0 d.1 sound d.4
       (in_room s t d.2.world (Put id bytes) (Accepted n) worn.0 d
       (ap (λ (x : State). x.world.superblocks) (sym d.6))) in
+      let chunks = p.chunks (payloads_long S F format id (next_command s) bytes d.0 d.3) in
       let mid : Bounded S F d.2 = bounded_same S F shape format s d.2
       (in_number s t d.2.world (Put id bytes) (Accepted n) worn.0 d
       (ap (λ (x : State). x.world.written) (sym d.6))) p.root p.count p.commands p.runs p.table b in
       let index = same_index s d.2 p.table p.runs in
-      let small : length d.1 ≤ S.most_chunks = le_trans (le_of_eq (chunk_count _ _ _ _ d.1 d.0 p.chunks))
+      let small : length d.1 ≤ S.most_chunks = le_trans (le_of_eq (chunk_count _ _ _ _ d.1 d.0 chunks))
       (payloads_few S F shape id (next_command s) bytes d.0 d.3 (not_below _ _ large.0)) in
       let total : t.count + length t.commands ≡ d.2.count + length ((id, Some bytes) ∷ d.2.commands) = ap
       (λ (x : State). x.count + length x.commands) d.6 in
@@ -92,13 +93,13 @@ module _ (S : Shape) (F : Formats) (shape : IsShape S) (format : IsFormat S F) w
       (le_of_eq (sym total)) (not_below _ _ (λ lt. worn.0 (Accepted n, t, d, inr lt))) in
       let room : named_weight S.weigh (record { id = id; locators = d.1 } ∷ index_now d.2) ≤ S.most_weight =
       le_trans (le_of_eq (ap₂ (λ (es : List Entry) (c : ℕ). weight_with S.weigh es id c) index
-      (chunk_count _ _ _ _ d.1 d.0 p.chunks ∙ payloads_length S F id (next_command s) bytes d.0 d.3)))
+      (chunk_count _ _ _ _ d.1 d.0 chunks ∙ payloads_length S F id (next_command s) bytes d.0 d.3)))
       (not_below _ _ (λ lt. full.0 (d.3.0, d.3.1, lt))) in
       both _ t d.6
       (with_entry S F shape format d.2 id d.1 p.sound
-      (chunks_pass S F shape format _ _ _ _ d.1 d.0 p.chunks)
-      (chunks_hold S F shape format d.2.opening _ _ _ d.1 d.0 p.chunks) (id, Some bytes)
-      (put_value d.2.opening _ _ _ d.1 d.0 bytes p.chunks (payloads_bytes S F format id (next_command s) bytes d.0 d.3)
+      (chunks_pass S F shape format _ _ _ _ d.1 d.0 chunks)
+      (chunks_hold S F shape format d.2.opening _ _ _ d.1 d.0 chunks) (id, Some bytes)
+      (put_value d.2.opening _ _ _ d.1 d.0 bytes chunks (payloads_bytes S F format id (next_command s) bytes d.0 d.3)
       (payloads_some S F id (next_command s) bytes d.0 d.3)) refl)
       (bounded_entry S F shape format d.2 id d.1 ((id, Some bytes) ∷ d.2.commands) mid room small fit_mid)
 

@@ -7,7 +7,7 @@ use Rattle.law_machine.specs.Device.{Page, Shape, is_meant}
 use Rattle.law_machine.proofs.Parts.{each}
 use Rattle.law_machine.specs.Element.{Locator, Opening, Root}
 use Rattle.law_machine.specs.Extents.{MayFill, reach}
-use Rattle.law_machine.specs.Formats.{ChunkFrame, Formats, Stand, damage_in, fault_for, limit_in, opening_in}
+use Rattle.law_machine.specs.Formats.{ChunkFrame, Formats, Stand, damage_in, fault_for, limit_in, opening_in, is_long_frame}
 use Rattle.law_machine.specs.Index.{Passes, Reads}
 use Rattle.law_machine.specs.Meant.{Mark}
 use Rattle.law_machine.specs.Sound.{IsFilledUp}
@@ -153,14 +153,16 @@ module _ (S : Shape) (F : Formats) (img : ℕ → Page) (p g : ℕ → ℕ) wher
 
   pub reads_own : (l : Locator) (bs : List Page) → Passes S F img p g l
       → (S.fills ≡ true → l.page + length bs ≤ p l.extent) → l.page + length bs ≤ S.pages
-      → Stand S F img l.extent l.page bs → is_meant S l.mark bs ≡ true → Reads S F (opening_in S F img p g) img p g l bs
-  reads_own l bs pass end inside stand meant = record {
+      → Stand S F img l.extent l.page bs → is_meant S l.mark bs ≡ true → is_long_frame F bs ≡ true
+      → Reads S F (opening_in S F img p g) img p g l bs
+  reads_own l bs pass end inside stand meant long = record {
     passes = pass;
     below = below_here S.fills refl;
     inside = inside;
     within = within_here S.fills refl;
     stand = stand;
     marked = meant;
+    long = long;
   }
     where
       below_here : (b : Bool) → S.fills ≡ b → (l.page + length bs ≤ p l.extent)
@@ -181,7 +183,7 @@ module _ (S : Shape) (F : Formats) (img : ℕ → Page) (p g : ℕ → ℕ) wher
   own_reads opening thawed l bs r = reads_own l bs r.passes
       (λ on. ⊎_elim (λ (below : l.page + length bs ≤ p l.extent). below)
       (λ (fz : (i : ℕ) → opening.frozen l.extent i l.generation ≡ true). absurd
-      (true≢false (sym (fz S.pages) ∙ thawed on l.extent l.generation))) r.below) r.inside r.stand r.marked
+      (true≢false (sym (fz S.pages) ∙ thawed on l.extent l.generation))) r.below) r.inside r.stand r.marked r.long
 
 -- by the pointers of a superblock too
 pub limit_low : (S : Shape) (F : Formats) (p g : ℕ → ℕ) → ((e : ℕ) → p e ≤ S.pages) → (l : Locator)

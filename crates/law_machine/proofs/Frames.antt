@@ -6,8 +6,8 @@ use Rattle.law_machine.specs.Device.{Inside, IsShape, Page, Shape, mark_of}
 use Rattle.law_machine.specs.Element.{Locator, Root, roots_of}
 use Rattle.law_machine.specs.Events.{newest_page}
 use Rattle.law_machine.specs.Extents.{ForPut, Goes, Purpose}
-use Rattle.law_machine.specs.Formats.{ChunkFrame, Formats, FrameKind}
-use Rattle.law_machine.specs.Frames.{IsFormat}
+use Rattle.law_machine.specs.Formats.{ChunkFrame, Formats, FrameKind, is_long_frame}
+use Rattle.law_machine.specs.Frames.{AreLong, IsFormat}
 use Rattle.law_machine.specs.Index.{Chunks, Reads}
 use Rattle.law_machine.specs.Lists.{◌∈◌}
 use Rattle.law_machine.specs.Machine.{World}
@@ -40,7 +40,9 @@ module _ (S : Shape) (F : Formats) (shape : IsShape S) (format : IsFormat S F) w
         × (t.world.extents.generation d ≡ s.world.extents.generation d) × (k < t.world.extents.pointer d)
     pub still : (d k : ℕ) → s.opening.frozen d k (s.world.extents.generation d) ≡ true → 0 < s.world.extents.pointer d
         → Inside S d k → newest_page t (S.address d k) ≡ newest_page s (S.address d k)
-    pub reads : Reads S F t.opening (newest_page t) t.world.extents.pointer t.world.extents.generation l bs
+    -- the frame is read if it is long enough for what it holds
+    pub reads : (length bs ≤ S.pages → is_long_frame F bs ≡ true)
+        → Reads S F t.opening (newest_page t) t.world.extents.pointer t.world.extents.generation l bs
 
   module _ (apart : Bool) (by : apart ≡ true → S.apart ≡ true) (s : State) (purpose : Purpose) (kind : FrameKind)
       (payload : List ℕ) (e need : ℕ) (sound : Sound S F s)
@@ -118,7 +120,7 @@ module _ (S : Shape) (F : Formats) (shape : IsShape S) (format : IsFormat S F) w
       swept = fr.swept;
       carries = fr.carries;
       still = fr.still;
-      reads = record {
+      reads = λ long. record {
         passes = record {
           generation = ap (λ (f : ℕ → ℕ). f e) fr.generation;
           below = (let n : 0 < length (F.frame kind payload) = format.some_page kind payload in
@@ -136,6 +138,7 @@ module _ (S : Shape) (F : Formats) (shape : IsShape S) (format : IsFormat S F) w
         within = may_reach S.fills refl;
         stand = fr.stand;
         marked = own_mark (mark_of S (F.frame kind payload));
+        long = long (let f : s.world.extents.pointer e + length (F.frame kind payload) ≤ S.pages = fits in omega arith);
       };
     }
       where
@@ -249,7 +252,8 @@ module _ (S : Shape) (F : Formats) (shape : IsShape S) (format : IsFormat S F) w
     pub still : (d k : ℕ) → s.opening.frozen d k (s.world.extents.generation d) ≡ true → 0 < s.world.extents.pointer d
         → Inside S d k → newest_page t (S.address d k) ≡ newest_page s (S.address d k)
     pub root : t.world.root ≡ s.world.root
-    pub chunks : Chunks S F t.opening (newest_page t) t.world.extents.pointer t.world.extents.generation ls cs
+    pub chunks : AreLong S F cs
+        → Chunks S F t.opening (newest_page t) t.world.extents.pointer t.world.extents.generation ls cs
 
   put_world : (apart : Bool) → (apart ≡ true → S.apart ≡ true) → (s : State) (v : World) (cs : List (List ℕ))
       (ls : List Locator) → Sound S F s
@@ -265,7 +269,7 @@ module _ (S : Shape) (F : Formats) (shape : IsShape S) (format : IsFormat S F) w
     carries = λ d k lt inside. (refl, refl, lt);
     still = λ d k fz some inside. refl;
     root = refl;
-    chunks = tt;
+    chunks = λ long. tt;
   })
   put_world apart by s v [] (l ∷ ls) sound is room = absurd is
   put_world apart by s v (c ∷ cs) [] sound is room = absurd is
@@ -289,9 +293,10 @@ module _ (S : Shape) (F : Formats) (shape : IsShape S) (format : IsFormat S F) w
         still = λ d k fz some inside.
             (let one = a.carries d 0 some (inside.0, (let lt : k < S.pages = inside.1 in omega arith)) in
             rest.still d k (ap (s.opening.frozen d k) one.1 ∙ fz) one.2 inside ∙ a.still d k fz some inside);
-        chunks = (
-          carry_reads S F s.opening _ _ _ _ _ _ rest.carries rest.still l (F.frame ChunkFrame c) a.reads,
-          rest.chunks,
+        chunks = λ long. (
+          carry_reads S F s.opening _ _ _ _ _ _ rest.carries rest.still l (F.frame ChunkFrame c)
+              (a.reads (long c (inl refl))),
+          rest.chunks (λ x has. long x (inr has)),
         );
       }
 

@@ -88,6 +88,7 @@ module _ (S : Shape) (F : Formats) where
     within = r.within;
     stand = r.stand;
     marked = r.marked;
+    long = r.long;
   }
 
   reading_under : (opening : Opening) → (img : ℕ → Page) (p q g : ℕ → ℕ) (ls : List Locator) (content : Content)

@@ -4,6 +4,7 @@ use Rattle.std.proofs.lemmas.Bool.{cases_eq}
 use Rattle.law_machine.specs.Device.{Inside, Page, Shape}
 use Rattle.law_machine.specs.Element.{Content, Entry, Locator, Map, Opening, Run}
 use Rattle.law_machine.specs.Formats.{ChunkFrame, Formats, damage_in, fault_for, limit_in, opening_in, pages_from}
+use Rattle.law_machine.specs.Format.{Format}
 use Rattle.law_machine.specs.Geometry.{IsGeometry, shape_of}
 use Rattle.law_machine.specs.Index.{AllPass, Gives, Holds, Passes, Reads, ReadsAs, Value, entries_of, live, lookup}
 use Rattle.law_machine.specs.Lists.{◌∈◌}
@@ -36,6 +37,7 @@ module _ (S : Shape) (F : Formats) (d h : Opening) (img : ℕ → Page) (p g : �
     within = subst (λ (n : ℕ). l.page + length bs ≤ n) (sym (limit l r.passes)) r.within;
     stand = r.stand;
     marked = r.marked;
+    long = r.long;
   }
 
   reading_by : (ls : List Locator) (content : Content) → ((l : Locator) → l ∈ ls → Passes S F img p g l)
@@ -126,7 +128,7 @@ module _ (S : Shape) (F : Formats) (count : ℕ) (a b : ℕ → Page) (lies : Li
   recovers_alike n m r = recovers_alike_but (opening_in S F a) (opening_in S F b) n m same_damage (λ p g e i k fz. fz) (λ p g l. refl) r
 
 -- where the pages of a geometry lie
-module _ (E P N Q f : ℕ) (g : IsGeometry E P N Q) where
+module _ (E P N Q : ℕ) (f : Format) (g : IsGeometry E P N Q) where
   frame_below : (e i : ℕ) → e < E → i < P → 2 + (e * P + i) < 1 + E * P + N
   frame_below e i le li = let more : suc e * P ≤ E * P = mul-le-mul_right P le in let some : 0 < N = g.some_section in omega arith
 

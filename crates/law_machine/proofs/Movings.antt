@@ -123,7 +123,7 @@ module _ (S : Shape) (F : Formats) (shape : IsShape S) (format : IsFormat S F) w
       (F.frame ChunkFrame payload) =
       subst (λ (o : Opening). Reads S F o
       (newest_page mid) mid.world.extents.pointer mid.world.extents.generation new
-      (F.frame ChunkFrame payload)) a.opening a.reads in
+      (F.frame ChunkFrame payload)) a.opening (a.reads (λ fits. o.7.long)) in
       let done = moved_value s.opening _ _ _ (lookup id (index_now s))
       (map_now s id) k l new payload value pass o.5.there o.6
       (carry_reads S F s.opening _ _ _ _ _ _ a.carries a.still l (F.frame ChunkFrame payload) o.7) fresh in

@@ -8,8 +8,8 @@ use Rattle.law_machine.specs.Device.{IsShape, Shape}
 use Rattle.law_machine.specs.Element.{Locator, Opening}
 use Rattle.law_machine.specs.Events.{ReadsNow, newest_page}
 use Rattle.law_machine.specs.Extents.{Purpose}
-use Rattle.law_machine.specs.Formats.{Formats, FrameKind}
-use Rattle.law_machine.specs.Frames.{IsFormat}
+use Rattle.law_machine.specs.Formats.{Formats, FrameKind, is_long_frame}
+use Rattle.law_machine.specs.Frames.{AreLong, IsFormat}
 use Rattle.law_machine.specs.Index.{Chunks, Reads}
 use Rattle.law_machine.specs.Machine.{PastGreatest, World}
 use Rattle.law_machine.specs.Sound.{Sound}
@@ -32,9 +32,10 @@ frame_sound_by S F apart s t purpose kind payload l by shape format sound fits a
 pub frame_read_by : (S : Shape) (F : Formats) (apart : Bool) (s t : State) (purpose : Purpose) (kind : FrameKind)
     (payload : List ℕ) (l : Locator) → (apart ≡ true → S.apart ≡ true)
     → IsShape S → IsFormat S F → Sound S F s → (PastGreatest S t.world → ⊥)
+    → is_long_frame F (F.frame kind payload) ≡ true
     → AppendsFrameBy S F apart s purpose kind payload l t → ReadsNow S F t l kind payload
-frame_read_by S F apart s t purpose kind payload l by shape format sound fits a =
-    (added S F shape format apart by s t purpose kind payload l sound a (in_bounds S t.world fits)).reads
+frame_read_by S F apart s t purpose kind payload l by shape format sound fits long a =
+    (added S F shape format apart by s t purpose kind payload l sound a (in_bounds S t.world fits)).reads (λ inside. long)
 
 pub read_before_by : (S : Shape) (F : Formats) (apart : Bool) (s t : State) (purpose : Purpose) (kind old : FrameKind)
     (payload bytes : List ℕ) (l k : Locator) → (apart ≡ true → S.apart ≡ true)
@@ -52,7 +53,8 @@ read_before_by S F apart s t purpose kind old payload bytes l k by shape format 
 
 pub chunks_read_by : (S : Shape) (F : Formats) (apart : Bool) (s t : State) (cs : List (List ℕ)) (ls : List Locator)
     → (apart ≡ true → S.apart ≡ true)
-    → IsShape S → IsFormat S F → Sound S F s → (PastGreatest S t.world → ⊥) → AppendsChunksBy S F apart s cs ls t
+    → IsShape S → IsFormat S F → Sound S F s → (PastGreatest S t.world → ⊥) → AreLong S F cs
+    → AppendsChunksBy S F apart s cs ls t
     → Chunks S F t.opening (newest_page t) t.world.extents.pointer t.world.extents.generation ls cs
-chunks_read_by S F apart s t cs ls by shape format sound fits a =
-    (put_in S F shape format apart by s t cs ls sound a (in_bounds S t.world fits)).chunks
+chunks_read_by S F apart s t cs ls by shape format sound fits long a =
+    (put_in S F shape format apart by s t cs ls sound a (in_bounds S t.world fits)).chunks long

@@ -1,47 +1,63 @@
 -- The device's pages are apart.
-use Rattle.std.proofs.Common.{◌≡◌, ◌≢◌, inl, inr, ℕ, suc, ◌+◌, ◌-◌, ◌*◌, ◌/◌, ◌%◌, ◌<◌, ◌≤◌, Bool, true, false, if◌then◌else◌, ◌==◌, nat_le, nat_lt, le_refl, eq-eqb, ne_eqb, mul-le-mul_right, refl, sym, ap, ◌∙◌, arith}
-use Rattle.std.proofs.lemmas.Bool.{cases_Bool, cases_eq, cases_lt}
+use Rattle.std.proofs.Common.{◌≡◌, ◌≢◌, inl, inr, ℕ, suc, ◌+◌, ◌-◌, ◌*◌, ◌/◌, ◌%◌, ◌<◌, ◌≤◌, true, false, ◌==◌, nat_lt, eq-eqb, ne_eqb, mul-le-mul_right, refl, sym, ap, ◌∙◌, arith}
+use Rattle.std.proofs.lemmas.Bool.{cases_eq, cases_lt}
 use Rattle.std.proofs.lemmas.Bool.Decides.{nat_tests}
 use Rattle.std.proofs.lemmas.Nat.{div-mul-add, mod-mul-add, div_below}
-use Rattle.law_machine.specs.Device.{FramePage, IsShape, IsWeighing, RootPage, SectionPage, Shape}
-use Rattle.law_machine.specs.Geometry.{HasExtentsApart, IsGeometry, apart_in, by_size_in, heads_in, hidden_stand_in, marks_in, most_run_extents, number_at, shape_of, weigh_in}
+use Rattle.law_machine.specs.Device.{FramePage, IsShape, IsWeighing, Page, RootPage, SectionPage, Shape}
+use Rattle.law_machine.specs.Format.{Format, Four, Two}
+use Rattle.law_machine.specs.Geometry.{HasExtentsApart, IsGeometry, apart_in, by_size_in, chunk_bytes_in, fills_in, greatest_mark_in, hidden_stand_in, mark_in, most_run_extents, most_runs_in, most_weight_in, number_at, shape_of, weigh_in}
 use Rattle.law_machine.proofs.Meant.{digest_fits}
 
 -- in a format in which chunks and runs lie apart hidden entries don't stand, and merges go by size
-rules_apart : (f : ℕ) → apart_in f ≡ true → (hidden_stand_in f ≡ false) × (by_size_in f ≡ true)
-rules_apart f on = (grind (arith, nat_tests), grind (arith, nat_tests))
+rules_apart : (f : Format) → apart_in f ≡ true → (hidden_stand_in f ≡ false) × (by_size_in f ≡ true)
+rules_apart Two on = absurd (let e : false ≡ true = on in cc)
+rules_apart (Four store device) on = (refl, refl)
+
+-- only there is an extent filled up
+fills_apart : (f : Format) → fills_in f ≡ true → apart_in f ≡ true
+fills_apart Two on = on
+fills_apart (Four store device) on = on
 
 some_run_extents : (E : ℕ) → 1 ≤ most_run_extents E
 some_run_extents E = grind (arith, nat_tests)
 
 -- an entry weighs something, one of more chunks no less, and one of eight no more than a run may
-weighs_some : (b : Bool) → 1 ≤ (if b then 17 + 16 * 0 else 1)
-weighs_some true = omega arith
-weighs_some false = omega arith
+weighs_some : (f : Format) → 1 ≤ weigh_in f 0
+weighs_some Two = omega arith
+weighs_some (Four store device) = omega arith
 
-weighs_more : (b : Bool) (c d : ℕ) → c ≤ d → (if b then 17 + 16 * c else 1) ≤ (if b then 17 + 16 * d else 1)
-weighs_more true c d le = omega arith
-weighs_more false c d le = omega arith
+weighs_more : (f : Format) (c d : ℕ) → c ≤ d → weigh_in f c ≤ weigh_in f d
+weighs_more Two c d le = omega arith
+weighs_more (Four store device) c d le = omega arith
 
-pub is_weighing : (f : ℕ) → IsWeighing (weigh_in f)
-is_weighing f = record { some = weighs_some (marks_in f); more = λ c d le. weighs_more (marks_in f) c d le }
+pub is_weighing : (f : Format) → IsWeighing (weigh_in f)
+is_weighing f = record { some = weighs_some f; more = λ c d le. weighs_more f c d le }
 
-weighs_few : (b : Bool) (pages : ℕ) → 0 < pages
-    → (if b then 17 + 16 * 8 else 1) ≤ (if b then 4096 * pages - 45 else (4096 * pages - 45) / 81)
-weighs_few true pages some = omega arith
-weighs_few false pages some = omega arith
+weighs_few : (f : Format) (pages : ℕ) → 0 < pages → weigh_in f 8 ≤ most_weight_in f pages
+weighs_few Two pages some = omega arith
+weighs_few (Four store device) pages some = omega arith
 
--- a chunk holds something behind its head
-holds_some : (b : Bool) (pages : ℕ) → 0 < pages → 0 < 4096 * pages - (41 + (if b then 26 else 0))
-holds_some true pages some = omega arith
-holds_some false pages some = omega arith
+-- a chunk holds something beside its head
+holds_some : (f : Format) (pages : ℕ) → 0 < pages → 0 < chunk_bytes_in f pages
+holds_some Two pages some = omega arith
+holds_some (Four store device) pages some = omega arith
 
--- up to format 2 each weighs one
-pub weighs_one : (E P N Q f : ℕ) → f ≤ 2 → ((c : ℕ) → (shape_of E P N Q f).weigh c ≡ 1)
-    × ((shape_of E P N Q f).most_weight ≡ (4096 * P - 45) / 81)
-weighs_one E P N Q f le = let off : marks_in f ≡ false = grind (arith, nat_tests) in ((λ c. rw off refl), rw off refl)
+-- a root may have as many runs as a Stage leaves
+runs_enough : (f : Format) → 4 ≤ most_runs_in f
+runs_enough Two = omega arith
+runs_enough (Four store device) = omega arith
 
-module _ (E P N Q f : ℕ) (g : IsGeometry E P N Q) where
+-- a mark can be
+marks_fit : (f : Format) (page : Page) → mark_in f page ≤ greatest_mark_in f
+marks_fit Two page = omega arith
+marks_fit (Four store device) page = digest_fits (number_at 9 8 page)
+
+-- in format 2 each entry weighs one
+pub weighs_one : (E P N Q : ℕ) → ((c : ℕ) → (shape_of E P N Q Two).weigh c ≡ 1)
+    × ((shape_of E P N Q Two).most_weight ≡ (4096 * P - 45) / 81)
+weighs_one E P N Q = ((λ c. refl), refl)
+
+module _ (E P N Q : ℕ) (f : Format) (g : IsGeometry E P N Q) where
   S : Shape
   S = shape_of E P N Q f
 
@@ -105,16 +121,13 @@ module _ (E P N Q f : ℕ) (g : IsGeometry E P N Q) where
     ];
     root_only = only_root;
     some_chunk = omega arith;
-    enough_runs = elim (cases_Bool (nat_le f 2)) [
-      | inl few ↦ rw few (le_refl _)
-      | inr many ↦ rw many (omega arith)
-    ];
+    enough_runs = runs_enough f;
     weighs = is_weighing f;
-    one_fits = weighs_few (marks_in f) P g.some_page;
-    fills = λ on. on;
-    marks = λ page. digest_fits (marks_in f) (number_at 9 8 page);
+    one_fits = weighs_few f P g.some_page;
+    fills = fills_apart f;
+    marks = marks_fit f;
     apart = λ on. ((rules_apart f on).0, (rules_apart f on).1, some_run_extents E, wide on);
-    some_byte = holds_some (heads_in f) P g.some_page;
+    some_byte = holds_some f P g.some_page;
     section_only = only_section;
     frame_kind = λ e i inside. at_frames (2 + (e * P + i)) (omega arith) (inside_below e i inside.0 inside.1);
     extent = λ e i inside. ap (λ (n : ℕ). n / P) (let m : 2 + (e * P + i) - 2 ≡ e * P + i = omega arith in m)

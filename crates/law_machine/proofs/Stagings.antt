@@ -84,7 +84,7 @@ module _ (S : Shape) (F : Formats) (shape : IsShape S) (format : IsFormat S F) w
       (each (λ (r : Run). Reads S F mid.opening (newest_page mid) q mid.world.extents.generation r.place
       (F.frame RunFrame (F.run r.entries))) _ _
       (reads_under S F mid.opening _ _ _ _ l (F.frame RunFrame (F.run entries))
-      (rest (record { place = l; entries = entries }) (among (record { place = l; entries = entries }) (inl refl))) a.reads)
+      (rest (record { place = l; entries = entries }) (among (record { place = l; entries = entries }) (inl refl))) (a.reads (format.long_run entries)))
       (λ r has. reads_under S F mid.opening _ _ _ _ r.place (F.frame RunFrame (F.run r.entries))
       (rest r (among r (inr (subst (λ (rs : List Run). r ∈ rs) left has)))) (a.sound.gives.runs_read r (in_drop k mid.runs r has))))
       (λ stand. each (λ (r : Run). (id : ℕ) → AllPass S F (newest_page mid) q mid.world.extents.generation (lookup id r.entries))

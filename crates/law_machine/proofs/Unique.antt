@@ -5,7 +5,8 @@ use Rattle.law_machine.proofs.LocalRecovery.{live_passes}
 use Rattle.law_machine.proofs.Meant.{none_for}
 use Rattle.law_machine.specs.Device.{IsShape, Page, Shape, is_meant}
 use Rattle.law_machine.specs.Element.{Content, Damaged, Entry, Locator, Map, Run}
-use Rattle.law_machine.specs.Formats.{ChunkFrame, Formats, FrameKind, RunFrame, Stand, fault_for, limit_in, opening_in, pages_from, places}
+use Rattle.law_machine.specs.Format.{number_of}
+use Rattle.law_machine.specs.Formats.{ChunkFrame, Formats, FrameKind, RunFrame, Stand, fault_for, is_long_frame, limit_in, opening_in, pages_from, places}
 use Rattle.law_machine.specs.Frames.{IsFormat, IsFrameFormat}
 use Rattle.law_machine.specs.Index.{Passes, Reads, ReadsAs, Value, after, entries_of, live, lookup}
 use Rattle.law_machine.specs.Lists.{◌∈◌}
@@ -50,11 +51,11 @@ module _ (S : Shape) (F : Formats) (format : IsFormat S F) (img : ℕ → Page) 
   not_faulty : (pointers generations : ℕ → ℕ) (l : Locator) (payload : List ℕ)
       → l.page + length (F.frame ChunkFrame payload) ≤ limit_in S F pointers generations l
       → limit_in S F pointers generations l ≤ S.pages → Stand S F img l.extent l.page (F.frame ChunkFrame payload)
-      → is_meant S l.mark (F.frame ChunkFrame payload) ≡ true
+      → is_meant S l.mark (F.frame ChunkFrame payload) ≡ true → is_long_frame F (F.frame ChunkFrame payload) ≡ true
       → fault_for S F ChunkFrame l.mark (pages_from S F img l.extent l.page (limit_in S F pointers generations l - l.page)) ≡ None
-  not_faulty pointers generations l payload within low stand meant =
+  not_faulty pointers generations l payload within low stand meant long =
       none_for S F format img l.extent l.page (limit_in S F pointers generations l - l.page) ChunkFrame payload l.mark
-      (omega arith) (omega arith) stand meant
+      (omega arith) (omega arith) stand meant long
 
   module _ (fits : (e : ℕ) → p e ≤ S.pages) (also : (e : ℕ) → q e ≤ S.pages) where
     same_reading : (ls : List Locator) (v w : Content)
@@ -70,10 +71,10 @@ module _ (S : Shape) (F : Formats) (format : IsFormat S F) (img : ℕ → Page) 
         ∙ sym b.4
     same_reading (l ∷ ls) v w same (inl a) (inr b) = absurd
         (let e : None ≡ Some b.0 = sym (not_faulty q k l a.0 (le_trans a.2.within (le_of_eq (same l (inl refl))))
-        (limit_low S F q k also l) a.2.stand a.2.marked) ∙ faulty q k l b.0 b.1 in cc)
+        (limit_low S F q k also l) a.2.stand a.2.marked a.2.long) ∙ faulty q k l b.0 b.1 in cc)
     same_reading (l ∷ ls) v w same (inr a) (inl b) = absurd
         (let e : None ≡ Some a.0 = sym (not_faulty p g l b.0 (le_trans b.2.within (le_of_eq (sym (same l (inl refl)))))
-        (limit_low S F p g fits l) b.2.stand b.2.marked) ∙ faulty p g l a.0 a.1 in cc)
+        (limit_low S F p g fits l) b.2.stand b.2.marked b.2.long) ∙ faulty p g l a.0 a.1 in cc)
     same_reading (l ∷ ls) v w same (inr a) (inr b) =
         let one : a.0 ≡ b.0 = (let e : Some a.0 ≡ Some b.0 = sym (faulty p g l a.0 a.1)
         ∙ ap (λ (n : ℕ). fault_for S F ChunkFrame l.mark (pages_from S F img l.extent l.page (n - l.page))) (same l (inl refl))
@@ -151,7 +152,7 @@ one_recovery S F shape format img n k m o a b = (
 
 pub new_store : (S : Shape) (F : Formats) (img : ℕ → Page) → IsNew S F img → Recovers S F img 0 (λ id. None)
 new_store S F img new = record {
-  formats = λ j. S.format;
+  formats = λ j. number_of S.format;
   versions = λ j. 1;
   recorded = λ j. 0;
   pointers = λ e. 0;

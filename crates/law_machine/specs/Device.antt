@@ -1,5 +1,6 @@
 -- The device: its pages, what lies on each, and the limits of a store.
 use Rattle.std.specs.Prelude.{◌≡◌, ◌+◌, ◌<◌, ◌≤◌, ℕ, Bool, true, false, List}
+use Rattle.law_machine.specs.Format.{Format}
 use Rattle.law_machine.specs.Meant.{Mark, first_mark, same_mark}
 
 -- the bytes of a page
@@ -19,7 +20,7 @@ pub record Shape : Type 0 where
   pub pages : ℕ
   pub sections : ℕ
   -- the format that new superblocks are written in
-  pub format : ℕ
+  pub format : Format
   -- a version of the superblock needs the page writes that it counts; where not, a root needs all page writes that were
   -- staged before it
   pub pages_first : Bool

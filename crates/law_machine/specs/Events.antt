@@ -26,17 +26,18 @@ AllFullButLast most (c ∷ d ∷ cs) = (length c ≡ most) × (d ≢ []) × AllF
 abbrev pub Chunked : (most : ℕ) → List ℕ → List (List ℕ) → Type 0
 Chunked most bytes pieces = (joined pieces ≡ bytes) × (0 < length pieces) × AllFullButLast most pieces
 
--- each piece behind its head, numbered from this number on
-abbrev pub with_heads : Formats → (id number count command : ℕ) → List (List ℕ) → List (List ℕ)
-with_heads F id number count command [] = []
-with_heads F id number count command (piece ∷ pieces) =
-    (F.head id number count command ++ piece) ∷ with_heads F id (suc number) count command pieces
+-- the payload of a chunk for each piece, numbered from this number on
+abbrev pub headed : Formats → (id number count command : ℕ) → List (List ℕ) → List (List ℕ)
+headed F id number count command [] = []
+headed F id number count command (piece ∷ pieces) =
+    F.chunk id number count command piece ∷ headed F id (suc number) count command pieces
 
 module _ (S : Shape) (F : Formats) where
-  -- the payloads of the chunks of a put that is this command: the pieces of its bytes, each behind its head, numbered from 0 on
+  -- the payloads of the chunks of a put that is this command: the pieces of its bytes, each with its head.
+  -- They are numbered from 0 on
   abbrev pub ArePayloads : (id command : ℕ) → List ℕ → List (List ℕ) → Type 0
   ArePayloads id command bytes cs =
-      (pieces : List (List ℕ)) × Chunked S.chunk_bytes bytes pieces × (cs ≡ with_heads F id 0 (length pieces) command pieces)
+      (pieces : List (List ℕ)) × Chunked S.chunk_bytes bytes pieces × (cs ≡ headed F id 0 (length pieces) command pieces)
 
   -- the persistent root includes commands 1 to n, and no more
   abbrev pub IsFrontier : State → ℕ → Type 0

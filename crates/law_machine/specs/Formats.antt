@@ -1,12 +1,12 @@
 -- How pages are spelled, and the image of a set of elements.
-use Rattle.std.specs.Prelude.{◌≡◌, ◌-◌, ◌&&◌, ◌∷◌, ◌==◌, ℕ, zero, suc, Bool, List, Option, Some, None, nat_le, nat_lt, [], if◌then◌else◌}
+use Rattle.std.specs.Prelude.{◌≡◌, ◌-◌, ◌&&◌, ◌∷◌, ◌==◌, ℕ, zero, suc, Bool, true, List, Option, Some, None, nat_le, nat_lt, [], if◌then◌else◌}
 use Rattle.law_machine.specs.Cut.{Cut, page_in}
 use Rattle.law_machine.specs.Device.{FramePage, Page, PageKind, RootPage, SectionPage, Shape, is_meant}
 use Rattle.law_machine.specs.Element.{Entry, Locator, Log, Opening, Run}
 use Rattle.law_machine.specs.Extents.{first_found, reach}
 use Rattle.law_machine.specs.Lists.{latest}
 use Rattle.law_machine.specs.Meant.{Mark}
-use Rattle.law_machine.specs.Refusal.{Misplaced, Refusal}
+use Rattle.law_machine.specs.Refusal.{BadLength, Misplaced, Refusal}
 
 -- what a frame holds: a chunk of a shard, or a run of the index
 pub data FrameKind : Type 0 where
@@ -20,9 +20,12 @@ pub record Formats : Type 0 where
   pub frame : FrameKind → List ℕ → List Page
   -- why no frame of that kind stands at the head of these pages, all to which it may reach; None where one does
   pub fault : FrameKind → List Page → Option Refusal
-  -- what a chunk's payload begins with, before its piece of the shard's bytes: whose chunk it is, its number in the shard, how many
-  -- the shard has, and the number of the command that put it; and that piece of a payload. A format may have no heads
-  pub head : (id number count command : ℕ) → List ℕ
+  -- a frame that begins with this page is long enough for what it holds: a chunk's frame for the head of a chunk
+  pub is_long : Page → Bool
+  -- the payload of a chunk: its piece of the shard's bytes, whose chunk it is, its number in the shard, how many the
+  -- shard has, and the number of the command that put it. A format may leave out all but the piece
+  pub chunk : (id number count command : ℕ) → (piece : List ℕ) → List ℕ
+  -- the piece of a payload
   pub body : (payload : List ℕ) → List ℕ
   -- the payload of a run
   pub run : List Entry → List ℕ
@@ -34,6 +37,11 @@ pub record Formats : Type 0 where
 abbrev pub refused_or : Option Refusal → Refusal → Refusal
 refused_or None f = f
 refused_or (Some g) f = g
+
+-- a frame of these pages is long enough for what it holds. Its first page shows it
+abbrev pub is_long_frame : Formats → List Page → Bool
+is_long_frame F [] = true
+is_long_frame F (page ∷ pages) = F.is_long page
 
 -- where the frames of the runs begin
 abbrev pub places : List Run → List Locator
@@ -66,9 +74,14 @@ module _ (S : Shape) (F : Formats) where
 
   -- why no frame of that kind stands at the head of these pages that a locator of this mark means: the frame's own fault, else
   -- that it is another one
-  abbrev pub fault_for : FrameKind → Mark → List Page → Option Refusal
-  fault_for kind m pages = if is_meant S m pages then F.fault kind pages
+  abbrev pub fault_of_meant : FrameKind → Mark → List Page → Option Refusal
+  fault_of_meant kind m pages = if is_meant S m pages then F.fault kind pages
       else Some (refused_or (F.fault kind pages) Misplaced)
+
+  -- why none stands there that is long enough for what it holds: that fault, else that it is too short
+  abbrev pub fault_for : FrameKind → Mark → List Page → Option Refusal
+  fault_for kind m pages = if is_long_frame F pages then fault_of_meant kind m pages
+      else Some (refused_or (fault_of_meant kind m pages) BadLength)
 
   -- how far the frame at a locator may reach, under a superblock: of another generation nothing was found
   abbrev pub limit_in : (pointers generations : ℕ → ℕ) → Locator → ℕ

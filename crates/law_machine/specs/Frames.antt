@@ -1,8 +1,8 @@
 -- The laws of a format.
-use Rattle.std.specs.Prelude.{◌≡◌, ◌+◌, ◌<◌, ◌≤◌, ◌∷◌, ◌++◌, ℕ, suc, true, List, length, None, if◌then◌else◌}
+use Rattle.std.specs.Prelude.{◌≡◌, ◌+◌, ◌<◌, ◌≤◌, ◌∷◌, ℕ, suc, true, List, length, None, if◌then◌else◌}
 use Rattle.law_machine.specs.Device.{Page, Shape}
 use Rattle.law_machine.specs.Element.{Entry, Locator}
-use Rattle.law_machine.specs.Formats.{Formats, FrameKind, Stand, pages_from}
+use Rattle.law_machine.specs.Formats.{ChunkFrame, Formats, FrameKind, RunFrame, Stand, is_long_frame, pages_from}
 use Rattle.law_machine.specs.Index.{InRange, IsRunList}
 use Rattle.law_machine.specs.Lists.{◌∈◌}
 use Rattle.law_machine.specs.Safe.{FitsExtent}
@@ -10,6 +10,11 @@ use Rattle.law_machine.specs.Safe.{FitsExtent}
 -- how many runs a root that is staged has at most
 abbrev pub most_staged : Shape → ℕ
 most_staged S = if S.by_size then S.most_runs else 4
+
+-- each of these payloads is long enough for its head, if a chunk of it fits on an extent
+abbrev pub AreLong : Shape → Formats → List (List ℕ) → Type 0
+AreLong S F payloads = (payload : List ℕ) → payload ∈ payloads → length (F.frame ChunkFrame payload) ≤ S.pages
+    → is_long_frame F (F.frame ChunkFrame payload) ≡ true
 
 -- what the machine asks of the spelling of its pages
 pub record IsFormat (S : Shape) (F : Formats) : Type 0 where
@@ -30,8 +35,14 @@ pub record IsFormat (S : Shape) (F : Formats) : Type 0 where
   pub root_fits : (v n : ℕ) (ls : List Locator) → 1 ≤ v → v ≤ S.greatest_number → n ≤ S.greatest_number
       → length ls ≤ most_staged S → ((l : Locator) → l ∈ ls → InRange S l) → F.fits_root v n ls ≡ true
   pub run_fits : (entries : List Entry) → IsRunList S entries → F.fits_run entries ≡ true
-  -- behind its head a chunk's payload is its piece of the shard's bytes
-  pub behind_head : (id number count command : ℕ) (piece : List ℕ) → F.body (F.head id number count command ++ piece) ≡ piece
+  -- of a chunk's payload the piece of the shard's bytes is read back
+  pub one_piece : (id number count command : ℕ) (piece : List ℕ) → F.body (F.chunk id number count command piece) ≡ piece
+  -- each chunk and each run that fits on an extent is long enough
+  pub long_chunk : (id number count command : ℕ) (piece : List ℕ)
+      → length (F.frame ChunkFrame (F.chunk id number count command piece)) ≤ S.pages
+      → is_long_frame F (F.frame ChunkFrame (F.chunk id number count command piece)) ≡ true
+  pub long_run : (entries : List Entry) → length (F.frame RunFrame (F.run entries)) ≤ S.pages
+      → is_long_frame F (F.frame RunFrame (F.run entries)) ≡ true
   -- where a frame stands there is no fault, however many pages follow
   pub no_fault : (img : ℕ → Page) (e i count : ℕ) (kind : FrameKind) (payload : List ℕ)
       → length (F.frame kind payload) ≤ count → i + count ≤ S.pages → Stand S F img e i (F.frame kind payload)

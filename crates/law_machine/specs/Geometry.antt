@@ -1,47 +1,68 @@
 -- Where everything lies on the device, for a superblock of any number of sections.
-use Rattle.std.specs.Prelude.{◌≡◌, ◌+◌, ◌*◌, ◌-◌, ◌/◌, ◌%◌, ◌<◌, ◌≤◌, ◌^◌, ◌==◌, ℕ, zero, suc, Bool, true, List, slice_index, nat_le, nat_lt, if◌then◌else◌}
+use Rattle.std.specs.Prelude.{◌≡◌, ◌+◌, ◌*◌, ◌-◌, ◌/◌, ◌%◌, ◌<◌, ◌≤◌, ◌^◌, ◌==◌, ℕ, zero, suc, Bool, true, false, List, [], slice_index, take, nat_le, nat_lt, if◌then◌else◌}
 use Rattle.law_machine.specs.Device.{FramePage, Page, RootPage, SectionPage, Shape}
+use Rattle.law_machine.specs.Format.{Format, Four, Two}
 use Rattle.law_machine.specs.Meant.{Mark}
 
--- The rules that a format goes by:
--- up to format 2 a version of the superblock needs the page writes that it counts; in format 3 a root needs all page writes
-abbrev pub pages_first_in : (format : ℕ) → Bool
-pages_first_in format = nat_le format 2
+-- The rules that a format goes by.
+-- In format 4 a root needs all page writes. In format 2 a version of the superblock needs the page writes that it counts
+abbrev pub pages_first_in : Format → Bool
+pages_first_in Two = true
+pages_first_in (Four store device) = false
 
 -- an entry of a run that a newer one hides names what is there
-abbrev pub hidden_stand_in : (format : ℕ) → Bool
-hidden_stand_in format = nat_le format 2
+abbrev pub hidden_stand_in : Format → Bool
+hidden_stand_in Two = true
+hidden_stand_in (Four store device) = false
 
--- in format 3 a Stage merges the newest runs by their sizes
-abbrev pub by_size_in : (format : ℕ) → Bool
-by_size_in format = nat_lt 2 format
+-- in format 4 a Stage merges the newest runs by their sizes
+abbrev pub by_size_in : Format → Bool
+by_size_in Two = false
+by_size_in (Four store device) = true
 
 -- chunks and runs lie apart
-abbrev pub apart_in : (format : ℕ) → Bool
-apart_in format = nat_lt 2 format
+abbrev pub apart_in : Format → Bool
+apart_in Two = false
+apart_in (Four store device) = true
 
--- an extent that was found with pages is filled up behind them
-abbrev pub fills_in : (format : ℕ) → Bool
-fills_in format = nat_lt 2 format
+-- an extent that was found with pages is filled up after them
+abbrev pub fills_in : Format → Bool
+fills_in Two = false
+fills_in (Four store device) = true
 
 -- a locator has the mark of the frame that it means
-abbrev pub marks_in : (format : ℕ) → Bool
-marks_in format = nat_lt 2 format
+abbrev pub marks_in : Format → Bool
+marks_in Two = false
+marks_in (Four store device) = true
 
--- a chunk's payload begins with a head
-abbrev pub heads_in : (format : ℕ) → Bool
-heads_in format = nat_lt 2 format
+-- a chunk's payload has a head
+abbrev pub heads_in : Format → Bool
+heads_in Two = false
+heads_in (Four store device) = true
 
 -- a version of a section of the superblock records the root that was persistent as it was staged
-abbrev pub records_in : (format : ℕ) → Bool
-records_in format = nat_lt 2 format
+abbrev pub records_in : Format → Bool
+records_in Two = false
+records_in (Four store device) = true
 
--- the bytes of a head: the identifier has 16, the chunk's number and how many there are one each, and the command's number 8
-abbrev pub head_bytes_in : (format : ℕ) → ℕ
-head_bytes_in format = if heads_in format then 26 else 0
+-- the root and each section of the superblock lie on two pages
+abbrev pub twins_in : Format → Bool
+twins_in Two = false
+twins_in (Four store device) = true
+
+-- the first eight bytes of the store's identity, which each chunk and each run has; none in format 2
+abbrev pub store_front : Format → List ℕ
+store_front Two = []
+store_front (Four store device) = take 8 store
+
+-- the bytes of a head: the identifier has 16, the chunk's number and how many there are have one each, the command's
+-- number has 8, and 8 are of the store's identity
+abbrev pub head_bytes_in : Format → ℕ
+head_bytes_in Two = 0
+head_bytes_in (Four store device) = 34
 
 -- the greatest piece of a shard in one chunk, whose frame takes one whole extent: its header has 41 bytes
-abbrev pub chunk_bytes_in : (format pages : ℕ) → ℕ
+abbrev pub chunk_bytes_in : (format : Format) (pages : ℕ) → ℕ
 chunk_bytes_in format pages = 4096 * pages - (41 + head_bytes_in format)
 
 -- the number in so many bytes from one on, high byte first
@@ -54,32 +75,41 @@ abbrev pub digest_number : Page → ℕ
 digest_number page = number_at 9 8 page % 18446744073709551616
 
 -- which is a frame's mark, and 0 in a format that has no marks
-abbrev pub mark_in : (format : ℕ) → Page → Mark
-mark_in format page = if marks_in format then digest_number page else 0
+abbrev pub mark_in : Format → Page → Mark
+mark_in Two page = 0
+mark_in (Four store device) page = digest_number page
 
-abbrev pub greatest_mark_in : (format : ℕ) → ℕ
-greatest_mark_in format = if marks_in format then 18446744073709551615 else 0
+abbrev pub greatest_mark_in : Format → ℕ
+greatest_mark_in Two = 0
+greatest_mark_in (Four store device) = 18446744073709551615
 
--- what an entry of so many chunks weighs: up to format 2, where each takes 81 bytes of a run, one; in a format that has marks as many
--- bytes as it takes
-abbrev pub weigh_in : (format chunks : ℕ) → ℕ
-weigh_in format chunks = if marks_in format then 17 + 16 * chunks else 1
+-- what an entry of so many chunks weighs: in format 4 as many bytes as it takes. In format 2 each takes 81 bytes of a
+-- run, and weighs one
+abbrev pub weigh_in : (format : Format) (chunks : ℕ) → ℕ
+weigh_in Two chunks = 1
+weigh_in (Four store device) chunks = 17 + 16 * chunks
 
--- what the entries of a run may weigh that takes one whole extent: a frame's header has 41 bytes, and a run's count 4
-abbrev pub most_weight_in : (format pages : ℕ) → ℕ
-most_weight_in format pages = if marks_in format then 4096 * pages - 45 else (4096 * pages - 45) / 81
+-- what the entries of a run may weigh that takes one whole extent. A frame's header has 41 bytes, and a run's count 4.
+-- Before the count format 4 has 8 bytes of the store's identity
+abbrev pub most_weight_in : (format : Format) (pages : ℕ) → ℕ
+most_weight_in Two pages = (4096 * pages - 45) / 81
+most_weight_in (Four store device) pages = 4096 * pages - 53
+
+-- how many runs a root may have
+abbrev pub most_runs_in : Format → ℕ
+most_runs_in Two = 4
+most_runs_in (Four store device) = 24
 
 -- how many extents may hold runs where they do
 abbrev pub most_run_extents : (extents : ℕ) → ℕ
 most_run_extents extents = if nat_le 16 extents then 2 else 1
 
 -- where chunks and runs lie apart there are two extents beside those that may hold runs
-abbrev pub HasExtentsApart : (extents format : ℕ) → Type 0
+abbrev pub HasExtentsApart : (extents : ℕ) (format : Format) → Type 0
 HasExtentsApart extents format = apart_in format ≡ true → most_run_extents extents + 2 ≤ extents
 
--- section 0 is on page 0, the root on page 1, the extents begin at page 2, and behind them are the other sections.
--- Up to format 2 a root has few runs
-abbrev pub shape_of : (extents pages sections per_section format : ℕ) → Shape
+-- section 0 is on page 0, the root on page 1, the extents begin at page 2, and after them are the other sections
+abbrev pub shape_of : (extents pages sections per_section : ℕ) (format : Format) → Shape
 shape_of extents pages sections per_section format = record {
   extents = extents;
   pages = pages;
@@ -103,7 +133,7 @@ shape_of extents pages sections per_section format = record {
   section = λ e. if nat_lt e extents then e / per_section else 0;
   chunk_bytes = chunk_bytes_in format pages;
   most_chunks = 8;
-  most_runs = if nat_le format 2 then 4 else 24;
+  most_runs = most_runs_in format;
   weigh = weigh_in format;
   most_weight = most_weight_in format pages;
   greatest_number = 9223372036854775807;

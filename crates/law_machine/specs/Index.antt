@@ -2,7 +2,7 @@
 use Rattle.std.specs.Prelude.{◌≡◌, ◌≢◌, ◌⊎◌, ◌+◌, ◌-◌, ◌<◌, ◌≤◌, ◌∷◌, ◌++◌, ◌==◌, ℕ, suc, true, List, length, Option, Some, None, is_some, [], if◌then◌else◌}
 use Rattle.law_machine.specs.Device.{FitsMark, Inside, Page, Shape, is_meant}
 use Rattle.law_machine.specs.Element.{Bytes, Content, Damaged, Entry, Locator, Map, Opening, Run}
-use Rattle.law_machine.specs.Formats.{ChunkFrame, Formats, RunFrame, Stand}
+use Rattle.law_machine.specs.Formats.{ChunkFrame, Formats, RunFrame, Stand, is_long_frame}
 use Rattle.law_machine.specs.Lists.{nth, ◌∈◌}
 use Rattle.law_machine.specs.Refusal.{Refusal}
 
@@ -21,7 +21,7 @@ abbrev pub joined : List (List ℕ) → List ℕ
 joined [] = []
 joined (c ∷ cs) = c ++ joined cs
 
--- the bytes of a shard whose chunks have these payloads: what is behind their heads, one after another
+-- the bytes of a shard whose chunks have these payloads: the piece of each, one after another
 abbrev pub joined_bodies : Formats → (payloads : List (List ℕ)) → List ℕ
 joined_bodies F [] = []
 joined_bodies F (c ∷ cs) = F.body c ++ joined_bodies F cs
@@ -135,8 +135,8 @@ module _ (S : Shape) (F : Formats) where
 
   -- opening: what is known of the image at open
   module _ (opening : Opening) (img : ℕ → Page) (pointers generations : ℕ → ℕ) where
-    -- a frame of these pages lies there, below the pointer, or in an extent that isn't written before it is reset; it
-    -- reaches no further than it may, and it is the one that the locator means
+    -- a frame of these pages lies there, below the pointer, or in an extent that isn't written before it is reset. It
+    -- reaches no further than it may, it is the one that the locator means, and it is long enough for what it holds
     pub record Reads (l : Locator) (bs : List Page) : Type 0 where
       pub passes : Passes img pointers generations l
       pub below : (l.page + length bs ≤ pointers l.extent)
@@ -145,6 +145,7 @@ module _ (S : Shape) (F : Formats) where
       pub within : l.page + length bs ≤ opening.limit l
       pub stand : Stand S F img l.extent l.page bs
       pub marked : is_meant S l.mark bs ≡ true
+      pub long : is_long_frame F bs ≡ true
 
     -- each locator has a frame of that payload
     abbrev pub Chunks : List Locator → List (List ℕ) → Type 0
@@ -153,7 +154,7 @@ module _ (S : Shape) (F : Formats) where
     Chunks [] (c ∷ cs) = ⊥
     Chunks (l ∷ ls) [] = ⊥
 
-    -- reading these locators one after another gives this: what is behind the head of each payload
+    -- reading these locators one after another gives this: the piece of each payload
     abbrev pub ReadsAs : List Locator → Content → Type 0
     ReadsAs [] content = content ≡ Bytes []
     ReadsAs (l ∷ ls) content =

@@ -12,6 +12,7 @@ pub mod Element
 pub mod Events
 pub mod Example
 pub mod Extents
+pub mod Format
 pub mod Formats
 pub mod Frames
 pub mod Geometry

@@ -4,6 +4,7 @@ use Rattle.law_machine.specs.Cut.{Cut, page_in}
 use Rattle.law_machine.specs.Device.{Page, Shape}
 use Rattle.law_machine.specs.Element.{A_root, A_superblock, A_write, Element, Map, Root, Run, Superblock, Write, writes_of}
 use Rattle.law_machine.specs.Extents.{Extents, emptied, forgotten}
+use Rattle.law_machine.specs.Format.{number_of}
 use Rattle.law_machine.specs.Lists.{with}
 
 -- what was staged, the extents, and what is persistent
@@ -59,7 +60,7 @@ module _ (S : Shape) where
   -- the superblock version that is staged now
   abbrev pub superblock_now : World → (section root : ℕ) → Superblock
   superblock_now w j r = record {
-    format = S.format;
+    format = number_of S.format;
     section = j;
     version = suc (w.superblocks j);
     recorded = w.persistent.root;

@@ -2,6 +2,7 @@
 use Rattle.std.specs.Prelude.{◌≡◌, ◌<◌, ◌≤◌, ℕ, true, List, length, []}
 use Rattle.law_machine.specs.Device.{Page, Shape}
 use Rattle.law_machine.specs.Element.{Map, Opening, Root, Run}
+use Rattle.law_machine.specs.Format.{number_of}
 use Rattle.law_machine.specs.Formats.{Formats, opening_in, places}
 use Rattle.law_machine.specs.Index.{Gives, InBounds, entries_of}
 use Rattle.law_machine.specs.Lists.{◌∈◌}
@@ -46,7 +47,7 @@ RootGives S F opening r img = Gives S F opening img r.pointers r.generations [] 
 
 -- what is written when a store is made: no root is persistent yet
 pub record IsNew (S : Shape) (F : Formats) (img : ℕ → Page) : Type 0 where
-  pub superblock : (j : ℕ) → j < S.sections → img (S.section_page j) ≡ F.superblock S.format j 1 0 (λ e. 0) (λ e. 0)
+  pub superblock : (j : ℕ) → j < S.sections → img (S.section_page j) ≡ F.superblock (number_of S.format) j 1 0 (λ e. 0) (λ e. 0)
   pub root : img S.root_page ≡ F.root 1 0 []
   pub root_fits : F.fits_root 1 0 [] ≡ true
   pub some_number : 1 ≤ S.greatest_number

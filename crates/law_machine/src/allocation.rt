@@ -4,8 +4,8 @@ ghost use Rattle.law_machine.specs.Device.{IsShape, Page, Shape};
 ghost use Rattle.law_machine.specs.Element.{Locator};
 ghost use Rattle.law_machine.specs.Events.{ReadsNow, newest_page};
 ghost use Rattle.law_machine.specs.Extents.{Extents, Fits, FitsBy, Goes, NoPlace, Placed, Purpose, taken, taken_by};
-ghost use Rattle.law_machine.specs.Formats.{Formats, FrameKind};
-ghost use Rattle.law_machine.specs.Frames.{IsFormat};
+ghost use Rattle.law_machine.specs.Formats.{Formats, FrameKind, is_long_frame};
+ghost use Rattle.law_machine.specs.Frames.{AreLong, IsFormat};
 ghost use Rattle.law_machine.specs.Index.{Chunks};
 ghost use Rattle.law_machine.specs.Lists.{with};
 ghost use Rattle.law_machine.specs.Machine.{PastGreatest, World};
@@ -54,8 +54,8 @@ pub fn a_frame_is_appended_or_the_extents_are_full()
         → ((l : Locator) × (v : World) × Append S w purpose bs l v) ⊎ NoPlace S w.extents purpose (length bs) }
 {}
 
-/// A frame that is appended is read where it begins, what was read before is read as before, and the state stays sound;
-/// the chunks of a put are read in their order.
+/// A frame that is appended is read where it begins if it is long enough for what it holds. What was read before is read
+/// as before, and the state stays sound. The chunks of a put are read in their order.
 pub fn what_is_appended_is_read()
     // The state is sound where no number is past its greatest after the append, which all four clauses ask for.
     ensures sound { (S : Shape) (F : Formats) (s t : State) (purpose : Purpose) (kind : FrameKind)
@@ -65,6 +65,7 @@ pub fn what_is_appended_is_read()
     ensures frame { (S : Shape) (F : Formats) (s t : State) (purpose : Purpose) (kind : FrameKind)
         (payload : List ℕ) (l : Locator)
         → IsShape S → IsFormat S F → Sound S F s → (PastGreatest S t.world → ⊥)
+        → is_long_frame F (F.frame kind payload) ≡ true
         → AppendsFrame S F s purpose kind payload l t → ReadsNow S F t l kind payload }
     // A frame that was read at a locator before is read there as before.
     ensures before { (S : Shape) (F : Formats) (s t : State) (purpose : Purpose) (kind old_kind : FrameKind)
@@ -73,7 +74,8 @@ pub fn what_is_appended_is_read()
         → AppendsFrame S F s purpose kind payload l t → ReadsNow S F s old old_kind old_payload
         → ReadsNow S F t old old_kind old_payload }
     ensures chunks { (S : Shape) (F : Formats) (s t : State) (chunks : List (List ℕ)) (ls : List Locator)
-        → IsShape S → IsFormat S F → Sound S F s → (PastGreatest S t.world → ⊥) → AppendsChunks S F s chunks ls t
+        → IsShape S → IsFormat S F → Sound S F s → (PastGreatest S t.world → ⊥) → AreLong S F chunks
+        → AppendsChunks S F s chunks ls t
         → Chunks S F t.opening (newest_page t) t.world.extents.pointer t.world.extents.generation ls chunks }
 {}
 
@@ -109,6 +111,7 @@ pub fn what_is_appended_by_either_rule_is_read()
     ensures frame { (S : Shape) (F : Formats) (apart : Bool) (s t : State) (purpose : Purpose) (kind : FrameKind)
         (payload : List ℕ) (l : Locator) → (apart ≡ true → S.apart ≡ true)
         → IsShape S → IsFormat S F → Sound S F s → (PastGreatest S t.world → ⊥)
+        → is_long_frame F (F.frame kind payload) ≡ true
         → AppendsFrameBy S F apart s purpose kind payload l t → ReadsNow S F t l kind payload }
     ensures before { (S : Shape) (F : Formats) (apart : Bool) (s t : State) (purpose : Purpose) (kind old_kind : FrameKind)
         (payload old_payload : List ℕ) (l old : Locator) → (apart ≡ true → S.apart ≡ true)
@@ -117,7 +120,7 @@ pub fn what_is_appended_by_either_rule_is_read()
         → ReadsNow S F t old old_kind old_payload }
     ensures chunks { (S : Shape) (F : Formats) (apart : Bool) (s t : State) (chunks : List (List ℕ)) (ls : List Locator)
         → (apart ≡ true → S.apart ≡ true)
-        → IsShape S → IsFormat S F → Sound S F s → (PastGreatest S t.world → ⊥)
+        → IsShape S → IsFormat S F → Sound S F s → (PastGreatest S t.world → ⊥) → AreLong S F chunks
         → AppendsChunksBy S F apart s chunks ls t
         → Chunks S F t.opening (newest_page t) t.world.extents.pointer t.world.extents.generation ls chunks }
     // No chunk that is appended is one that was damaged at open.

@@ -38,7 +38,7 @@ pub use premises::{apart_can_happen, formats_exist, geometries_are_shapes};
 pub use recovery::{
     a_new_store_is_empty, an_image_gives_one_map, frames_tell_their_payload,
     named_pages_are_not_written, recovery_looks_at_the_pages_of_the_store,
-    what_is_reset_is_not_named, what_was_there_at_open_stays,
+    what_is_refused_of_a_frame, what_is_reset_is_not_named, what_was_there_at_open_stays,
 };
 pub use sets::{
     closed_sets_are_intact, crashes_leave_sets, every_move_keeps, needs_are_met_in_closed_sets,

@@ -4,8 +4,9 @@ ghost use Rattle.law_machine.specs.Cut.{Cut};
 ghost use Rattle.law_machine.specs.Device.{IsShape, Shape};
 ghost use Rattle.law_machine.specs.Element.{Element, Locator, Root};
 ghost use Rattle.law_machine.specs.Events.{ArePayloads, Chunked, Does, IsFrontier};
+ghost use Rattle.law_machine.specs.Format.{Two};
 ghost use Rattle.law_machine.specs.Formats.{Formats};
-ghost use Rattle.law_machine.specs.Frames.{IsFormat};
+ghost use Rattle.law_machine.specs.Frames.{AreLong, IsFormat};
 ghost use Rattle.law_machine.specs.Geometry.{shape_of};
 ghost use Rattle.law_machine.specs.Grounds.{NoRoomToStage, Refuses, TooHeavy};
 ghost use Rattle.law_machine.specs.Distinct.{AreDistinct};
@@ -125,13 +126,12 @@ pub fn format_2_stages_as_before()
 pub fn format_2_counts_names_as_before()
     ensures heavy { (S : Shape) (F : Formats) (s : State) (id : ℕ) (bytes : List ℕ) → IsShape S → ((chunks : ℕ) → S.weigh chunks ≡ 1)
         → Bounded S F s → TooHeavy S F s id bytes ↔ NamesFull S F s id }
-    ensures geometries { (extents pages sections per_section format : ℕ) → format ≤ 2
-        → let S = shape_of extents pages sections per_section format in
+    ensures geometries { (extents pages sections per_section : ℕ) → let S = shape_of extents pages sections per_section Two in
         ((chunks : ℕ) → S.weigh chunks ≡ 1) × (S.most_weight ≡ (4096 * pages - 45) / 81) }
 {}
 
-/// The bytes of a put have one list of payloads for each identifier and number of a command. It has as many as the bytes have pieces, and
-/// what is behind its heads is the bytes. So what a put tells beside its bytes changes nothing of what is read.
+/// The bytes of a put have one list of payloads for each identifier and number of a command. It has as many as the bytes
+/// have pieces, and its pieces are the bytes. So what a put stores beside its bytes changes nothing of what is read.
 pub fn a_put_has_one_list_of_payloads()
     ensures there { (S : Shape) (F : Formats) (id command : ℕ) (bytes : List ℕ) → IsShape S
         → (payloads : List (List ℕ)) × ArePayloads S F id command bytes payloads }
@@ -142,10 +142,13 @@ pub fn a_put_has_one_list_of_payloads()
         → length payloads ≡ length pieces }
     ensures bytes { (S : Shape) (F : Formats) (id command : ℕ) (bytes : List ℕ) (payloads : List (List ℕ)) → IsFormat S F
         → ArePayloads S F id command bytes payloads → joined_bodies F payloads ≡ bytes }
+    // Each that fits on an extent is long enough for its head.
+    ensures long { (S : Shape) (F : Formats) (id command : ℕ) (bytes : List ℕ) (payloads : List (List ℕ)) → IsFormat S F
+        → ArePayloads S F id command bytes payloads → AreLong S F payloads }
     // Each says its number, counted from 0 on, and how many there are.
     ensures heads { (S : Shape) (F : Formats) (id command : ℕ) (bytes : List ℕ) (payloads : List (List ℕ)) (k : ℕ) (payload : List ℕ)
         → ArePayloads S F id command bytes payloads → nth payloads k ≡ Some payload
-        → (piece : List ℕ) × (payload ≡ F.head id k (length payloads) command ++ piece) }
+        → (piece : List ℕ) × (payload ≡ F.chunk id k (length payloads) command piece) }
 {}
 
 /// After a Stage that merges by size the deletions weigh less than a quarter of what the newest entries may. So a put isn't refused 32

@@ -2,6 +2,7 @@
 ghost use Rattle.law_machine.specs.ApartExample.{example_abandoned, example_apart, example_image, example_retired};
 ghost use Rattle.law_machine.specs.Device.{IsShape, IsWeighing, Shape};
 ghost use Rattle.law_machine.specs.Example.{example_format, telling_format};
+ghost use Rattle.law_machine.specs.Format.{Format};
 ghost use Rattle.law_machine.specs.Frames.{IsFormat};
 ghost use Rattle.law_machine.specs.Geometry.{HasExtentsApart, IsGeometry, shape_of, weigh_in};
 ghost use Rattle.law_machine.specs.Open.{opened_state};
@@ -12,10 +13,10 @@ ghost use Rattle.std.specs.Prelude.{◌≡◌, ℕ, None};
 
 /// Pages of the device are apart, for any number of sections, and each format goes by rules that fit one another.
 pub fn geometries_are_shapes()
-    ensures shapes { (extents pages sections per_section format : ℕ) → IsGeometry extents pages sections per_section
+    ensures shapes { (extents pages sections per_section : ℕ) (format : Format) → IsGeometry extents pages sections per_section
         → HasExtentsApart extents format → IsShape (shape_of extents pages sections per_section format) }
     // In each format entries weigh by a rule.
-    ensures weights { (format : ℕ) → IsWeighing (weigh_in format) }
+    ensures weights { (format : Format) → IsWeighing (weigh_in format) }
 {}
 
 /// The laws that are asked of a format hold together.

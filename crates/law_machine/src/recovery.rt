@@ -1,25 +1,27 @@
 //! What a store finds on an image, and what stays of it.
 ghost use Rattle.law_machine.specs.Apart.{Grows, IsFreed};
 ghost use Rattle.law_machine.specs.Append.{AppendsFrame, appended};
-ghost use Rattle.law_machine.specs.Device.{Inside, IsShape, Page, Place, Shape};
+ghost use Rattle.law_machine.specs.Device.{Inside, IsShape, Page, Place, Shape, is_meant};
 ghost use Rattle.law_machine.specs.Element.{A_write, Locator, Map, Opening, Root, Write, roots_of, writes_of};
 ghost use Rattle.law_machine.specs.Events.{newest_page};
 ghost use Rattle.law_machine.specs.Extents.{Purpose, reach};
-ghost use Rattle.law_machine.specs.Formats.{ChunkFrame, Formats, FrameKind, Stand, fault_for, pages_from};
+ghost use Rattle.law_machine.specs.Format.{Format};
+ghost use Rattle.law_machine.specs.Formats.{ChunkFrame, Formats, FrameKind, Stand, fault_for, is_long_frame, pages_from};
 ghost use Rattle.law_machine.specs.Frames.{IsFormat, IsFrameFormat};
 ghost use Rattle.law_machine.specs.Guard.{Covers};
 ghost use Rattle.law_machine.specs.Index.{Passes, Reads};
 ghost use Rattle.law_machine.specs.Lists.{◌∈◌};
 ghost use Rattle.law_machine.specs.Geometry.{IsGeometry, shape_of};
 ghost use Rattle.law_machine.specs.Local.{AgreeBelow, LiesBelow};
+ghost use Rattle.law_machine.specs.Meant.{Mark};
 ghost use Rattle.law_machine.specs.Open.{opened_state, state_read};
 ghost use Rattle.law_machine.specs.Recovery.{IsNew, Recovers, RecoversBut};
-ghost use Rattle.law_machine.specs.Refusal.{Refusal};
+ghost use Rattle.law_machine.specs.Refusal.{BadLength, Misplaced, Refusal};
 ghost use Rattle.law_machine.specs.Round.{IsMember};
 ghost use Rattle.law_machine.specs.Sound.{Sound};
 ghost use Rattle.law_machine.specs.State.{Event, Reply, State};
 ghost use Rattle.law_machine.specs.Step.{Step};
-ghost use Rattle.std.specs.Prelude.{◌≡◌, ◌≢◌, ◌⊎◌, ◌-◌, Some, ◌+◌, ◌*◌, ◌<◌, ◌≤◌, ℕ, true, List, None, length};
+ghost use Rattle.std.specs.Prelude.{◌≡◌, ◌≢◌, ◌⊎◌, ◌-◌, Some, ◌+◌, ◌*◌, ◌<◌, ◌≤◌, ℕ, true, false, List, None, length};
 
 /// An image gives one number of commands and one map.
 pub fn an_image_gives_one_map()
@@ -38,6 +40,23 @@ pub fn frames_tell_their_payload()
         → IsFrameFormat F.frame S.pages
         → length (F.frame kind payload) ≤ S.pages → length (F.frame kind other) ≤ S.pages
         → Stand S F img e i (F.frame kind payload) → Stand S F img e i (F.frame kind other) → payload ≡ other }
+{}
+
+/// If a whole frame stands at a place, a locator of it is refused 26 if it means another frame. Else it is refused 22 if
+/// the frame is too short for what it holds, and else it isn't refused.
+pub fn what_is_refused_of_a_frame()
+    ensures another { (S : Shape) (F : Formats) (img : ℕ → Page) (e i count : ℕ) (kind : FrameKind) (payload : List ℕ) (m : Mark)
+        → IsFormat S F → length (F.frame kind payload) ≤ count → i + count ≤ S.pages
+        → Stand S F img e i (F.frame kind payload) → is_meant S m (F.frame kind payload) ≡ false
+        → fault_for S F kind m (pages_from S F img e i count) ≡ Some Misplaced }
+    ensures short { (S : Shape) (F : Formats) (img : ℕ → Page) (e i count : ℕ) (kind : FrameKind) (payload : List ℕ) (m : Mark)
+        → IsFormat S F → length (F.frame kind payload) ≤ count → i + count ≤ S.pages
+        → Stand S F img e i (F.frame kind payload) → is_meant S m (F.frame kind payload) ≡ true
+        → is_long_frame F (F.frame kind payload) ≡ false → fault_for S F kind m (pages_from S F img e i count) ≡ Some BadLength }
+    ensures none { (S : Shape) (F : Formats) (img : ℕ → Page) (e i count : ℕ) (kind : FrameKind) (payload : List ℕ) (m : Mark)
+        → IsFormat S F → length (F.frame kind payload) ≤ count → i + count ≤ S.pages
+        → Stand S F img e i (F.frame kind payload) → is_meant S m (F.frame kind payload) ≡ true
+        → is_long_frame F (F.frame kind payload) ≡ true → fault_for S F kind m (pages_from S F img e i count) ≡ None }
 {}
 
 /// A page that was found in an extent at open holds what it held then until the extent is reset. So a chunk that was damaged at open is
@@ -87,7 +106,7 @@ pub fn recovery_looks_at_the_pages_of_the_store()
         (img other : ℕ → Page) (n : ℕ) (m : Map)
         → LiesBelow S count → AgreeBelow count img other → RecoversBut S F opening img n m
         → RecoversBut S F opening other n m }
-    ensures geometries { (extents pages sections per_section format : ℕ) → IsGeometry extents pages sections per_section
+    ensures geometries { (extents pages sections per_section : ℕ) (format : Format) → IsGeometry extents pages sections per_section
         → LiesBelow (shape_of extents pages sections per_section format) (1 + extents * pages + sections) }
 {}
 

@@ -23,7 +23,7 @@ use Rattle.cs_frame.specs.declared.locators.Locator.{Locator}
 use Rattle.cs_extent.specs.Appended.{IsAppendedBy}
 use Rattle.cs_extent.specs.Frames.{IsOfFrame, family_of, next_section, root_family, root_recorded}
 use Rattle.cs_extent.specs.State.{State, extents_of, need_of, section_rows, shape}
-use Rattle.cs_reader.proofs.Superblocks.{not_first, own_format, section_listed}
+use Rattle.cs_reader.proofs.Superblocks.{own_format, section_listed}
 use Rattle.law_refinement.specs.Bridge.{name}
 use Rattle.law_refinement.specs.Stores.{AreWritesOf, IsStagingOf, IsWorldOf}
 use Rattle.law_refinement.proofs.Places.{not_one, one_family}
@@ -104,7 +104,6 @@ module _ (x : State) (g : GraphState) (w : World) (geometry : IsGeometry x.forma
     section_is : page_write (shape x) (formats_of (shape x)) (A_superblock (superblock_now (shape x) after_pages j (need_of x j))) ≡ ((shape x).section_page j, a.section.0)
     section_is = ap (λ (b : List ℕ). ((shape x).section_page j, b))
         (own_format (shape x) after_pages.extents.pointer after_pages.extents.generation j (suc (after_pages.superblocks j)) after_pages.persistent.root
-        (not_first x.format (length x.written) x.pages x.sections geometry)
         ∙ ap₂ (λ (n : ℕ) (q : List (ℕ × ℕ)). spelled_superblock (shape x).format n after_pages.persistent.root (shape x).extents (shape x).pages (shape x).sections j q) version rows
         ∙ ap (λ (root : ℕ). spelled_superblock (shape x).format (get_or g.staging.latest (family_of j) 0 + 1) root (shape x).extents (shape x).pages (shape x).sections j (section_rows y j)) record_is
         ∙ sym (page_whatever_root (shape x).format (get_or g.staging.latest (family_of j) 0 + 1) (get_or g.staging.pending.persistent root_family 0)

@@ -7,11 +7,12 @@ use Rattle.cs_reclaim.specs.cs_chunk.Chunks.{end_in}
 use Rattle.cs_extent.specs.State.{State as ExtentsState, extents_at, extents_of, section_rows, shape}
 use Rattle.cs_frame.specs.declared.locators.Locator.{Locator}
 use Rattle.cs_frame.proofs.FormatLaws.{root_fits_from}
+use Rattle.cs_frame.proofs.RootLaws.{runs_of_format}
 use Rattle.cs_frame.specs.Formats.{as_locator, formats_of, place_of}
 use Rattle.cs_frame.specs.Geometries.{device_pages}
 use Rattle.cs_frame.specs.Locators.{FitsLocator, most_mark}
 use Rattle.cs_frame.specs.Runs.{FitsEntry, entries_of as spelled_entries}
-use Rattle.cs_frame.specs.Roots.{FitsRoot, greatest_runs, spelled_root}
+use Rattle.cs_frame.specs.Roots.{FitsRoot, identity_in, spelled_root}
 use Rattle.cs_index.proofs.Newest.{all_newest, all_oldest}
 use Rattle.cs_index.proofs.Whole.{length-newest}
 use Rattle.cs_index.specs.declared.stored_runs.StoredRun.{StoredRun}
@@ -21,8 +22,9 @@ use Rattle.law_machine.specs.Apart.{any_run_on}
 use Rattle.law_machine.specs.Device.{Page, is_meant}
 use Rattle.law_machine.specs.Element.{Bytes, Content, Damaged, Entry, Locator as Place, Map, Opening, Run}
 use Rattle.law_machine.specs.Extents.{Extents}
-use Rattle.law_machine.specs.Geometry.{greatest_mark_in, marks_in}
-use Rattle.law_machine.specs.Formats.{ChunkFrame, RunFrame, Stand, fault_for, limit_in, opening_in, pages_from, places}
+use Rattle.law_machine.specs.Format.{Format, Four, Two}
+use Rattle.law_machine.specs.Geometry.{greatest_mark_in, marks_in, most_runs_in}
+use Rattle.law_machine.specs.Formats.{ChunkFrame, RunFrame, Stand, fault_for, is_long_frame, limit_in, opening_in, pages_from, places}
 use Rattle.law_machine.specs.Index.{AllPass, Gives, Holds, InBounds, Passes, Reads, ReadsAs, Value, after, entries_of, live, lookup}
 use Rattle.law_machine.specs.Lists.{◌∈◌}
 use Rattle.law_machine.specs.Recovery.{Recovers}
@@ -32,11 +34,11 @@ use Rattle.cs_reader.specs.ImageReads.{AreLocated, ArePages, IsLocated, IsRunRea
 use Rattle.law_refinement.proofs.Chunks.{chunk_or_fault}
 use Rattle.cs_reader.proofs.Listed.{found_in, in_all, in_entries, oldest_places}
 use Rattle.cs_reader.proofs.Reaches.{end_is_limit}
-use Rattle.cs_reader.proofs.Runs.{Stored, stands_meant, stands_reach, stands_read, stored_read}
+use Rattle.cs_reader.proofs.Runs.{Stored, stands_long, stands_meant, stands_reach, stands_read, stored_read}
 use Rattle.cs_reader.proofs.Superblocks.{extents_are, extents_fit, extents_with, read_as, read_below, read_fits, read_found, read_listed, read_whole, section_formats, zero_formats}
 use Rattle.cs_reader.proofs.Located.{visible_of}
 
-module _ (view : ℕ → List ℕ) (format : ℕ) (versions records : List ℕ) (pages : ℕ) (written : List (ℕ × ℕ)) (root commands : ℕ) (runs : List StoredRun)
+module _ (view : ℕ → List ℕ) (format : Format) (versions records : List ℕ) (pages : ℕ) (written : List (ℕ × ℕ)) (root commands : ℕ) (runs : List StoredRun)
     (read : IsVisibleStoreRead view format versions records pages written root commands runs)
     (hidden : (shape (extents_at format pages (length versions) written)).hidden_stand ≡ true → AreLocated (extents_at format pages (length versions) written) runs) where
   abbrev x : ExtentsState
@@ -62,11 +64,11 @@ module _ (view : ℕ → List ℕ) (format : ℕ) (versions records : List ℕ) 
   Marked l = l.mark ≤ greatest_mark_in format
 
   fits_mark : (l : Locator) → FitsLocator (marks_in format) l → Marked (place_of l)
-  fits_mark l fits = by (marks_in format) fits.mark
+  fits_mark l fits = by format fits.mark
     where
-      by : (b : Bool) → l.mark ≤ most_mark b → l.mark ≤ (if b then 18446744073709551615 else 0)
-      by true low = low
-      by false low = low
+      by : (f : Format) → l.mark ≤ most_mark (marks_in f) → l.mark ≤ greatest_mark_in f
+      by Two low = low
+      by (Four store device) low = low
 
   passes : (l : Locator) → IsLocated x l → Marked (place_of l) → Located (place_of l)
   passes l is can = record {
@@ -83,10 +85,10 @@ module _ (view : ℕ → List ℕ) (format : ℕ) (versions records : List ℕ) 
   -- a frame that reaches no further is read
   reads_so : (l : Place) (bs : List Page) → Located l → l.page + length bs ≤ limit_in (shape x) (formats_of (shape x)) p g l
       → Stand (shape x) (formats_of (shape x)) view l.extent l.page bs → is_meant (shape x) l.mark bs ≡ true
-      → Reads (shape x) (formats_of (shape x)) opening view p g l bs
-  reads_so l bs is end stand meant = reads_own (shape x) (formats_of (shape x)) view p g l bs is
+      → is_long_frame (formats_of (shape x)) bs ≡ true → Reads (shape x) (formats_of (shape x)) opening view p g l bs
+  reads_so l bs is end stand meant long = reads_own (shape x) (formats_of (shape x)) view p g l bs is
       (λ on. le_trans end (le_of_eq (limit_here (shape x) (formats_of (shape x)) view p g l is on)))
-      (le_trans end (limit_low (shape x) (formats_of (shape x)) p g (λ e. (fit e).0) l)) stand meant
+      (le_trans end (limit_low (shape x) (formats_of (shape x)) p g (λ e. (fit e).0) l)) stand meant long
 
   -- ---- runs
 
@@ -101,15 +103,16 @@ module _ (view : ℕ → List ℕ) (format : ℕ) (versions records : List ℕ) 
   run_in : (run : StoredRun) → IsRunRead x view run → IsStored (run_of run) → FitsLocator (marks_in format) run.place → RunIn (run_of run)
   run_in run is stored placed =
       let there : Located (place_of run.place) = passes run.place is.located (fits_mark run.place placed) in
-      let stands = stands_read x (read_whole view format versions records pages written read.sections).found_pages view run is stored in
+      let stands = stands_read x read.sections.geometry.fits_format (read_whole view format versions records pages written read.sections).found_pages view run is stored in
       record {
-        reads = reads_so (place_of run.place) _ there (le_trans (stands_reach x view run is) (le_of_eq (end_there (place_of run.place) there))) stands.stand (stands_meant x view run is);
+        reads = reads_so (place_of run.place) _ there (le_trans (stands_reach x read.sections.geometry.fits_format view run is) (le_of_eq (end_there (place_of run.place) there))) stands.stand (stands_meant x read.sections.geometry.fits_format view run is) (stands_long x read.sections.geometry.fits_format view run is);
         fits = stands.fits;
         short = stored.2;
       }
 
   runs_in : AllByRecursion RunIn (newest_first runs)
-  runs_in = all_newest RunIn runs (go runs read.runs_read (all_oldest IsStored runs (stored_read x view runs read.runs_read)) read.root_page.fits.each)
+  runs_in = all_newest RunIn runs (go runs read.runs_read (all_oldest IsStored runs (stored_read x view runs read.runs_read))
+      (runs_of_format format root commands (map (λ run. run.place) runs) read.root_page.fits).1)
     where
       go : (xs : List StoredRun) → AllByRecursion (IsRunRead x view) xs → AllByRecursion (λ run. IsStored (run_of run)) xs → AllByRecursion (FitsLocator (marks_in format)) (map (λ run. run.place) xs)
           → AllByRecursion (λ run. RunIn (run_of run)) xs
@@ -186,8 +189,8 @@ module _ (view : ℕ → List ℕ) (format : ℕ) (versions records : List ℕ) 
 
   -- ---- what is found
 
-  few_runs : length (newest_first runs) ≤ greatest_runs format
-  few_runs = let few : length (map (λ run. run.place) runs) ≤ greatest_runs format = read.root_page.fits.count in
+  few_runs : length (newest_first runs) ≤ most_runs_in format
+  few_runs = let few : length (map (λ run. run.place) runs) ≤ most_runs_in format = (runs_of_format format root commands (map (λ run. run.place) runs) read.root_page.fits).0 in
       omega (arith, few, length-newest runs, length-map runs (λ run. run.place))
 
   bounds : InBounds (shape x) root commands (length (newest_first runs)) (entries_of (newest_first runs))
@@ -201,7 +204,7 @@ module _ (view : ℕ → List ℕ) (format : ℕ) (versions records : List ℕ) 
   }
 
   -- the format of page 0, which with one section may be the first, is as good as any for the others
-  zero_format : 0 < length versions → (f : ℕ) × (view 0 ≡ (formats_of (shape x)).superblock f 0 (slice_index versions 0) (slice_index records 0) p g)
+  zero_format : 0 < length versions → (number : ℕ) × (view 0 ≡ (formats_of (shape x)).superblock number 0 (slice_index versions 0) (slice_index records 0) p g)
   zero_format some = zero_formats (shape x) p g (slice_index versions 0) (slice_index records 0) (view 0) (section_rows x 0) (read_listed view format versions records pages written read.sections 0) (read.sections.each 0 some)
 
   abbrev first_written : ℕ
@@ -230,9 +233,9 @@ module _ (view : ℕ → List ℕ) (format : ℕ) (versions records : List ℕ) 
       version = root;
       recorded_fit = read.recorded_fit;
       runs = newest_first runs;
-      root = read.root_page.spelled ∙ ap (spelled_root format root commands) (sym (oldest_places runs));
+      root = read.root_page.spelled ∙ ap (spelled_root (identity_in format) root commands) (sym (oldest_places runs));
       root_fits = root_fits_from format root commands (places (newest_first runs))
-          (subst (λ (ls : List Locator). FitsRoot format root commands ls) (sym (oldest_places runs)) read.root_page.fits);
+          (subst (λ (ls : List Locator). FitsRoot (identity_in format) root commands ls) (sym (oldest_places runs)) read.root_page.fits);
       runs_fit = λ run has. (in_all RunIn (newest_first runs) runs_in run has).fits;
       bounds = bounds;
       gives = gives;
@@ -253,8 +256,9 @@ module _ (view : ℕ → List ℕ) (format : ℕ) (versions records : List ℕ) 
     chunk l is = ⊎_elim
         (λ (c : (payload : List ℕ) × (l.page + length ((formats_of (shape x)).frame ChunkFrame payload) ≤ end_of l)
         × Stand (shape x) (formats_of (shape x)) view l.extent l.page ((formats_of (shape x)).frame ChunkFrame payload)
-        × (is_meant (shape x) l.mark ((formats_of (shape x)).frame ChunkFrame payload) ≡ true)).
-        inl (c.0, reads_so l ((formats_of (shape x)).frame ChunkFrame c.0) is c.1 c.2 c.3))
+        × (is_meant (shape x) l.mark ((formats_of (shape x)).frame ChunkFrame payload) ≡ true)
+        × (is_long_frame (formats_of (shape x)) ((formats_of (shape x)).frame ChunkFrame payload) ≡ true)).
+        inl (c.0, reads_so l ((formats_of (shape x)).frame ChunkFrame c.0) is c.1 c.2 c.3 c.4))
         (λ (b : (f : Refusal) × (fault_for (shape x) (formats_of (shape x)) ChunkFrame l.mark (pages_from (shape x) (formats_of (shape x)) view l.extent l.page (end_of l - l.page)) ≡ Some f)).
         inr (b.0, damage_here (shape x) (formats_of (shape x)) view p g l is ∙ b.1))
         (chunk_or_fault (shape x) view (device_pages format (length written) pages (length versions)) (read_below view format versions records pages written read.sections) are l.extent l.page (end_of l) l.mark
@@ -316,7 +320,7 @@ module _ (view : ℕ → List ℕ) (format : ℕ) (versions records : List ℕ) 
         × IsFoundAs (shape x) (formats_of (shape x)) view commands m found noted versions root (newest_first runs)
     noted_recovers noted on is = recovers_by noted (noted_so noted on is)
 
-module _ (view : ℕ → List ℕ) (format : ℕ) (versions records : List ℕ) (pages : ℕ) (written : List (ℕ × ℕ)) (root commands : ℕ) (runs : List StoredRun)
+module _ (view : ℕ → List ℕ) (format : Format) (versions records : List ℕ) (pages : ℕ) (written : List (ℕ × ℕ)) (root commands : ℕ) (runs : List StoredRun)
     (read : IsStoreRead view format versions records pages written root commands runs) where
   abbrev there : ExtentsState
   there = extents_at format pages (length versions) written

@@ -10,7 +10,7 @@ use Rattle.cs_frame.specs.declared.frames.FrameKind.TheVariants.{Chunk}
 use Rattle.cs_frame.specs.declared.locators.Locator.{Locator}
 use Rattle.cs_frame.specs.Formats.{as_locator, formats_of, refusal_of}
 use Rattle.cs_frame.proofs.MarkLaws.{fault_of_meant}
-use Rattle.cs_frame.specs.Frames.{meant_fault}
+use Rattle.cs_frame.specs.MeantFrames.{meant_fault}
 use Rattle.cs_index.specs.State.{State as IndexState, index_of}
 use Rattle.law_machine.proofs.Filled.{reach_above, reach_low, reach_off}
 use Rattle.law_machine.proofs.Frozen.{damage_stays, reach_now, within_now}
@@ -88,7 +88,7 @@ module _ (x : ExtentsState) (s : State) (held : Image) (whole : IsWhole x) (soun
       let reaches : l.page + length ((formats_of (shape x)).frame ChunkFrame payload) ≤ end_in x (as_locator l) =
       le_trans (within_now (shape x) (formats_of (shape x)) s sound l ((formats_of (shape x)).frame ChunkFrame payload) reads) (le_of_eq (sym (same_end l))) in
       none_for (shape x) (formats_of (shape x)) (store_format x whole) (newest_page s) l.extent l.page (end_in x (as_locator l) - l.page) ChunkFrame payload l.mark
-      (omega (arith, reaches)) (omega (arith, reaches, low l)) reads.stand reads.marked
+      (omega (arith, reaches)) (omega (arith, reaches, low l)) reads.stand reads.marked reads.long
 
   damage_refused : (l : Place) (f : Refusal) → IsLocated l → s.opening.damage l ≡ Some f → refused l ≡ Some f
   damage_refused l f passes is =
@@ -105,7 +105,7 @@ module _ (x : ExtentsState) (s : State) (held : Image) (whole : IsWhole x) (soun
   frame_whole : (l : Place) (payload : List ℕ) → IsLocated l → IsFrameIn x view ChunkFrame (as_locator l) payload → refused l ≡ None
   frame_whole l payload passes frame = none_for (shape x) (formats_of (shape x)) (store_format x whole) (newest_page s) l.extent l.page (end_in x (as_locator l) - l.page) ChunkFrame payload l.mark
       (omega (arith, frame.0)) (omega (arith, above l passes, low l))
-      (stand_now l.extent l.page ((formats_of (shape x)).frame ChunkFrame payload) passes.inside.0 (omega (arith, frame.0, low l)) frame.1) frame.2
+      (stand_now l.extent l.page ((formats_of (shape x)).frame ChunkFrame payload) passes.inside.0 (omega (arith, frame.0, low l)) frame.1) frame.2 frame.3
 
   not_damaged : (l : Place) (f : Refusal) → IsLocated l → refused l ≡ None → s.opening.damage l ≡ Some f → ⊥
   not_damaged l f passes none is = let e : Some f ≡ None = sym (damage_refused l f passes is) ∙ none in cc

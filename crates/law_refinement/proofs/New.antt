@@ -7,17 +7,18 @@ use Rattle.cs_extent.specs.State.{IsWhole, State as ExtentsState, extents_at, se
 use Rattle.cs_frame.proofs.FormatLaws.{root_fits_from}
 use Rattle.cs_frame.specs.Formats.{extents_of as listed_extents, formats_of}
 use Rattle.cs_frame.specs.Geometries.{IsGeometry, section_length, section_start}
-use Rattle.cs_frame.specs.Roots.{SpellsRoot}
+use Rattle.cs_frame.specs.Roots.{SpellsRoot, identity_in}
 use Rattle.cs_frame.specs.Superblocks.{spelled_superblock}
+use Rattle.law_machine.specs.Format.{Format}
 use Rattle.law_machine.specs.Recovery.{IsNew, Recovers}
 use Rattle.law_refinement.specs.Images.{AreNewSections, IsFoundAs}
 use Rattle.cs_reader.specs.ImageReads.{AreSectionsRead, IsStoreRead, SpellsAt}
 use Rattle.law_refinement.proofs.Found.{found_as}
 use Rattle.cs_reader.proofs.Listed.{all_default}
-use Rattle.cs_reader.proofs.Superblocks.{empty_extents_are, not_first, of_section, own_format, read_whole, section_listed}
+use Rattle.cs_reader.proofs.Superblocks.{empty_extents_are, of_section, own_format, read_whole, section_listed}
 
-module _ (view : ℕ → List ℕ) (format extents pages sections : ℕ) (is : IsGeometry format extents pages sections) (pages_are : AreNewSections view format extents pages sections)
-    (root : SpellsRoot (view 1) format 1 0 []) where
+module _ (view : ℕ → List ℕ) (format : Format) (extents pages sections : ℕ) (is : IsGeometry format extents pages sections) (pages_are : AreNewSections view format extents pages sections)
+    (root : SpellsRoot (view 1) (identity_in format) 1 0 []) where
   abbrev written : List (ℕ × ℕ)
   written = replicate extents (0, 0)
 
@@ -47,7 +48,7 @@ module _ (view : ℕ → List ℕ) (format extents pages sections : ℕ) (is : I
   pub is_new : IsNew (shape fresh) (formats_of (shape fresh)) view
   is_new = record {
     superblock = λ j lt. (sections_are j lt).spelled ∙ ap (spelled_superblock format 1 0 (length written) pages sections j) (sym (listed_is j))
-        ∙ sym (own_format (shape fresh) (λ e. 0) (λ e. 0) j 1 0 (not_first format (length written) pages sections new_geometry));
+        ∙ sym (own_format (shape fresh) (λ e. 0) (λ e. 0) j 1 0);
     root = root.spelled;
     root_fits = root_fits_from format 1 0 [] root.fits;
     some_number = omega arith;

@@ -1,5 +1,5 @@
 -- The refusals of frames, by the machine and by the store's calls.
-use Rattle.std.proofs.Common.{◌≡◌, ◌==◌, ⊎_elim, ℕ, ◌≤◌, arith, List, Some, None, refl, sym, subst}
+use Rattle.std.proofs.Common.{◌≡◌, ◌⊎◌, ◌==◌, ⊎_elim, ℕ, ◌≤◌, arith, List, Some, None, refl, sym, subst}
 use Rattle.cs_reclaim.proofs.cs_chunk.FrameFaults.{in_range}
 use Rattle.cs_reclaim.specs.cs_chunk.Reads.{fault_in, pages_in}
 use Rattle.cs_frame.specs.Refusals.{refusal_for as refusal_of_fault}
@@ -11,8 +11,10 @@ use Rattle.cs_frame.specs.declared.faults.FormatFault.TheVariants as fault
 use Rattle.cs_frame.specs.declared.frames.FrameKind.{FrameKind}
 use Rattle.cs_frame.specs.declared.locators.Locator.{Locator}
 use Rattle.cs_frame.specs.Faults.{fault_number}
+use Rattle.cs_frame.specs.FormatNumbers.{number_in}
 use Rattle.cs_frame.specs.Formats.{refusal_of}
 use Rattle.cs_frame.specs.Frames.{first_page, frame_fault, kind_byte}
+use Rattle.cs_frame.specs.Heads.{is_long_in}
 use Rattle.law_machine.specs.Geometry.{mark_in}
 use Rattle.law_machine.specs.Numbers.{number_of as number_in_machine}
 use Rattle.law_machine.specs.Refusal.{BadDigest, BadLength, BadMagic, BadPadding, BadVersion, DeviceFault, Full, Halted, InFlight, IndexFull, Misplaced, NoRound, NotSweepable, Refusal as Ground, StillLive, TooLarge, WornOut}
@@ -51,7 +53,10 @@ in_range_one fault.BadVersion low high = refl
 pub one_refusal : (x : ExtentsState) (view : ℕ → List ℕ) (kind : FrameKind) (l : Locator) (f : FormatFault) → fault_in x view kind l ≡ Some f
     → refusal_of_fault f ≡ refusal_for (refusal_of f)
 one_refusal x view kind l f at = ⊎_elim
-    (λ (own : frame_fault (kind_byte kind) (pages_in x view l) ≡ Some f). let range = in_range (kind_byte kind) (pages_in x view l) f own in in_range_one f range.0 range.1)
-    (λ (other : (frame_fault (kind_byte kind) (pages_in x view l) ≡ None) × (f ≡ fault.Misplaced)).
-    subst (λ (g : FormatFault). refusal_of_fault g ≡ refusal_for (refusal_of g)) (sym other.1) refl)
-    (meant_finds (frame_fault (kind_byte kind) (pages_in x view l)) (mark_in (shape x).format (first_page (pages_in x view l)) == l.mark) f at)
+    (λ (own : frame_fault (number_in (shape x).format) (kind_byte kind) (pages_in x view l) ≡ Some f).
+    let range = in_range (number_in (shape x).format) (kind_byte kind) (pages_in x view l) f own in in_range_one f range.0 range.1)
+    (λ (other : (frame_fault (number_in (shape x).format) (kind_byte kind) (pages_in x view l) ≡ None) × ((f ≡ fault.Misplaced) ⊎ (f ≡ fault.BadLength))). ⊎_elim
+    (λ (is : f ≡ fault.Misplaced). subst (λ (g : FormatFault). refusal_of_fault g ≡ refusal_for (refusal_of g)) (sym is) refl)
+    (λ (is : f ≡ fault.BadLength). subst (λ (g : FormatFault). refusal_of_fault g ≡ refusal_for (refusal_of g)) (sym is) refl) other.1)
+    (meant_finds (frame_fault (number_in (shape x).format) (kind_byte kind) (pages_in x view l)) (mark_in (shape x).format (first_page (pages_in x view l)) == l.mark)
+    (is_long_in (shape x).format (first_page (pages_in x view l))) f at)

@@ -9,7 +9,7 @@ use Rattle.cs_deps.specs.State.{IsNewestOn, IsWhole as IsWholeGraph, NoneOn, Sta
 use Rattle.cs_disk.specs.Disk.{Image, page}
 use Rattle.cs_extent.specs.Frames.{family_of}
 use Rattle.cs_extent.specs.State.{IsWhole, State as ExtentsState, shape}
-use Rattle.cs_frame.proofs.GeometryLaws.{model_geometry}
+use Rattle.cs_frame.proofs.GeometryLaws.{model_geometry, pages_on_device}
 use Rattle.cs_frame.specs.Formats.{formats_of}
 use Rattle.cs_frame.specs.Geometries.{section_size}
 use Rattle.cs_reader.specs.ImageReads.{page_total}
@@ -200,7 +200,8 @@ module _ (x : ExtentsState) (g : GraphState) (s : State) (held : Image) (whole :
     where
       go : (k : PageKind) → (shape x).kind p ≡ k → IsReadAs g held p (read_by ((shape x).kind p) (newest_page s p) (page held p))
       go FramePage kind = subst (λ (k : PageKind). IsReadAs g held p (read_by k (newest_page s p) (page held p))) (sym kind)
-          (frame_reads p kind device (let low : p < 2 + (shape x).extents * (shape x).pages = frames_below p kind in let some : 1 ≤ (shape x).sections = some_sections x whole in omega arith))
+          (frame_reads p kind device (let low : p < 2 + (shape x).extents * (shape x).pages = frames_below p kind in let some : 1 ≤ (shape x).sections = some_sections x whole in
+          let on = pages_on_device x.format (length x.written) x.pages x.sections whole.geometry in omega (arith, low, some, on, size)))
       go RootPage kind = subst (λ (k : PageKind). IsReadAs g held p (read_by k (newest_page s p) (page held p))) (sym kind)
           (inr (off_frames p (λ other. let e : RootPage ≡ FramePage = sym kind ∙ other in cc), refl))
       go (SectionPage j) kind = subst (λ (k : PageKind). IsReadAs g held p (read_by k (newest_page s p) (page held p))) (sym kind)

@@ -7,7 +7,7 @@ use Rattle.cs_extent.specs.Frames.{root_family}
 use Rattle.cs_extent.specs.State.{State as ExtentsState, need_of, shape}
 use Rattle.cs_frame.specs.declared.locators.Locator.{Locator}
 use Rattle.cs_frame.specs.Formats.{as_locator, formats_of}
-use Rattle.cs_frame.specs.Roots.{spelled_root}
+use Rattle.cs_frame.specs.Roots.{identity_in, spelled_root}
 use Rattle.cs_index.specs.Staged.{IsRootStaged}
 use Rattle.law_machine.specs.Device.{Shape}
 use Rattle.law_machine.specs.Disk.{page_write}
@@ -26,7 +26,7 @@ module _ (x : ExtentsState) (g h : GraphState) (w : World) (v commands : ℕ) (r
   root_staged m pointers =
       let oldest : List Locator = map as_locator (reverse (places runs)) in
       let kept : write_of h (Version root_family v) ≡ Some (page_write (shape x) (formats_of (shape x)) (A_root (root_now (shape x) w commands runs m pointers))) =
-      root.page.1 ∙ ap (λ (b : List ℕ). Some (1, b)) (root.page.2.spelled ∙ ap (λ (k : ℕ). spelled_root x.format k commands oldest) root_version) in
+      root.page.1 ∙ ap (λ (b : List ℕ). Some (1, b)) (root.page.2.spelled ∙ ap (λ (k : ℕ). spelled_root (identity_in x.format) k commands oldest) root_version) in
       after_root x g h w some is v root.needs root.version root.names commands runs m pointers kept root.others
 
   -- the same of the shape by another name

@@ -18,6 +18,7 @@ use Rattle.law_machine.specs.Apart.{freed}
 use Rattle.law_machine.specs.Cut.{page_in}
 use Rattle.law_machine.specs.Device.{FramePage, IsShape, Page, PageKind, RootPage, SectionPage}
 use Rattle.law_machine.specs.Element.{Map, Root, Run, Superblock, Write, log_of, roots_of, superblocks_of, writes_of}
+use Rattle.law_machine.specs.Format.{Format}
 use Rattle.law_machine.specs.Formats.{Formats, image_at, places}
 use Rattle.law_machine.specs.Lists.{latest as newest}
 use Rattle.law_machine.specs.Machine.{World}
@@ -81,7 +82,7 @@ module _ (x : ExtentsState) (F : Formats) (img : ℕ → Page) (n : ℕ) (m : Ma
   pub persistent_as_read : (p : ℕ) → persistent_image (shape x) F start p ≡ img p
   persistent_as_read p = by_kind p ((shape x).kind p) refl
 
-module _ (x : ExtentsState) (image : Image) (versions : List ℕ) (root format limit n : ℕ) (runs : List Run) (m : Map)
+module _ (x : ExtentsState) (image : Image) (versions : List ℕ) (root : ℕ) (format : Format) (limit n : ℕ) (runs : List Run) (m : Map)
     (found : Recovers (shape x) (formats_of (shape x)) (page image) n m) (whole : IsWhole x)
     (as_found : IsFoundAs (shape x) (formats_of (shape x)) (page image) n m found x versions root runs) (together : (shape x).apart ≡ false) where
   -- nothing is reset as the store is opened
@@ -106,7 +107,7 @@ module _ (x : ExtentsState) (image : Image) (versions : List ℕ) (root format l
   }
 
 -- what is read as a store is opened
-module _ (image : Image) (format : ℕ) (versions records : List ℕ) (pages : ℕ) (written : List (ℕ × ℕ)) (root commands limit : ℕ) (runs : List StoredRun)
+module _ (image : Image) (format : Format) (versions records : List ℕ) (pages : ℕ) (written : List (ℕ × ℕ)) (root commands limit : ℕ) (runs : List StoredRun)
     (are : ArePages (device_pages format (length written) pages (length versions)) (page image)) (read : IsStoreRead (page image) format versions records pages written root commands runs) where
   abbrev read_extents : ExtentsState
   read_extents = extents_at format pages (length versions) written

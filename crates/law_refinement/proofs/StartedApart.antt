@@ -15,6 +15,7 @@ use Rattle.law_machine.specs.Apart.{freed, is_blank, is_blank_by, reset_all}
 use Rattle.law_machine.specs.Device.{Shape}
 use Rattle.law_machine.specs.Element.{Map, Run}
 use Rattle.law_machine.specs.Extents.{Extents}
+use Rattle.law_machine.specs.Format.{Format}
 use Rattle.law_machine.specs.Index.{entries_of}
 use Rattle.law_machine.specs.Open.{extents_read, opened_state, opened_world, state_read}
 use Rattle.law_machine.specs.Recovery.{Recovers}
@@ -32,7 +33,7 @@ use Rattle.law_refinement.proofs.Shapes.{some_sections, store_shape}
 use Rattle.law_refinement.proofs.StagesApart.{lies_apart}
 use Rattle.law_refinement.proofs.Started.{persistent_as_read}
 
-module _ (x y : ExtentsState) (image : Image) (versions : List ℕ) (root format limit n : ℕ) (runs : List Run) (m : Map)
+module _ (x y : ExtentsState) (image : Image) (versions : List ℕ) (root : ℕ) (format : Format) (limit n : ℕ) (runs : List Run) (m : Map)
     (found : Recovers (shape x) (formats_of (shape x)) (page image) n m) (on : (shape x).apart ≡ true) (whole : IsWhole x)
     (as_found : IsFoundAs (shape x) (formats_of (shape x)) (page image) n m found x versions root runs)
     (same : shape y ≡ shape x) (extents : extents_of y ≡ freed_under (shape x) (extents_of x) (index_at runs format limit) [] root) where
@@ -86,7 +87,7 @@ module _ (x y : ExtentsState) (image : Image) (versions : List ℕ) (root format
     record { parts = parts; same_copies = refl },
   )
 
-module _ (image : Image) (format : ℕ) (versions records : List ℕ) (pages : ℕ) (written : List (ℕ × ℕ)) (root commands limit : ℕ) (runs : List StoredRun)
+module _ (image : Image) (format : Format) (versions records : List ℕ) (pages : ℕ) (written : List (ℕ × ℕ)) (root commands limit : ℕ) (runs : List StoredRun)
     (are : ArePages (device_pages format (length written) pages (length versions)) (page image)) (read : IsVisibleStoreRead (page image) format versions records pages written root commands runs) where
   abbrev there : ExtentsState
   there = extents_at format pages (length versions) written

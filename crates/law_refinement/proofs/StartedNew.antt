@@ -8,7 +8,7 @@ use Rattle.cs_extent.specs.State.{State as ExtentsState, extents_at, extents_of,
 use Rattle.cs_frame.proofs.GeometryLaws.{lies_in_device}
 use Rattle.cs_frame.specs.Formats.{formats_of}
 use Rattle.cs_frame.specs.Geometries.{IsGeometry, device_pages, section_length, section_size}
-use Rattle.cs_frame.specs.Roots.{SpellsRoot}
+use Rattle.cs_frame.specs.Roots.{SpellsRoot, identity_in}
 use Rattle.cs_frame.specs.Superblocks.{SpellsSuperblock}
 use Rattle.cs_reader.proofs.Listed.{all_default}
 use Rattle.law_refinement.proofs.New.{new_found, new_whole}
@@ -17,6 +17,7 @@ use Rattle.cs_reader.specs.Loads.{graph_at, index_at}
 use Rattle.law_machine.specs.Apart.{any_run_on, is_blank_by, is_held_by, reset_all}
 use Rattle.law_machine.specs.Device.{Page}
 use Rattle.law_machine.specs.Extents.{Extents, emptied, forgotten}
+use Rattle.law_machine.specs.Format.{Format}
 use Rattle.law_machine.specs.Geometry.{shape_of}
 use Rattle.law_machine.specs.Local.{LiesBelow}
 use Rattle.law_machine.specs.Open.{opened_state}
@@ -28,8 +29,8 @@ use Rattle.law_refinement.proofs.Started.{started}
 use Rattle.law_refinement.proofs.StartedApart.{started as started_apart}
 
 -- what is written as a store is made
-module _ (image : Image) (format extents pages sections limit : ℕ) (geometry : IsGeometry format extents pages sections)
-    (superblocks : AreNewSections (page image) format extents pages sections) (root : SpellsRoot (page image 1) format 1 0 []) where
+module _ (image : Image) (format : Format) (extents pages sections limit : ℕ) (geometry : IsGeometry format extents pages sections)
+    (superblocks : AreNewSections (page image) format extents pages sections) (root : SpellsRoot (page image 1) (identity_in format) 1 0 []) where
   abbrev new_extents : ExtentsState
   new_extents = extents_at format pages sections (replicate extents (0, 0))
 
@@ -72,7 +73,7 @@ latest_append [] more p bytes = refl
 latest_append (w ∷ first) more p bytes = latest_append first more p (if w.0 == p then w.1 else bytes)
 
 -- after these writes, and a flush
-module _ (old : DiskState) (writes : List PageWrite) (format extents pages sections limit : ℕ) (geometry : IsGeometry format extents pages sections)
+module _ (old : DiskState) (writes : List PageWrite) (format : Format) (extents pages sections limit : ℕ) (geometry : IsGeometry format extents pages sections)
     (enough : device_pages format extents pages sections ≤ length old.durable) where
   -- what each page reads as then
   abbrev view : ℕ → Page
@@ -88,11 +89,11 @@ module _ (old : DiskState) (writes : List PageWrite) (format extents pages secti
   below : LiesBelow (shape_of extents pages sections (section_size extents sections) format) (device_pages format extents pages sections)
   below = lies_in_device format extents pages sections geometry
 
-  pub written_started : AreNewSections view format extents pages sections → SpellsRoot (view 1) format 1 0 []
+  pub written_started : AreNewSections view format extents pages sections → SpellsRoot (view 1) (identity_in format) 1 0 []
       → (let x = extents_at format pages sections (replicate extents (0, 0)) in
       (found : Recovers (shape x) (formats_of (shape x)) (page image) 0 (λ id. None))
       × IsStartOf x (graph_at (replicate sections 1) 1) (index_at [] format limit) image (opened_state (shape x) (formats_of (shape x)) (page image) 0 (λ id. None) found))
   written_started superblocks root = new_started image format extents pages sections limit geometry
       (λ j lt. subst (λ (b : Page). SpellsSuperblock b format 1 0 extents pages sections j (replicate (section_length extents sections j) (0, 0)))
       (sym (as_viewed ((shape_of extents pages sections (section_size extents sections) format).section_page j) (below.sections j lt))) (superblocks j lt))
-      (subst (λ (b : Page). SpellsRoot b format 1 0 []) (sym (as_viewed 1 below.root)) root)
+      (subst (λ (b : Page). SpellsRoot b (identity_in format) 1 0 []) (sym (as_viewed 1 below.root)) root)

@@ -6,6 +6,7 @@ use Rattle.cs_frame.specs.Geometries.{IsGeometry, section_length, section_size}
 use Rattle.cs_frame.specs.Superblocks.{SpellsSuperblock}
 use Rattle.law_machine.specs.Device.{Page, Shape}
 use Rattle.law_machine.specs.Element.{Map, Run}
+use Rattle.law_machine.specs.Format.{Format}
 use Rattle.law_machine.specs.Formats.{Formats}
 use Rattle.law_machine.specs.Geometry.{shape_of}
 use Rattle.law_machine.specs.Open.{extents_read}
@@ -14,25 +15,25 @@ use Rattle.law_machine.specs.Apart.{any_run_on}
 use Rattle.law_refinement.specs.Machines.{RecoversFor}
 
 -- the shape of a store of this format, with so many extents, pages and sections
-abbrev pub geometry_shape : (format extents pages sections : ℕ) → Shape
+abbrev pub geometry_shape : (format : Format) (extents pages sections : ℕ) → Shape
 geometry_shape format extents pages sections = shape_of extents pages sections (section_size extents sections) format
 
 -- the page on which section j of such a store lies
-abbrev pub page_of_section : (format extents pages sections j : ℕ) → ℕ
+abbrev pub page_of_section : (format : Format) (extents pages sections j : ℕ) → ℕ
 page_of_section format extents pages sections j = (geometry_shape format extents pages sections).section_page j
 
 -- the extents of such a store when it is new: all are empty
-abbrev pub new_extents : (format extents pages sections : ℕ) → ExtentsState
+abbrev pub new_extents : (format : Format) (extents pages sections : ℕ) → ExtentsState
 new_extents format extents pages sections = extents_at format pages sections (replicate extents (0, 0))
 
 -- These numbers are a geometry, and the image recovers so many commands and this map as a store of it.
-pub record RecoversStore (view : ℕ → Page) (format extents pages sections n : ℕ) (m : Map) : Type 0 where
+pub record RecoversStore (view : ℕ → Page) (format : Format) (extents pages sections n : ℕ) (m : Map) : Type 0 where
   pub geometry : IsGeometry format extents pages sections
   pub found : Recovers (geometry_shape format extents pages sections) (formats_of (geometry_shape format extents pages sections)) view n m
 
 -- the page of each section of a store of this format and of so many extents, which are all empty, spells version 1 of it, and records no
 -- root
-abbrev pub AreNewSections : (view : ℕ → List ℕ) → (format extents pages sections : ℕ) → Type 0
+abbrev pub AreNewSections : (view : ℕ → List ℕ) → (format : Format) (extents pages sections : ℕ) → Type 0
 AreNewSections view format extents pages sections = (j : ℕ) → j < sections
     → SpellsSuperblock (view (page_of_section format extents pages sections j)) format 1 0 extents pages sections j
     (replicate (section_length extents sections j) (0, 0))

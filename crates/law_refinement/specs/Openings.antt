@@ -11,6 +11,7 @@ use Rattle.cs_reclaim.specs.Rooted.{freed_under}
 use Rattle.law_machine.specs.Device.{Page}
 use Rattle.law_machine.specs.Element.{Map}
 use Rattle.law_machine.specs.Events.{IsFrontier}
+use Rattle.law_machine.specs.Format.{Format}
 use Rattle.law_machine.specs.Open.{opened_state}
 use Rattle.law_machine.specs.Sound.{Bounded, Sound}
 use Rattle.law_machine.specs.State.{State}
@@ -52,7 +53,7 @@ StartsReadApart image read runs limit y =
     (m : Map) × StartsApartOn (extents_in read) image read.commands m y (graph_in read) (index_in read runs limit)
 
 -- the image is one of a new store: with no command and no shard, and all versions 1
-abbrev pub StartsNew : (format extents pages sections limit : ℕ) → Image → Type 0
+abbrev pub StartsNew : (format : Format) (extents pages sections limit : ℕ) → Image → Type 0
 StartsNew format extents pages sections limit image = StartsOn (new_extents format extents pages sections) image 0 (λ id. None)
     (graph_at (replicate sections 1) 1) (index_at [] format limit)
 

@@ -8,11 +8,12 @@ use Rattle.cs_deps.specs.State.{State as GraphState}
 use Rattle.cs_reader.specs.ImageReads.{ArePages, AreSectionsRead, IsStoreRead, IsVisibleStoreRead}
 use Rattle.cs_reader.specs.Loads.{graph_at, index_at}
 use Rattle.law_machine.specs.Device.{Page}
+use Rattle.law_machine.specs.Format.{Format}
 
 -- What the sections and the root say.
 pub record StoreRead : Type 0 where
   -- the format, and how many pages an extent has
-  pub format : ℕ
+  pub format : Format
   pub pages : ℕ
   -- of each section its version, and the version of the root that it records
   pub versions : List ℕ

@@ -6,7 +6,7 @@ ghost use Rattle.cs_frame.specs.declared.locators.Locator.{Locator};
 ghost use Rattle.cs_frame.specs.FirstFormat.{SpellsPageZero};
 ghost use Rattle.cs_frame.specs.Formats.{formats_of};
 ghost use Rattle.cs_frame.specs.Geometries.{IsGeometry};
-ghost use Rattle.cs_frame.specs.Roots.{SpellsRoot};
+ghost use Rattle.cs_frame.specs.Roots.{SpellsRoot, identity_in};
 ghost use Rattle.cs_frame.specs.Superblocks.{SpellsSuperblock};
 ghost use Rattle.law_refinement.specs.Images.{AreNewSections, IsRecoveredAs, RecoversStore, new_extents, page_of_section, AreExtentsNoted};
 ghost use Rattle.cs_reader.specs.ImageReads.{IsReadable, IsRunRead, SpellsAt, AreRunsRead, IsLocated};
@@ -20,18 +20,19 @@ ghost use Rattle.law_refinement.specs.Machines.{RecoversFor};
 ghost use Rattle.cs_frame.specs.Locators.{KeepFormat};
 ghost use Rattle.cs_frame.specs.Runs.{IsRun};
 ghost use Rattle.cs_reader.specs.Counts.{HasCount};
+ghost use Rattle.law_machine.specs.Format.{Format};
 ghost use Rattle.law_machine.specs.Formats.{Formats};
 ghost use Rattle.law_machine.specs.Index.{entries_of, live_at};
 
 /// Sections of empty extents on the superblock's pages and a root without runs on page 1, all of version 1, are a new store,
 /// whatever lies on the other pages. It has no command and no shard.
 pub fn new_stores_are_new()
-    ensures new { (view : ℕ → Page) (format extents pages sections : ℕ) → IsGeometry format extents pages sections
-        → AreNewSections view format extents pages sections → SpellsRoot (view 1) format 1 0 []
+    ensures new { (view : ℕ → Page) (format : Format) (extents pages sections : ℕ) → IsGeometry format extents pages sections
+        → AreNewSections view format extents pages sections → SpellsRoot (view 1) (identity_in format) 1 0 []
         → (let x = new_extents format extents pages sections in IsNew (shape x) (formats_of (shape x)) view) }
     // It recovers no command and no shard, and is found to be these extents, all versions 1, and no runs.
-    ensures found { (view : ℕ → Page) (format extents pages sections : ℕ) → IsGeometry format extents pages sections
-        → AreNewSections view format extents pages sections → SpellsRoot (view 1) format 1 0 []
+    ensures found { (view : ℕ → Page) (format : Format) (extents pages sections : ℕ) → IsGeometry format extents pages sections
+        → AreNewSections view format extents pages sections → SpellsRoot (view 1) (identity_in format) 1 0 []
         → (let x = new_extents format extents pages sections in IsRecoveredAs x view 0 (λ id. None) x (replicate sections 1) 1 []) }
 {}
 
@@ -47,38 +48,38 @@ pub fn what_is_read_recovers()
 /// they stand. Where they don't, `visible_stores_recover` says it of the visible ones.
 pub fn what_is_recovered_can_be_read()
     // Each section's page spells that section, with the geometry's format and numbers of extents, pages and sections.
-    ensures superblock { (view : ℕ → Page) (format extents pages sections n : ℕ) (m : Map)
+    ensures superblock { (view : ℕ → Page) (format : Format) (extents pages sections n : ℕ) (m : Map)
         → RecoversStore view format extents pages sections n m → (j : ℕ) → j < sections
         → (version : ℕ) × (recorded : ℕ) × (written : List (ℕ × ℕ))
         × SpellsAt j (view (page_of_section format extents pages sections j)) format version recorded extents pages sections written }
     // Whatever section page 0 spells is section 0, of this format and with these numbers.
-    ensures geometry { (view : ℕ → Page) (format extents pages sections n : ℕ) (m : Map)
-        (f version recorded e p s j : ℕ) (written : List (ℕ × ℕ)) → RecoversStore view format extents pages sections n m
+    ensures geometry { (view : ℕ → Page) (format : Format) (extents pages sections n : ℕ) (m : Map)
+        (f : Format) (version recorded e p s j : ℕ) (written : List (ℕ × ℕ)) → RecoversStore view format extents pages sections n m
         → SpellsPageZero (view 0) f version recorded e p s j written
         → (f ≡ format) × (e ≡ extents) × (p ≡ pages) × (s ≡ sections) × (j ≡ 0) }
     // Whatever section the page of a further one spells is that one, of this format and with these numbers.
-    ensures section { (view : ℕ → Page) (format extents pages sections n : ℕ) (m : Map)
-        (k f version recorded e p s j : ℕ) (written : List (ℕ × ℕ)) → RecoversStore view format extents pages sections n m
+    ensures section { (view : ℕ → Page) (format : Format) (extents pages sections n : ℕ) (m : Map)
+        (k : ℕ) (f : Format) (version recorded e p s j : ℕ) (written : List (ℕ × ℕ)) → RecoversStore view format extents pages sections n m
         → 0 < k → k < sections
         → SpellsSuperblock (view (page_of_section format extents pages sections k)) f version recorded e p s j written
         → (f ≡ format) × (e ≡ extents) × (p ≡ pages) × (s ≡ sections) × (j ≡ k) }
     // Page 1 spells a root, with as many commands as are recovered.
-    ensures root { (view : ℕ → Page) (format extents pages sections n : ℕ) (m : Map) → RecoversStore view format extents pages sections n m
-        → (version : ℕ) × (places : List Locator) × SpellsRoot (view 1) format version n places }
+    ensures root { (view : ℕ → Page) (format : Format) (extents pages sections n : ℕ) (m : Map) → RecoversStore view format extents pages sections n m
+        → (version : ℕ) × (places : List Locator) × SpellsRoot (view 1) (identity_in format) version n places }
     // Whatever root page 1 spells has as many commands as are recovered, and at each of its places a frame has a run.
     ensures runs { (view : ℕ → Page) (read : StoreRead) (places : List Locator) (n : ℕ) (m : Map)
-        → HasSections view read → HasPages view read → SpellsRoot (view 1) read.format read.root read.commands places
+        → HasSections view read → HasPages view read → SpellsRoot (view 1) (identity_in read.format) read.root read.commands places
         → RecoversFor (extents_in read) view n m
         → (read.commands ≡ n) × AllByRecursion (λ place. IsReadable (extents_in read) view place) places }
     // Whatever root page 1 spells is none of before: no section that was read records a later one.
     ensures recorded { (view : ℕ → Page) (read : StoreRead) (places : List Locator) (n : ℕ) (m : Map)
-        → HasSections view read → SpellsRoot (view 1) read.format read.root read.commands places
+        → HasSections view read → SpellsRoot (view 1) (identity_in read.format) read.root read.commands places
         → RecoversFor (extents_in read) view n m → (j : ℕ) → j < length read.versions → slice_index read.records j ≤ read.root }
     // Where hidden entries stand, page 1 spells a root over these runs, and each of them was read where its place says, the whole store
     // was read.
     ensures store { (view : ℕ → Page) (read : StoreRead) (runs : List StoredRun) (n : ℕ) (m : Map)
         → (shape (extents_in read)).hidden_stand ≡ true → HasSections view read → HasPages view read
-        → SpellsRoot (view 1) read.format read.root read.commands (map (λ run. run.place) runs)
+        → SpellsRoot (view 1) (identity_in read.format) read.root read.commands (map (λ run. run.place) runs)
         → AllByRecursion (IsRunRead (extents_in read) view) runs → RecoversFor (extents_in read) view n m → IsRead view read runs }
 {}
 
@@ -98,7 +99,8 @@ pub fn runs_are_read_one_by_one()
     ensures loads { (x : ExtentsState) (view : ℕ → List ℕ) (runs : List StoredRun) → AllByRecursion (IsRunRead x view) runs
         → AllByRecursion (λ run. IsRun x.format (record { entries = run.entries })) runs }
     // The places of a root keep to its format.
-    ensures places { (page : List ℕ) (format version commands : ℕ) (places : List Locator) → SpellsRoot page format version commands places
+    ensures places { (page : List ℕ) (format : Format) (version commands : ℕ) (places : List Locator)
+        → SpellsRoot page (identity_in format) version commands places
         → KeepFormat format places }
     // Of a place that is located extent and page are there.
     ensures inside { (x : ExtentsState) (place : Locator) → IsWhole x → IsLocated x place
@@ -128,7 +130,7 @@ pub fn visible_stores_recover()
     // Page 1 spells a root over these runs, each of which was read where its place says.
     ensures recovered { (view : ℕ → Page) (read : StoreRead) (runs : List StoredRun) (n : ℕ) (m : Map)
         → HasSections view read → HasPages view read
-        → SpellsRoot (view 1) read.format read.root read.commands (map (λ run. run.place) runs)
+        → SpellsRoot (view 1) (identity_in read.format) read.root read.commands (map (λ run. run.place) runs)
         → AllByRecursion (IsRunRead (extents_in read) view) runs → RecoversFor (extents_in read) view n m → IsVisiblyRead view read runs }
     // All pages that are given at open count as found.
     ensures found { (written : List (ℕ × ℕ)) (e : ℕ) → slice_index (found_at true written) e ≡ (slice_index_or written e (0, 0)).0 }

@@ -48,8 +48,8 @@ pub fn live_chunks_are_read()
         → IsFrameIn x (pages_now (shape x) s held) ChunkFrame (as_locator l) payload → HasChunkAt x s l payload }
 {}
 
-/// By such extents what is behind the heads of a shard's chunks is the bytes that the map has; the first that is damaged is the damage that
-/// the map has.
+/// By such extents the payloads of a shard's chunks, without their heads, are the bytes that the map has. The first chunk
+/// that is damaged is the damage that the map has.
 pub fn get_refines_get()
     // The shard has chunks, and the frames of all of them are there: the map has their bytes.
     ensures found { (x : ExtentsState) (i : IndexState) (s : State) (held : Image) (id : ℕ) (chunks : List (List ℕ))

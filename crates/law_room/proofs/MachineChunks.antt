@@ -25,6 +25,7 @@ module _ (S : Shape) (F : Formats) where
     within = r.within;
     stand = r.stand;
     marked = r.marked;
+    long = r.long;
   }
 
   module _ (one two : Opening) (img other : ℕ → Page) (p g q h : ℕ → ℕ) where

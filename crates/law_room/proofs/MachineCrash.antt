@@ -160,7 +160,7 @@ module _ (S : Shape) (F : Formats) (shape : IsShape S) (format : IsFormat S F) (
         (λ on. ⊎_elim (λ (below : l.page + length bs ≤ given.pointers l.extent).
         subst (λ (n : ℕ). l.page + length bs ≤ n) (pointers_agree l.extent pass.inside.0) below)
         (λ (fz : (i : ℕ) → s.opening.frozen l.extent i l.generation ≡ true). absurd
-        (true≢false (sym (fz S.pages) ∙ thawed on l.extent l.generation))) r.below) r.inside r.stand r.marked
+        (true≢false (sym (fz S.pages) ∙ thawed on l.extent l.generation))) r.below) r.inside r.stand r.marked r.long
 
     -- a chunk that was found damaged is so still, by the pages to which its frame might reach and more
     module _ (id : ℕ) (l : Locator) (there : l ∈ live_at (entries_of q.runs) id) (f : Refusal)

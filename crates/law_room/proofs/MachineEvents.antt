@@ -6,6 +6,7 @@ use Rattle.law_machine.proofs.Bounds.{not_first}
 use Rattle.law_machine.proofs.Carries.{carry_reads}
 use Rattle.law_machine.proofs.Commands.{in_room}
 use Rattle.law_machine.proofs.Frames.{PutIn, put_in}
+use Rattle.law_machine.proofs.Payloads.{payloads_long}
 use Rattle.law_machine.proofs.Keeps.{steps}
 use Rattle.law_machine.specs.Apart.{any_below, any_swept}
 use Rattle.law_machine.specs.Append.{AppendAllBy, chunk_frames, page_counts}
@@ -14,7 +15,7 @@ use Rattle.law_machine.specs.Element.{Copy, Entry, Locator}
 use Rattle.law_machine.specs.Events.{ArePayloads, newest_page}
 use Rattle.law_machine.specs.Extents.{ForPut}
 use Rattle.law_machine.specs.Formats.{ChunkFrame, Formats}
-use Rattle.law_machine.specs.Frames.{IsFormat}
+use Rattle.law_machine.specs.Frames.{AreLong, IsFormat}
 use Rattle.law_machine.specs.Index.{live_at}
 use Rattle.law_machine.specs.Machine.{World}
 use Rattle.law_machine.specs.Refusal.{Full, Halted, IndexFull, TooLarge, WornOut}
@@ -69,17 +70,17 @@ module _ (S : Shape) (F : Formats) where
     }
 
     put_chunks : (s : State) (v : World) (r : Room) (id : ℕ) (bytes : List ℕ) (cs : List (List ℕ)) (ls : List Locator)
-        → HasRoomNow S F s r → PutIn S F shape format s (record s { world = v }) ls cs
+        → HasRoomNow S F s r → PutIn S F shape format s (record s { world = v }) ls cs → AreLong S F cs
         → (w : IsWritten S F shape format (is_aside S s) v id cs ls (dropped r id))
         → v.extents.swept ≡ s.world.extents.swept
         → (d : ℕ) → AreChunksIn S F (put_state s v id bytes ls) (copies_now S s) d (of_id d w.after.chunks)
-    put_chunks s v r id bytes cs ls has put w swept d = elim (cases_eq d id) [
+    put_chunks s v r id bytes cs ls has put long w swept d = elim (cases_eq d id) [
       | inl same ↦ subst (λ (n : ℕ). AreChunksIn S F (put_state s v id bytes ls) (copies_now S s) n (of_id n w.after.chunks)) (sym same)
           (subst (λ (xs : List Chunk). AreChunksIn S F (put_state s v id bytes ls) (copies_now S s) id xs) (sym ids)
           (subst (λ (ks : List Locator). AreChunksOf S F (put_state s v id bytes ls).opening (newest_page (put_state s v id bytes ls)) (put_state s v id bytes ls).world.extents.pointer
           (put_state s v id bytes ls).world.extents.generation (copies_now S s) id 0 ks w.news) (sym (same_entry id ls (index_now s)))
           (written_are S F (put_state s v id bytes ls).opening (newest_page (put_state s v id bytes ls)) (put_state s v id bytes ls).world.extents.pointer (put_state s v id bytes ls).world.extents.generation (copies_now S s) id 0
-          cs ls w.news w.written put.chunks
+          cs ls w.news w.written (put.chunks long)
           (λ j l there. away (any_swept S s) refl j l (ap (λ (f : ℕ → Bool). f l.extent) (sym swept) ∙ w.away l there)))))
       | inr other ↦ subst (λ (xs : List Chunk). AreChunksIn S F (put_state s v id bytes ls) (copies_now S s) d xs) (sym (others other))
           (subst (λ (ks : List Locator). AreChunksOf S F (put_state s v id bytes ls).opening (newest_page (put_state s v id bytes ls)) (put_state s v id bytes ls).world.extents.pointer
@@ -113,10 +114,10 @@ module _ (S : Shape) (F : Formats) where
 
     put_there : (s : State) (v : World) (r : Room) (id : ℕ) (bytes : List ℕ) (cs : List (List ℕ)) (ls : List Locator)
         → HasRoomNow S F s r → AppendAllBy S true s.world ForPut (chunk_frames S F cs) ls v
-        → PutIn S F shape format s (record s { world = v }) ls cs
+        → PutIn S F shape format s (record s { world = v }) ls cs → AreLong S F cs
         → (q : Room) × RoomDoes S S.run_extents r (RoomPut id (page_counts (chunk_frames S F cs))) q
         × IsRoomOf S F (put_state s v id bytes ls) q × (v.extents.fresh ≡ s.world.extents.fresh)
-    put_there s v r id bytes cs ls has all put =
+    put_there s v r id bytes cs ls has all put long =
         let done = put_all S F shape format (is_aside S s) s.world v id cs ls (dropped r id)
         (extents_stay (is_aside S s) s r id has.room.extents)
         (swept_of S s r.sweep (has.sound.apart apart).one_sweep has.room.sweep) (λ d is. (has.sound.swept d is).1)
@@ -125,7 +126,7 @@ module _ (S : Shape) (F : Formats) where
           (done.0.writes, done.0.quota),
           same_asides s (put_state s v id bytes ls) done.0.after done.1 done.2 refl (record {
             extents = done.0.extents;
-            chunks = put_chunks s v r id bytes cs ls has put done.0 done.1;
+            chunks = put_chunks s v r id bytes cs ls has put long done.0 done.1;
             runs = done.0.runs ∙ has.room.runs;
             rooted = done.0.rooted;
             sweep = subst (λ (o : Option Sweep). IsSweepOf S (put_state s v id bytes ls) o) (sym done.0.sweep)
@@ -150,7 +151,8 @@ module _ (S : Shape) (F : Formats) where
         let put = put_in S F shape format true (λ on. apart) s (record s { world = d.4.0 }) d.0 d.1 has.sound (d.4.0, all, refl)
         (in_room S F shape format s t d.4.0 (Put id bytes) (Accepted n) worn.0 d
         (ap (λ (x : State). x.world.superblocks) (sym whole))) in
-        let done = put_there s d.4.0 r id bytes d.0 d.1 has all put in
+        let done = put_there s d.4.0 r id bytes d.0 d.1 has all put
+        (payloads_long S F format id (next_command s) bytes d.0 d.3) in
         let kept = steps S F shape format s t (Put id bytes) (Accepted n) has.sound has.bounded step in (
           d.0,
           d.3,

@@ -3,6 +3,7 @@ use Rattle.std.proofs.Common.{◌≡◌, ⊎_elim, ℕ, ◌<◌, true, [], None,
 use Rattle.law_machine.proofs.ApartResets.{blank, each_extent}
 use Rattle.law_machine.specs.Apart.{freed, is_blank}
 use Rattle.law_machine.specs.Device.{IsShape, Page, Shape}
+use Rattle.law_machine.specs.Format.{number_of}
 use Rattle.law_machine.specs.Formats.{Formats}
 use Rattle.law_machine.specs.Open.{opened_state}
 use Rattle.law_machine.specs.Recovery.{IsNew, Recovers}
@@ -14,7 +15,7 @@ use Rattle.law_room.specs.OfMachine.{HasRoomNow, NoneWorn}
 module _ (S : Shape) (F : Formats) (apart : S.apart ≡ true) (img : ℕ → Page) (made : IsNew S F img) where
   abbrev pub given : Recovers S F img 0 (λ id. None)
   given = record {
-    formats = λ j. S.format;
+    formats = λ j. number_of S.format;
     versions = λ j. 1;
     recorded = λ j. 0;
     pointers = λ e. 0;

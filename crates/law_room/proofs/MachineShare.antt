@@ -10,7 +10,7 @@ use Rattle.law_machine.proofs.Places.{goes_or_full}
 use Rattle.law_machine.specs.Append.{AppendAllBy, AppendBy, AppendsChunksBy, chunk_frames}
 use Rattle.law_machine.specs.Device.{IsShape, Shape}
 use Rattle.law_machine.specs.Element.{Locator}
-use Rattle.law_machine.specs.Events.{AllFullButLast, Chunked, with_heads}
+use Rattle.law_machine.specs.Events.{AllFullButLast, Chunked, headed}
 use Rattle.law_machine.specs.Extents.{Extents, ForPut, GoesApart, Takes, chunk_extents as machine_chunks, one_if, taken_by}
 use Rattle.law_machine.specs.Formats.{ChunkFrame, Formats}
 use Rattle.law_machine.specs.Frames.{IsFormat}
@@ -112,10 +112,10 @@ chunk_fits most (b ∷ c ∷ cs) all d (inl is) = let full : length b ≡ most =
     subst (λ (x : List ℕ). length x ≤ most) (sym is) (omega arith)
 chunk_fits most (b ∷ c ∷ cs) all d (inr there) = chunk_fits most (c ∷ cs) all.2 d there
 
--- and fits on an extent behind its head
+-- and fits on an extent with its head
 heads_fit : (S : Shape) (F : Formats) (id number count command : ℕ) (pieces : List (List ℕ)) → ChunksFit S F
     → ((piece : List ℕ) → piece ∈ pieces → length piece ≤ S.chunk_bytes)
-    → (c : List ℕ) → c ∈ with_heads F id number count command pieces → length (F.frame ChunkFrame c) ≤ S.pages
+    → (c : List ℕ) → c ∈ headed F id number count command pieces → length (F.frame ChunkFrame c) ≤ S.pages
 heads_fit S F id number count command [] fit short c none = absurd none
 heads_fit S F id number count command (piece ∷ pieces) fit short c (inl is) =
     subst (λ (x : List ℕ). length (F.frame ChunkFrame x) ≤ S.pages) (sym is)
@@ -199,7 +199,7 @@ module _ (S : Shape) (F : Formats) (shape : IsShape S) (format : IsFormat S F) (
       let no : Full ≡ WornOut = wrong in cc
   put_not_full s r id n bytes cs has fit few chunked short (inr (a, inr (b, inr (c, inr (d, inr none))))) = none.1
   put_not_full s r id n bytes cs has fit few chunked short (inr (a, inr (b, inr (c, inl (nowhere, is))))) =
-      let payloads : List (List ℕ) = with_heads F id 0 (length cs) (next_command s) cs in
+      let payloads : List (List ℕ) = headed F id 0 (length cs) (next_command s) cs in
       let many : length payloads ≡ length cs = length_heads F id 0 (length cs) (next_command s) cs in
       let done = put_fits S F shape format (is_aside S s) s.world payloads r has.room.extents
       (swept_of S s r.sweep (has.sound.apart apart).one_sweep has.room.sweep) (λ d on. (has.sound.swept d on).1)

@@ -65,7 +65,7 @@ module _ (S : Shape) (F : Formats) (shape : IsShape S) (format : IsFormat S F) (
         payload,
         reads_own S F img other.pointers other.generations l (F.frame ChunkFrame payload) pass
             (λ on. le_trans reads.within (le_of_eq (limit_here S F img gives.pointers gives.generations l here on
-            ∙ pointers_agree l.extent here.inside.0))) reads.inside reads.stand reads.marked,
+            ∙ pointers_agree l.extent here.inside.0))) reads.inside reads.stand reads.marked reads.long,
         size,
       )
       go (inr (f, bad, lasts, none)) = inr (

@@ -3,6 +3,7 @@ use Rattle.std.proofs.Common.{◌≡◌, ℕ, ◌<◌, ◌≤◌, true, [], None
 use Rattle.law_machine.proofs.Examples.{told_here}
 use Rattle.law_machine.specs.Device.{FramePage, IsShape, Page, PageKind, RootPage, SectionPage, Shape}
 use Rattle.law_machine.specs.Example.{telling_format}
+use Rattle.law_machine.specs.Format.{number_of}
 use Rattle.law_machine.specs.Formats.{Formats}
 use Rattle.law_machine.specs.Open.{opened_state}
 use Rattle.law_machine.specs.Recovery.{IsNew}
@@ -25,7 +26,7 @@ module _ (S : Shape) where
   -- what is written when a store is made
   abbrev new_page : (F : Formats) → PageKind → Page
   new_page F RootPage = F.root 1 0 []
-  new_page F (SectionPage j) = F.superblock S.format j 1 0 (λ e. 0) (λ e. 0)
+  new_page F (SectionPage j) = F.superblock (number_of S.format) j 1 0 (λ e. 0) (λ e. 0)
   new_page F FramePage = []
 
   made_image : IsShape S → 1 ≤ S.greatest_number → IsNew S (telling_format S) (λ p. new_page (telling_format S) (S.kind p))

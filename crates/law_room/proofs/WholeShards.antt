@@ -43,5 +43,5 @@ module _ (S : Shape) (F : Formats) where
       within_now S F s sound l (F.frame ChunkFrame found.0) found.1 in
       let end : reach_now S F s sound l ≤ S.pages = reach_fits S F s sound l in
       let none : None ≡ Some f = sym (none_for S F format (newest_page s) l.extent l.page (reach_now S F s sound l - l.page)
-      ChunkFrame found.0 l.mark (omega arith) (omega arith) found.1.stand found.1.marked)
+      ChunkFrame found.0 l.mark (omega arith) (omega arith) found.1.stand found.1.marked found.1.long)
       ∙ damage_stays S F shape s sound l f bad found.1.passes in cc

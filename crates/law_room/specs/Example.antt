@@ -1,6 +1,7 @@
 -- Examples: a new store, and some events of one of 6 extents of 2 pages, one of which may hold runs.
 use Rattle.std.specs.Prelude.{◌≡◌, ◌∷◌, ℕ, true, List, None, []}
 use Rattle.law_machine.specs.Device.{Shape}
+use Rattle.law_machine.specs.Format.{Two}
 use Rattle.law_machine.specs.Geometry.{shape_of}
 use Rattle.law_machine.specs.Lists.{with}
 use Rattle.law_room.specs.Events.{Abandon, BeginSweep, Delete, Does, End, Event, MoveOne, Open, Put, Retire, Stage}
@@ -26,7 +27,7 @@ Plays S J s [] t = t ≡ s
 Plays S J s (event ∷ events) t = (mid : Room) × Does S J s event mid × Plays S J mid events t
 
 abbrev pub example_shape : Shape
-example_shape = shape_of 6 2 1 8 1
+example_shape = shape_of 6 2 1 8 Two
 
 -- two shards are put and staged, and the extent where they lie is swept: two chunks are moved, to one extent that the sweep
 -- opens

@@ -162,7 +162,7 @@ module _ (S : Shape) (F : Formats) where
   -- each chunk fits on an extent, with its head
   abbrev pub ChunksFit : Type 0
   ChunksFit = (id number count command : ℕ) (piece : List ℕ) → length piece ≤ S.chunk_bytes
-      → length (F.frame ChunkFrame (F.head id number count command ++ piece)) ≤ S.pages
+      → length (F.frame ChunkFrame (F.chunk id number count command piece)) ≤ S.pages
 
   -- what an event of the machine is in room
   abbrev pub InRoom : Event → Reply → Room → Room → Type 0

@@ -8,6 +8,7 @@ use Rattle.cs_disk.specs.Disk.{Image, MayLeave}
 use Rattle.cs_extent.specs.State.{extents_at, shape}
 use Rattle.cs_frame.specs.declared.identifiers.ShardId.{ShardId}
 use Rattle.cs_frame.specs.Geometries.{IsGeometry}
+use Rattle.law_machine.specs.Format.{Four}
 use Rattle.law_machine.specs.Device.{Shape}
 use Rattle.cs_core.specs.declared.events.Event.{Event}
 use Rattle.cs_core.specs.declared.events.Event.TheVariants.{Put}
@@ -112,15 +113,15 @@ module _ {D : Type 0} (disks : PageDisk D) where
         only_a_put disks w last.1 last.2 last.3.core last.3.honest last.0 last.3.young event x full
 
     -- from the time on that a store is made
-    pub new_lives_full : (others : List (View D)) (v w x : View D) (extents pages sections : ℕ) (event : Event)
-        → IsGeometry 3 extents pages sections → v.history ≡ [] → v.store ≡ new_stored 3 extents pages sections
+    pub new_lives_full : (others : List (View D)) (v w x : View D) (event : Event) (store : List ℕ) (device extents pages sections : ℕ)
+        → IsGeometry (Four store device) extents pages sections → v.history ≡ [] → v.store ≡ new_stored (Four store device) extents pages sections
         → Lives disks v others w → Applies disks w event (Refused Full) x → (id : ShardId) × (bytes : List ℕ) × (event ≡ Put id bytes)
-    new_lives_full others v w x extents pages sections event geometry none made lives full =
+    new_lives_full others v w x event store device extents pages sections geometry none made lives full =
         let first = first_alive others lives in
         lives_full others v w x event
-        (subst (λ (s : Stored). HasGeometry s.extents) (sym made) (new_geometry 3 extents pages sections geometry))
+        (subst (λ (s : Stored). HasGeometry s.extents) (sym made) (new_geometry (Four store device) extents pages sections geometry))
         (ap (λ (s : Stored). (shape s.extents).apart) made)
-        (new_is_empty disks v extents pages sections geometry first.core first.honest none made) lives full
+        (new_is_empty disks v store device extents pages sections geometry first.core first.honest none made) lives full
       where
         first_alive : (others : List (View D)) → Lives disks v others w → IsAlive disks v
         first_alive [] lives = lives.0

@@ -7,6 +7,7 @@ use Rattle.cs_disk.specs.Disk.{Image, page}
 use Rattle.cs_extent.specs.State.{State as ExtentsState, extents_of, shape}
 use Rattle.cs_frame.specs.Geometries.{IsGeometry}
 use Rattle.cs_frame.specs.Formats.{formats_of}
+use Rattle.law_machine.specs.Format.{Format, Four}
 use Rattle.law_machine.specs.Device.{Shape}
 use Rattle.law_machine.specs.Extents.{Extents}
 use Rattle.cs_frame.specs.declared.identifiers.ShardId.{ShardId}
@@ -108,20 +109,20 @@ module _ {D : Type 0} (disks : PageDisk D) (v : View D) (geometry : HasGeometry 
       step_full has young s.0 s.1 event w honest step
 
 -- a new store has the geometry that it was made with
-pub new_geometry : (format extents pages sections : ℕ) → IsGeometry format extents pages sections
+pub new_geometry : (format : Format) (extents pages sections : ℕ) → IsGeometry format extents pages sections
     → HasGeometry (new_stored format extents pages sections).extents
 new_geometry format extents pages sections geometry =
     subst (λ (n : ℕ). IsGeometry format n pages sections) (sym (length-replicate extents (0, 0))) geometry
 
--- in format 3 chunks and runs lie apart
-pub format_apart : (x : ExtentsState) → x.format ≡ 3 → (shape x).apart ≡ true
-format_apart x is = ap apart_in is
+-- in format 4 chunks and runs lie apart
+pub format_apart : (x : ExtentsState) (store : List ℕ) (device : ℕ) → x.format ≡ Four store device → (shape x).apart ≡ true
+format_apart x store device is = ap apart_in is
 
 -- a core over a new store has no run
-pub new_is_empty : {D : Type 0} (disks : PageDisk D) (v : View D) (extents pages sections : ℕ) → IsGeometry 3 extents pages sections
-    → IsCore disks v → disks.honest v.disk → v.history ≡ [] → v.store ≡ new_stored 3 extents pages sections → HasRoom v
-new_is_empty disks v extents pages sections geometry core honest none made =
-    empty_has_room disks v (subst (λ (s : Stored). HasGeometry s.extents) (sym made) (new_geometry 3 extents pages sections geometry))
+pub new_is_empty : {D : Type 0} (disks : PageDisk D) (v : View D) (store : List ℕ) (device extents pages sections : ℕ) → IsGeometry (Four store device) extents pages sections
+    → IsCore disks v → disks.honest v.disk → v.history ≡ [] → v.store ≡ new_stored (Four store device) extents pages sections → HasRoom v
+new_is_empty disks v store device extents pages sections geometry core honest none made =
+    empty_has_room disks v (subst (λ (s : Stored). HasGeometry s.extents) (sym made) (new_geometry (Four store device) extents pages sections geometry))
     (ap (λ (s : Stored). (shape s.extents).apart) made) core honest none (ap (λ (s : Stored). s.index.runs) made)
 
 -- the geometry goes with the shape
@@ -136,7 +137,7 @@ young_row extents e row none lt =
     let same : slice_index_or (replicate extents row) e row ≡ row = get_or-replicate extents e row row (omega (arith, size, lt)) in
     let is : (slice_index_or (replicate extents row) e row).1 ≡ 0 = ap (λ (r : ℕ × ℕ). r.1) same ∙ none in omega (arith, is)
 
-pub new_is_young : {D : Type 0} (v : View D) (format extents pages sections : ℕ) → v.store ≡ new_stored format extents pages sections
+pub new_is_young : {D : Type 0} (v : View D) (format : Format) (extents pages sections : ℕ) → v.store ≡ new_stored format extents pages sections
     → NoneWornIn v
 new_is_young v format extents pages sections made = subst (λ (s : Stored). (e : ℕ) → e < (shape s.extents).extents
     → (extents_of s.extents).generation e < (shape s.extents).greatest_generation) (sym made)

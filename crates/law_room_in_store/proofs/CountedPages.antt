@@ -13,6 +13,7 @@ use Rattle.cs_extent.specs.State.{IsWhole, State as ExtentsState, shape}
 use Rattle.cs_frame.specs.declared.faults.FormatFault.{FormatFault}
 use Rattle.cs_frame.specs.declared.frames.FrameKind.TheVariants.{Chunk as ChunkKind}
 use Rattle.cs_frame.specs.Formats.{as_locator, formats_of, kind_number}
+use Rattle.cs_frame.specs.FormatNumbers.{number_in}
 use Rattle.cs_frame.specs.Frames.{page_count}
 use Rattle.cs_core.specs.cs_reader.ImageReads.{page_total}
 use Rattle.cs_index.specs.State.{index_of}
@@ -80,6 +81,7 @@ module _ (v : Stored) (whole : IsWhole v.extents) (graph : IsWholeGraph v.graph)
     le_trans (within_now S F s is.sound l (F.frame ChunkFrame payload) reads) (le_of_eq (sym (same_end l))),
     stand_here l.extent l.page (F.frame ChunkFrame payload) reads.passes.inside.0 reads.inside reads.stand,
     reads.marked,
+    reads.long,
   )
 
   -- ---- no chunk is damaged
@@ -127,7 +129,7 @@ module _ (v : Stored) (whole : IsWhole v.extents) (graph : IsWholeGraph v.graph)
         ∙ ap (λ (fault : Option FormatFault). unless_fault fault (page_count (length_at S now (as_locator l))))
         (header_there x whole now ChunkKind (as_locator l) payload frame)
         ∙ ap (λ (n : ℕ). Some (page_count n)) (length_there x whole now ChunkKind (as_locator l) payload frame)
-        ∙ ap (λ (n : ℕ). Some n) (sym (length-spelled (kind_number ChunkFrame) payload))
+        ∙ ap (λ (n : ℕ). Some n) (sym (length-spelled (number_in S.format) (kind_number ChunkFrame) payload))
 
     abbrev said : Place → Option ℕ
     said l = pages_counted S.format l.mark (view (S.address l.extent l.page)) (end_in x (as_locator l) - l.page)

@@ -4,7 +4,7 @@ use Rattle.std.proofs.lemmas.Bool.{cases_lt}
 use Rattle.std.proofs.lemmas.List.{get_or_past}
 use Rattle.cs_disk.specs.Disk.{Image, MayLeave, State as DiskState, page}
 use Rattle.cs_extent.specs.State.{State as ExtentsState, shape}
-use Rattle.cs_frame.proofs.GeometryLaws.{model_geometry}
+use Rattle.cs_frame.proofs.GeometryLaws.{model_geometry, pages_on_device}
 use Rattle.cs_frame.specs.Formats.{formats_of}
 use Rattle.cs_frame.specs.Geometries.{section_size}
 use Rattle.cs_core.specs.cs_reader.ImageReads.{page_total}
@@ -59,8 +59,9 @@ module _ (x : ExtentsState) (geometry : HasGeometry x) where
       → image S F X s.opened (log_of s.world.elements) p ≡ s.opened p
   behind s X sound p over =
       let some : 1 ≤ x.sections = geometry.fewest_sections in
-      let past : 2 + length x.written * x.pages ≤ p = omega arith in
-      let late : x.sections ≤ p - (1 + length x.written * x.pages) = omega arith in
+      let on = pages_on_device x.format (length x.written) x.pages x.sections geometry in
+      let past : 2 + length x.written * x.pages ≤ p = omega (arith, over, on, some) in
+      let late : x.sections ≤ p - (1 + length x.written * x.pages) = omega (arith, over, on) in
       let at : S.kind p ≡ SectionPage (p - (1 + length x.written * x.pages)) =
       at_behind (length x.written) x.pages x.sections (section_size (length x.written) x.sections) x.format
       (model_geometry x.format (length x.written) x.pages x.sections geometry) p past in

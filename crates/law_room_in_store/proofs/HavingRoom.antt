@@ -1,7 +1,6 @@
 -- The formats have room.
 use Rattle.std.proofs.Common.{ℕ, length, arith}
 use Rattle.cs_extent.specs.State.{State as ExtentsState, shape}
-use Rattle.cs_frame.proofs.FirstFormatLaws.{not_first}
 use Rattle.cs_frame.proofs.FittingLaws.{chunks_fit, runs_fit}
 use Rattle.cs_frame.proofs.FormatLaws.{is_format}
 use Rattle.cs_frame.proofs.GeometryLaws.{bounds}
@@ -9,20 +8,21 @@ use Rattle.cs_frame.proofs.TellingLaws.{tells}
 use Rattle.cs_frame.specs.Formats.{formats_of}
 use Rattle.cs_frame.specs.Geometries.{IsGeometry, section_size}
 use Rattle.law_machine.specs.Device.{Shape}
+use Rattle.law_machine.specs.Format.{Format}
 use Rattle.law_machine.specs.Frames.{IsFormat}
 use Rattle.law_machine.specs.Geometry.{shape_of}
 use Rattle.law_room.specs.Lives.{IsFormatWithRoom}
 use Rattle.law_room.specs.OfMachine.{ChunksFit}
 use Rattle.law_room_in_store.specs.Images.{HasGeometry}
 
-module _ (format extents pages sections : ℕ) (geometry : IsGeometry format extents pages sections) where
+module _ (format : Format) (extents pages sections : ℕ) (geometry : IsGeometry format extents pages sections) where
   abbrev S : Shape
   S = shape_of extents pages sections (section_size extents sections) format
 
   pub have_room : IsFormatWithRoom S (formats_of S)
   have_room = record {
     tells = λ f k j v w a b p g q h inside first second fits also same e lt at.
-        tells S (not_first format geometry.known) (omega (arith, (bounds format extents pages sections geometry).most_pages)) (omega arith)
+        tells S geometry.fits_format (omega (arith, (bounds format extents pages sections geometry).most_pages)) (omega arith)
         j p g q h fits also f k v w a b same e lt at;
     fits = λ entries list. runs_fit extents pages sections format geometry entries list;
   }

@@ -5,11 +5,12 @@ use Rattle.cs_disk.specs.Disk.{Image, page}
 use Rattle.cs_frame.specs.declared.faults.FormatFault.{FormatFault}
 use Rattle.cs_frame.specs.declared.faults.FormatFault.TheVariants as fault
 use Rattle.cs_frame.specs.Formats.{formats_of, kind_number, refusal_of}
+use Rattle.cs_frame.specs.FormatNumbers.{number_in}
 use Rattle.cs_frame.specs.Frames.{frame_fault}
 use Rattle.law_machine.proofs.Kept.{history_on}
-use Rattle.law_machine.specs.Device.{IsShape, Shape, is_meant}
+use Rattle.law_machine.specs.Device.{IsShape, Page, Shape, is_meant}
 use Rattle.law_machine.specs.Element.{Map, Opening, Run}
-use Rattle.law_machine.specs.Formats.{ChunkFrame, Formats, limit_in, opening_in, pages_from, places, refused_or}
+use Rattle.law_machine.specs.Formats.{ChunkFrame, Formats, is_long_frame, limit_in, opening_in, pages_from, places, refused_or}
 use Rattle.law_machine.specs.Frames.{IsFormat}
 use Rattle.law_machine.specs.Grounds.{Refuses}
 use Rattle.law_machine.specs.Open.{opened_state}
@@ -44,18 +45,26 @@ no_fault_full : (o : Option FormatFault) → option_map refusal_of o ≡ Some Fu
 no_fault_full None is = let no : None ≡ Some Full = is in cc
 no_fault_full (Some f) is = never_full f (let same : Some (refusal_of f) ≡ Some Full = is in cc)
 
--- nor is it that another frame lies there
-no_other_full : (o : Option Refusal) → (o ≡ Some Full → ⊥) → Some (refused_or o Misplaced) ≡ Some Full → ⊥
-no_other_full None none is = let no : Some Misplaced ≡ Some Full = is in cc
-no_other_full (Some f) none is = none is
+-- nor is it that another frame lies there, or one that is too short
+no_other_full : (o : Option Refusal) (other : Refusal) → (Some other ≡ Some Full → ⊥) → (o ≡ Some Full → ⊥) → Some (refused_or o other) ≡ Some Full → ⊥
+no_other_full None other apart none is = apart is
+no_other_full (Some f) other apart none is = none is
 
-no_meant_full : (meant : Bool) (o : Option FormatFault) → (if meant then option_map refusal_of o else Some (refused_or (option_map refusal_of o) Misplaced)) ≡ Some Full → ⊥
+-- the fault of a frame that is meant or not
+abbrev meant_fault : Bool → Option FormatFault → Option Refusal
+meant_fault meant o = if meant then option_map refusal_of o else Some (refused_or (option_map refusal_of o) Misplaced)
+
+no_meant_full : (meant : Bool) (o : Option FormatFault) → meant_fault meant o ≡ Some Full → ⊥
 no_meant_full true o is = no_fault_full o is
-no_meant_full false o is = no_other_full (option_map refusal_of o) (no_fault_full o) is
+no_meant_full false o is = no_other_full (option_map refusal_of o) Misplaced (λ same. let no : Some Misplaced ≡ Some Full = same in cc) (no_fault_full o) is
 
-no_damage_full : (there meant : Bool) (o : Option FormatFault) → (if there then if meant then option_map refusal_of o else Some (refused_or (option_map refusal_of o) Misplaced) else None) ≡ Some Full → ⊥
-no_damage_full true meant o is = no_meant_full meant o is
-no_damage_full false meant o is = let no : None ≡ Some Full = is in cc
+no_long_full : (long meant : Bool) (o : Option FormatFault) → (if long then meant_fault meant o else Some (refused_or (meant_fault meant o) BadLength)) ≡ Some Full → ⊥
+no_long_full true meant o is = no_meant_full meant o is
+no_long_full false meant o is = no_other_full (meant_fault meant o) BadLength (λ same. let no : Some BadLength ≡ Some Full = same in cc) (no_meant_full meant o) is
+
+no_damage_full : (there long meant : Bool) (o : Option FormatFault) → (if there then if long then meant_fault meant o else Some (refused_or (meant_fault meant o) BadLength) else None) ≡ Some Full → ⊥
+no_damage_full true long meant o is = no_long_full long meant o is
+no_damage_full false long meant o is = let no : None ≡ Some Full = is in cc
 
 -- an event that is refused for want of a place is refused by the machine's grounds
 pub refused_full : (S : Shape) (F : Formats) (s t : State) (event : Event) → Step S F s event (Refused Full) t
@@ -108,10 +117,9 @@ module _ (S : Shape) (shape : IsShape S) (format : IsFormat S (formats_of S)) (f
     none_told id l there bad =
         let same : s.opening ≡ opening_in S F (page image) gives.pointers gives.generations =
         (history_on S F (opened_state S F (page image) n m gives) s history run).opening in
+        let pages : List Page = pages_from S F (page image) l.extent l.page (limit_in S F gives.pointers gives.generations l - l.page) in
         no_damage_full ((gives.generations l.extent == l.generation) && nat_lt l.page (gives.pointers l.extent))
-        (is_meant S l.mark (pages_from S F (page image) l.extent l.page (limit_in S F gives.pointers gives.generations l - l.page)))
-        (frame_fault (kind_number ChunkFrame) (pages_from S F (page image) l.extent l.page
-        (limit_in S F gives.pointers gives.generations l - l.page)))
+        (is_long_frame F pages) (is_meant S l.mark pages) (frame_fault (number_in S.format) (kind_number ChunkFrame) pages)
         (sym (ap (λ (o : Opening). o.damage l) same) ∙ bad)
 
     -- and refuses nothing but puts for want of a place

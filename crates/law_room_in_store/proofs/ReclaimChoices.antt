@@ -1,4 +1,5 @@
--- What a call of reclaim chose by: there is a view of the pages and a list of the live chunks, of which its clause speaks.
+-- What a call of reclaim chose by: there is a view of the pages and a list of the live chunks, of which its clause
+-- speaks.
 use Rattle.std.proofs.Common.{◌≡◌, ℕ, ◌≤◌, List, [], ◌∷◌, ◌++◌, Option, Some, None, length, le_of_eq, le_trans, refl, sym, ap, ◌∙◌, arith}
 use Rattle.cs_chunk.specs.Newest.{AreNewest}
 use Rattle.cs_core.proofs.Gets.{newest_there}

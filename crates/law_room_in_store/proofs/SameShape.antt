@@ -5,11 +5,14 @@ use Rattle.cs_disk.specs.declared.disk.PageDisk.{Ghosts as PageDisk}
 use Rattle.cs_disk.specs.Disk.{Image, MayLeave, page}
 use Rattle.cs_extent.specs.State.{extents_at, section_rows, shape}
 use Rattle.cs_frame.proofs.FormatLaws.{root_fits_from}
+use Rattle.cs_frame.proofs.GeometryLaws.{pages_on_device}
+use Rattle.cs_frame.proofs.RootLaws.{identity_of_format}
 use Rattle.cs_frame.specs.Formats.{formats_of}
 use Rattle.cs_frame.specs.FirstFormat.{SpellsPageZero}
 use Rattle.cs_frame.specs.Geometries.{section_size}
 use Rattle.cs_core.proofs.cs_reader.Readable.{zero_same}
 use Rattle.cs_core.specs.cs_reader.ImageReads.{AreSectionsRead, page_total}
+use Rattle.law_machine.specs.Format.{Format}
 use Rattle.law_machine.proofs.Crash.{leaves_prefix}
 use Rattle.law_machine.specs.Device.{IsShape, Page, RootPage, SectionPage, Shape}
 use Rattle.law_machine.specs.Element.{Map, Opening}
@@ -93,10 +96,11 @@ module _ {D : Type 0} (disks : PageDisk D) where
       let size : length image ≡ page_total (shape v.store.extents) =
       same_size (disks.state v.disk) image may ∙ long ∙ roomy.core.device in
       let some : 1 ≤ v.store.extents.sections = roomy.geometry.fewest_sections in
+      let on = pages_on_device v.store.extents.format (length v.store.extents.written) v.store.extents.pages v.store.extents.sections roomy.geometry in
       let but = (leaves_prefix (shape v.store.extents) (formats_of (shape v.store.extents)) (shape_of_store v.store.extents roomy.geometry)
       (format_is v.store.extents roomy.geometry) s.0 s.1.store.sound left.0).1.2 in
       by v roomy.geometry (crashed (shape v.store.extents) (formats_of (shape v.store.extents)) s.0 left.0) image
-      (sym (left.1 0 (omega (arith, size, some)))) (λ p g. s.0.opening) _ _ but honest found store is there
+      (sym (left.1 0 (omega (arith, size, some, on)))) (λ p g. s.0.opening) _ _ but honest found store is there
     where
       by : (v : View D) (geometry : HasGeometry v.store.extents) (img : ℕ → Page) (image : Image) → img 0 ≡ page image 0
           → (opening : (pointers generations : ℕ → ℕ) → Opening) (n : ℕ) (m : Map)
@@ -104,13 +108,13 @@ module _ {D : Type 0} (disks : PageDisk D) where
           → (honest : Type 0) (found : ℕ × ℕ) (store : Stored) → IsOpened honest image found store → honest
           → shape store.extents ≡ shape v.store.extents
       by v geometry img image zero opening n m but honest found store is there =
-          let format : ℕ = v.store.extents.format in
+          let format : Format = v.store.extents.format in
           let extents : ℕ = length v.store.extents.written in
           let pages : ℕ = v.store.extents.pages in
           let last : but.version ≤ 9223372036854775807 = but.bounds.version_fits in
           let fits : (formats_of (shape v.store.extents)).fits_root but.version 0 [] ≡ true =
           root_fits_from v.store.extents.format but.version 0 [] (record {
-            known = geometry.known;
+            identity = identity_of_format v.store.extents.format geometry.fits_format;
             first_version = but.bounds.some_version;
             last_version = omega (arith, last);
             last_command = omega arith;
@@ -131,7 +135,7 @@ module _ {D : Type 0} (disks : PageDisk D) where
           (subst (λ (bytes : List ℕ). SpellsPageZero bytes is.format (slice_index is.versions 0) (slice_index is.records 0) (length is.written)
           is.pages (length is.versions) 0 (section_rows (extents_at is.format is.pages (length is.versions) is.written) 0)) (sym zero) spelled) in
           ap (λ (u : Stored). shape u.extents) is.made ∙ is.opened.same_shape
-          ∙ ap (λ (k : ℕ). shape_of (length is.written) is.pages (length is.versions) (section_size (length is.written)
+          ∙ ap (λ (k : Format). shape_of (length is.written) is.pages (length is.versions) (section_size (length is.written)
           (length is.versions)) k) same.0
           ∙ ap (λ (k : ℕ). shape_of k is.pages (length is.versions) (section_size k (length is.versions)) format) same.1
           ∙ ap (λ (q : ℕ). shape_of extents q (length is.versions) (section_size extents (length is.versions)) format) same.2

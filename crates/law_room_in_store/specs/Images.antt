@@ -16,8 +16,8 @@ use Rattle.law_room.specs.RootsOfMachine.{IsRoomy}
 abbrev pub HasGeometry : ExtentsState → Type 0
 HasGeometry x = IsGeometry x.format (length x.written) x.pages x.sections
 
--- Whatever a store of this shape finds on the image as it is opened there, the state that it is in then has room, and so has what any crash
--- leaves of it; unless the generation of an extent is the greatest.
+-- Whatever a store of this shape finds on the image as it is opened there, the state that it is in then has room, and
+-- so has what any crash leaves of it; unless the generation of an extent is the greatest.
 abbrev pub HasRoomOn : Shape → Image → Type 0
 HasRoomOn S image = (n : ℕ) (m : Map) (gives : Recovers S (formats_of S) (page image) n m)
     → NoneWorn S (opened_state S (formats_of S) (page image) n m gives)

@@ -25,8 +25,8 @@ pub record IsIdle {D : Type 0} (v : View D) : Type 0 where
   pub none_opened : (extents_of v.store.extents).fresh ≡ None
 
 module _ {D : Type 0} (disks : PageDisk D) where
-  -- What a call of reclaim did that answered this: its clauses `chosen` and `ran`, of a store with the clauses `whole` and `graph` of `found` and with a map
-  -- of which no shard is damaged.
+  -- What a call of reclaim did that answered this: its clauses `chosen` and `ran`, of a store with the clauses `whole`
+  -- and `graph` of `found` and with a map of which no shard is damaged.
   pub record IsReclaim (v : View D) (found : Option Reclaimed) (w : View D) : Type 0 where
     pub whole : IsWhole v.store.extents
     pub graph : IsWholeGraph v.store.graph
@@ -53,7 +53,8 @@ module _ {D : Type 0} (disks : PageDisk D) where
   ReclaimsBy (suc n) v w = (swept : Reclaimed) × (mid : View D) × (next : View D) × IsReclaim v (Some swept) mid × AreSynced mid next
       × ReclaimsBy n next w
 
--- These are the chunks that live in the core, and these the uses of its extents, counted by the headers of those chunks.
+-- These are the chunks that live in the core, and these the uses of its extents, counted by the headers of those
+-- chunks.
 pub record AreUsesOf {D : Type 0} (v : View D) (view : ℕ → List ℕ) (chunks : List Chunk) (uses : List ExtentUse) : Type 0 where
   pub live : AreLiveChunks (index_of v.store.index) chunks
   pub listed : AreExtents (shape v.store.extents).extents (extents_of v.store.extents) uses

@@ -1,4 +1,5 @@
--- Cores that have room, with all that is asked of them so that their calls keep it, and images on which such a core is opened.
+-- Cores that have room, with all that is asked of them so that their calls keep it, and images on which such a core is
+-- opened.
 use Rattle.std.specs.Prelude.{◌≡◌, ℕ, true}
 use Rattle.cs_disk.specs.declared.disk.PageDisk.{Ghosts as PageDisk}
 use Rattle.cs_disk.specs.Disk.{Image}

@@ -18,7 +18,8 @@ use Rattle.cs_core.specs.Checkpoints.{Replaces}
 use Rattle.cs_core.specs.Views.{Applies, IsUntouched, View}
 use Rattle.law_room_in_store.specs.Cores.{IsRoomIn}
 
--- One call of a core: an event with its reply; or one that changes nothing of the store, a checkpoint or one for which there was no memory.
+-- One call of a core: an event with its reply; or one that changes nothing of the store, a checkpoint or one for which
+-- there was no memory.
 pub data Call : Type 0 where
   Asks : (event : Event) (reply : Reply) → Call
   Rests : Call

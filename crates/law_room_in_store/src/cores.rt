@@ -13,31 +13,34 @@ ghost use Rattle.cs_core.specs.Calls.{AreCalls};
 ghost use Rattle.cs_core.specs.Checkpoints.{Replaces};
 ghost use Rattle.cs_core.specs.Started.{new_stored};
 ghost use Rattle.cs_core.specs.Views.{Applies, IsCore, IsUntouched, View};
+ghost use Rattle.law_machine.specs.Format.{Format, Four};
 ghost use Rattle.law_room_in_store.specs.Cores.{HasRoom, NoneWornIn};
 ghost use Rattle.law_room_in_store.specs.Images.{HasGeometry, HasRoomOn};
 
 use cs_disk::PageDisk;
 
-/// A core that was opened where no run is named, on which nothing was done yet, has room. One over a new store in format 3 is so.
+/// A core that was opened where no run is named, on which nothing was done yet, has room. One over a new store in
+/// format 4 is so.
 pub fn a_new_core_has_room<D: PageDisk>()
     ensures empty { (v : View D) → IsCore D.PageDisk v → D.honest v.disk → HasGeometry v.store.extents
         → (shape v.store.extents).apart ≡ true → v.history ≡ [] → v.store.index.runs ≡ [] → HasRoom v }
-    ensures new { (v : View D) (extents pages sections : ℕ) → IsCore D.PageDisk v → D.honest v.disk
-        → IsGeometry 3 extents pages sections → v.history ≡ [] → v.store ≡ new_stored 3 extents pages sections → HasRoom v }
+    ensures new { (v : View D) (store : List ℕ) (device extents pages sections : ℕ) → IsCore D.PageDisk v → D.honest v.disk
+        → IsGeometry (Four store device) extents pages sections → v.history ≡ [] → v.store ≡ new_stored (Four store device) extents pages sections → HasRoom v }
     // And none of its extents is worn out.
-    ensures young { (v : View D) (format extents pages sections : ℕ) → v.store ≡ new_stored format extents pages sections
+    ensures young { (v : View D) (format : Format) (extents pages sections : ℕ) → v.store ≡ new_stored format extents pages sections
         → NoneWornIn v }
 {}
 
-/// Where a core has room, and no extent is worn out, nothing but a put is ever refused for want of a place: no Stage, no move, no end of
-/// a sweep and no deletion.
+/// Where a core has room, and no extent is worn out, nothing but a put is ever refused for want of a place: no Stage,
+/// no move, no end of a sweep and no deletion.
 pub fn nothing_but_a_put_is_refused_full<D: PageDisk>()
     ensures { (v w : View D) (event : Asked) → IsCore D.PageDisk v → D.honest v.disk → HasGeometry v.store.extents
         → (shape v.store.extents).apart ≡ true → HasRoom v → NoneWornIn v → Applies D.PageDisk v event (Refused Full) w
         → (id : ShardId) × (bytes : List ℕ) × (event ≡ Put id bytes) }
 {}
 
-/// A core with room has it after any event, after one for which there was no memory, and after a checkpoint; so after any calls.
+/// A core with room has it after any event, after one for which there was no memory, and after a checkpoint; so after
+/// any calls.
 pub fn room_stays<D: PageDisk>()
     ensures event { (v w : View D) (event : Asked) (reply : Told) → HasRoom v → Applies D.PageDisk v event reply w → HasRoom w }
     ensures memory { (v w : View D) → HasRoom v → IsUntouched D.PageDisk v w → HasRoom w }

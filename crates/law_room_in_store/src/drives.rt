@@ -7,6 +7,7 @@ ghost use Rattle.cs_disk.specs.Reads.{OnlyReads};
 ghost use Rattle.cs_extent.specs.State.{shape};
 ghost use Rattle.cs_frame.specs.declared.identifiers.ShardId.{ShardId};
 ghost use Rattle.cs_frame.specs.Geometries.{IsGeometry};
+ghost use Rattle.law_machine.specs.Format.{Four};
 ghost use Rattle.law_machine.specs.Lists.{◌∈◌};
 ghost use Rattle.law_machine.specs.State.{State};
 ghost use Rattle.cs_core.specs.Calls.{IsCall};
@@ -27,12 +28,13 @@ ghost use Rattle.law_room_in_store.specs.Roomy.{IsRoomyCore, OpensWithRoom};
 
 use cs_disk::PageDisk;
 
-/// Cores that have room: each of which that is known, a new one in format 3, and each that is opened on an image that opens with room.
+/// Cores that have room: each of which that is known, a new one in format 4, and each that is opened on an image that
+/// opens with room.
 pub fn some_cores_are_roomy<D: PageDisk>()
     ensures core { (v : View D) → IsCore D.PageDisk v → D.honest v.disk → HasGeometry v.store.extents
         → (shape v.store.extents).apart ≡ true → HasRoom v → IsRoomyCore D.PageDisk v }
-    ensures new { (v : View D) (extents pages sections : ℕ) → IsCore D.PageDisk v → D.honest v.disk
-        → IsGeometry 3 extents pages sections → v.history ≡ [] → v.store ≡ new_stored 3 extents pages sections
+    ensures new { (v : View D) (store : List ℕ) (device extents pages sections : ℕ) → IsCore D.PageDisk v → D.honest v.disk
+        → IsGeometry (Four store device) extents pages sections → v.history ≡ [] → v.store ≡ new_stored (Four store device) extents pages sections
         → IsRoomyCore D.PageDisk v }
     ensures opened { (v w : View D) (disk : D) → IsRoomyCore D.PageDisk v → OpensWithRoom (shape v.store.extents) w.opened
         → IsCore D.PageDisk w → D.honest w.disk → D.honest disk → IsOpened (D.honest disk) w.opened w.found w.store
@@ -52,8 +54,8 @@ pub fn calls_keep_cores_roomy<D: PageDisk>()
     ensures worn { (v w : View D) → IsRoomyCore D.PageDisk v → Ran D.PageDisk v w → NoneWornIn w → NoneWornIn v }
 {}
 
-/// Whatever a crash leaves of the disk of a core with room opens with room, and has the same shape, whatever is damaged there: after its calls or in the
-/// midst of one.
+/// Whatever a crash leaves of the disk of a core with room opens with room, and has the same shape, whatever is damaged
+/// there: after its calls or in the midst of one.
 pub fn crashes_leave_images_that_open_with_room<D: PageDisk>()
     ensures now { (v : View D) → IsRoomyCore D.PageDisk v → NoneWornIn v
         → Leaves (D.state v.disk) (OpensWithRoom (shape v.store.extents)) }
@@ -64,8 +66,8 @@ pub fn crashes_leave_images_that_open_with_room<D: PageDisk>()
         → OpensWithRoom (shape v.store.extents) (seen (D.state v.disk)) }
 {}
 
-/// In no history of a core that has room is anything but a put told as refused for want of a place, whoever asked for it: as long as no extent is
-/// worn out.
+/// In no history of a core that has room is anything but a put told as refused for want of a place, whoever asked for
+/// it: as long as no extent is worn out.
 pub fn no_history_tells_of_want_of_room<D: PageDisk>()
     ensures { (v : View D) (x : Asked × Told) → IsRoomyCore D.PageDisk v → NoneWornIn v → x ∈ v.history → x.1 ≡ Refused Full
         → (id : ShardId) × (bytes : List ℕ) × (x.0 ≡ Put id bytes) }

@@ -1,6 +1,6 @@
-//! Room in cores: what is proved of room in the machine is so of the formats that are written, of what is read of an image, of cores, and of what drives
-//! them: rounds, syncs, sweeps and the typed store.
-//! Each function here has a law as its contract and an empty body.
+//! Room in cores: what is proved of room in the machine is so of the formats that are written, of what is read of an
+//! image, of cores, and of what drives them: rounds, syncs, sweeps and the typed store. Each function here has a law as
+//! its contract and an empty body.
 //!
 //! In its laws `v` and `w` are cores one after another, `x` is extents, `S` a shape.
 #![tactic(auto)]

@@ -16,10 +16,11 @@ ghost use Rattle.law_room.specs.Sweeps.{AreFewPages};
 
 use cs_disk::PageDisk;
 
-/// A sync and 2n calls of reclaim that sweep leave n extents for puts, with syncs between them or none: of two that follow one another the first or the
-/// second gives an extent, since what it chooses fits behind what the first one copied. Where one finds nothing to sweep before that, n extents are left
-/// already, as long as less than (E - J - 1 - n)(P + 1) / 2 pages of chunks live and E - J - 1 - n is 2 or more. All that, where no shard is damaged and none of the disk's calls failed
-/// meanwhile.
+/// A sync and 2n calls of reclaim that sweep leave n extents for puts, with syncs between them or none: of two that
+/// follow one another the first or the second gives an extent, since what it chooses fits behind what the first one
+/// copied. Where one finds nothing to sweep before that, n extents are left already, as long as less than (E - J - 1 -
+/// n)(P + 1) / 2 pages of chunks live and E - J - 1 - n is 2 or more. All that, where no shard is damaged and none of
+/// the disk's calls failed meanwhile.
 pub fn reclaims_leave_room_for_puts<D: PageDisk>()
     ensures all { (v w : View D) (n : ℕ) → IsRoomyCore D.PageDisk v → NoneWornIn w → IsIdle v → ReclaimsBy D.PageDisk (2 * n) v w
         → NoneFailed D.PageDisk v w → AreLeftForPuts n w }
@@ -32,8 +33,8 @@ pub fn reclaims_leave_room_for_puts<D: PageDisk>()
         → ((e : ℕ) → e < (shape v.store.extents).extents → (extents_of v.store.extents).swept e ≡ false) → IsIdle v }
 {}
 
-/// No more lives than is counted: no more pages of chunks live than the uses of the extents count together, of a whole store whose chunks' headers they
-/// were counted by, unless that is more than 64 bits hold.
+/// No more lives than is counted: no more pages of chunks live than the uses of the extents count together, of a whole
+/// store whose chunks' headers they were counted by, unless that is more than 64 bits hold.
 pub fn no_more_lives_than_is_counted<D: PageDisk>()
     ensures { (v : View D) (view : ℕ → List ℕ) (chunks : List Chunk) (uses : List ExtentUse) → IsRoomyCore D.PageDisk v
         → IsWhole v.store.extents → IsWholeGraph v.store.graph → AreNewest v.store.graph (seen (D.state v.disk)) view

@@ -18,7 +18,8 @@ pub fn a_put_of_a_core_finds_room<D: PageDisk>()
     ensures left { (v w : View D) (id : ShardId) (bytes : List ℕ) (n : ℕ) → IsRoomyCore D.PageDisk v → NoneWornIn v
         → AreLeftForPuts n v → 1 ≤ n → length bytes ≤ n * (shape v.store.extents).chunk_bytes
         → Applies D.PageDisk v (Put id bytes) (Refused Full) w → ⊥ }
-    // So it is where less than half of the device lives, but for a few extents, no sweep goes on, and then n pairs of extents were swept.
+    // So it is where less than half of the device lives, but for a few extents, no sweep goes on, and then n pairs of
+    // extents were swept.
     ensures pairs { (v w x : View D) (id : ShardId) (bytes : List ℕ) (n pages : ℕ) → IsRoomyCore D.PageDisk v → NoneWornIn w → NoneSweptIn v
         → (let S = shape v.store.extents in (S.run_extents + n + 3 ≤ S.extents)
         → LiveAtMost D.state v pages → AreFewPages S S.run_extents n pages

@@ -26,15 +26,16 @@ ghost use Rattle.law_room_in_store.specs.Sweeps.{AreLeftForPuts};
 
 use cs_disk::PageDisk;
 
-/// A typed store that has room has it after whatever call: each is told by a clause `ran`, so `calls_keep_cores_roomy` says it, or by `accepts`. Where the
-/// call only read, see `reads` there.
+/// A typed store that has room has it after whatever call: each is told by a clause `ran`, so `calls_keep_cores_roomy`
+/// says it, or by `accepts`. Where the call only read, see `reads` there.
 pub fn calls_keep_stores_roomy<D: PageDisk>()
     ensures { (v w : View D) (commands : List Command) → IsRoomyCore D.PageDisk v → Accepts D.PageDisk commands v w
         → IsCore D.PageDisk w → IsRoomyCore D.PageDisk w }
 {}
 
-/// No sync, no delete, no sweep, no reclaim and no abandon of the typed store is refused 30 Full, however full the device is; neither by its own events
-/// nor by the sync that makes room for them. Their premises are the clauses `refused` of these calls.
+/// No sync, no delete, no sweep, no reclaim and no abandon of the typed store is refused 30 Full, however full the
+/// device is; neither by its own events nor by the sync that makes room for them. Their premises are the clauses
+/// `refused` of these calls.
 pub fn nothing_but_a_put_of_a_store_is_refused_full<D: PageDisk>()
     ensures sync { (v w : View D) (error : SyncError) → IsRoomyCore D.PageDisk v → NoneWornIn w
         → IsHalted v (sync_refusal error) w ⊎ StopsSync D.PageDisk v (sync_refusal error) w → error ≢ sync.Full }
@@ -56,8 +57,8 @@ pub fn nothing_but_a_put_of_a_store_is_refused_full<D: PageDisk>()
         → (ready : View D) × IsMadeReady D.PageDisk v ready × IsStopped D.PageDisk ready [] (Put id bytes) Full w }
 {}
 
-/// A put of the typed store of at most n chunks is never refused 30 Full where n extents are left for puts: the sync that makes room for its event takes
-/// none of them.
+/// A put of the typed store of at most n chunks is never refused 30 Full where n extents are left for puts: the sync
+/// that makes room for its event takes none of them.
 pub fn a_put_of_a_store_finds_room<D: PageDisk>()
     ensures { (v w : View D) (id : ShardId) (bytes : List ℕ) (n : ℕ) → IsRoomyCore D.PageDisk v → NoneWornIn w → AreLeftForPuts n v
         → 1 ≤ n → length bytes ≤ n * (shape v.store.extents).chunk_bytes → DeclinesCopy D.PageDisk v (Put id bytes) Full w → ⊥ }

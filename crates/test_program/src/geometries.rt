@@ -1,5 +1,7 @@
 //! The geometries that new stores get, and the sizes that ask for them.
+use cs_frame::{FormatNumber, Geometry, StoreId};
 use cs_options::{Wish, geometry_for, size_of};
+use cs_store::{NO_IDENTITY, identified, new_identity};
 use std::process::Abort;
 use std::test::{Fail, *};
 
@@ -32,7 +34,11 @@ fn the_sizes_of_texts(rt: HostRuntime) -> Result<(), Fail> {
     Ok(())
 }
 
-/// What is wished: a size, that of the largest shard, and how many shards. And how many extents of how many pages a store gets for that.
+/// The identity of the stores.
+const STORE: StoreId = StoreId([7; 16]);
+
+/// What is wished: a size, that of the largest shard, and how many shards. And how many extents of how many pages a
+/// store gets for that.
 const WISHES: &[((u64, u64, u64), (u16, u16))] = &[
     ((67_108_864, 1_048_576, 1), (63, 256)),
     ((10_737_418_240, 1_048_576, 1), (2_559, 1_024)),
@@ -51,8 +57,9 @@ fn chosen(rt: &impl Abort, wish: (u64, u64, u64)) -> Result<(u16, u16), Fail> {
         shard_size,
         shards,
     };
-    let geometry = geometry_for(wish).expect(rt, "a geometry");
-    assert_eq!(rt; geometry.format().number(), 3);
+    let geometry = geometry_for(wish, STORE).expect(rt, "a geometry");
+    assert_eq!(rt; geometry.format().number(), FormatNumber::Four);
+    assert_eq!(rt; geometry.format().store(), Some(STORE));
     Ok((geometry.extents(), geometry.pages()))
 }
 
@@ -71,14 +78,28 @@ fn the_least_size_of_a_wish(rt: HostRuntime) -> Result<(), Fail> {
         shard_size: 1_048_576,
         shards: 1,
     };
-    let small = geometry_for(wish).expect_err(&rt, "too small");
+    let small = geometry_for(wish, STORE).expect_err(&rt, "too small");
     assert_eq!(&rt; small.least, Some(2_719_744));
     let wish = Wish {
         size: 1_099_511_627_776,
         shard_size: 4_294_967_296,
         shards: 1,
     };
-    let small = geometry_for(wish).expect_err(&rt, "too large a shard");
+    let small = geometry_for(wish, STORE).expect_err(&rt, "too large a shard");
     assert_eq!(&rt; small.least, None);
+    Ok(())
+}
+
+/// A store that is made in a file gets sixteen random bytes. A store of format 2 has no identity.
+#[test]
+fn the_identity_of_a_new_store(rt: HostRuntime) -> Result<(), Fail> {
+    let id = new_identity(&rt).expect(&rt, "random bytes");
+    assert!(&rt; id != NO_IDENTITY);
+    let geometry = identified(Geometry::for_file(NO_IDENTITY, 6, 2, Some(2))?, id);
+    assert_eq!(&rt; geometry.format().store(), Some(id));
+    assert_eq!(&rt; geometry.sections(), 2);
+    assert_eq!(&rt; geometry.device_pages(), 18);
+    let older = identified(Geometry::new(6, 2)?, id);
+    assert_eq!(&rt; older.format().store(), None);
     Ok(())
 }

@@ -1,5 +1,5 @@
-//! What no contract says: that calls succeed with ample memory, and what they answer then. What a test does on a node is a script, which
-//! `acts` does; `tasks` makes the node and closes it.
+//! What no contract says: that calls succeed with ample memory, and what they answer then. What a test does on a node
+//! is a script, which `acts` does; `tasks` makes the node and closes it.
 ghost use Rattle.std.specs.Prelude.{◌≡◌, []};
 
 mod acts;
@@ -27,7 +27,7 @@ use self::sweeps::are_both_swept;
 use self::tasks::{End, Ended, Task, run};
 use cs_core::{Core, Limits};
 use cs_disk::{FailAt, MemoryDisk};
-use cs_frame::{Format, Geometry};
+use cs_frame::{Format, FormatNumber, Geometry, StoreId};
 use cs_node::{Step, Unclosed};
 use cs_refusal::Refusal;
 use std::alloc::Global;
@@ -35,19 +35,23 @@ use std::process::Abort;
 use std::sync::Wait;
 use std::thread::Threads;
 
-/// A core that did nothing yet, over a new store of this format of so many extents, each of so many pages, whose history may have so many
-/// events. Of the calls of its disk from the first one on that formats the store the one with this number fails; with 0 none does.
+/// A core that did nothing yet, over a new store of this format of so many extents, each of so many pages. Its history
+/// may have so many events. Of the calls of its disk the one with this number fails, counted from the first one that
+/// formats the store; with 0 none does.
 fn formatted(
     rt: &impl Abort,
     alloc: Global,
-    lies: (u64, u64, u64),
+    lies: (FormatNumber, u64, u64),
     history: usize,
     at: u64,
 ) -> Core<FailAt<MemoryDisk>>
     ensures { (result.history ≡ []) × (result.store.accepted ≡ 0) }
 {
-    let format = Format::numbered(lies.0).expect(rt, "a format");
-    let geometry = Geometry::of_format(format, lies.1, lies.2, None).expect(rt, "a geometry");
+    let geometry = match lies.0 {
+        FormatNumber::Two => Geometry::of_format(Format::two(), lies.1, lies.2, None),
+        FormatNumber::Four => Geometry::for_file(StoreId([0; 16]), lies.1, lies.2, None),
+    };
+    let geometry = geometry.expect(rt, "a geometry");
     let disk = MemoryDisk::new(alloc, geometry.device_pages()).expect(rt, "a disk");
     match Core::format(alloc, FailAt::new(disk, at), geometry, Limits { history }) {
         Ok(core) => core,
@@ -62,7 +66,7 @@ enum Store {
     Small(usize),
     /// The same with room for all events, of whose disk the call with this number fails.
     Failing(u64),
-    /// The same of format 3.
+    /// The same of format 4, in which chunks and runs lie apart.
     Apart(u64),
     /// The same, opened again once it was formatted.
     Again(u64),
@@ -77,12 +81,16 @@ fn core_of(rt: &impl Abort, alloc: Global, store: Store) -> Core<FailAt<MemoryDi
     ensures { (result.history ≡ []) × (result.store.accepted ≡ 0) }
 {
     match store {
-        Store::Small(history) => formatted(rt, alloc, (2, 6, 2), history, 0),
-        Store::Failing(at) => formatted(rt, alloc, (2, 6, 2), 64, at),
-        Store::Apart(at) => formatted(rt, alloc, (3, 6, 2), 64, at),
-        Store::Again(at) => opened_again(rt, alloc, formatted(rt, alloc, (2, 6, 2), 64, at)),
-        Store::Wide => formatted(rt, alloc, (2, 64, 4), 2000, 0),
-        Store::WideButShort => formatted(rt, alloc, (2, 64, 4), 64, 0),
+        Store::Small(history) => formatted(rt, alloc, (FormatNumber::Two, 6, 2), history, 0),
+        Store::Failing(at) => formatted(rt, alloc, (FormatNumber::Two, 6, 2), 64, at),
+        Store::Apart(at) => formatted(rt, alloc, (FormatNumber::Four, 6, 2), 64, at),
+        Store::Again(at) => opened_again(
+            rt,
+            alloc,
+            formatted(rt, alloc, (FormatNumber::Two, 6, 2), 64, at),
+        ),
+        Store::Wide => formatted(rt, alloc, (FormatNumber::Two, 64, 4), 2000, 0),
+        Store::WideButShort => formatted(rt, alloc, (FormatNumber::Two, 64, 4), 64, 0),
     }
 }
 
@@ -107,8 +115,8 @@ enum Wanted {
     Unclosed,
 }
 
-/// Does this on a node of a core over the store, and asserts what is wanted then. Tests call nothing else, since each type that a test names
-/// is proved for it.
+/// Does this on a node of a core over the store, and asserts what is wanted then. Tests call nothing else, since each
+/// type that a test names is proved for it.
 fn tries<R: Threads + Wait + Abort + Sync>(
     rt: &R,
     alloc: Global,

@@ -1,5 +1,5 @@
-//! What no contract says: that calls succeed where memory is ample, that numbers which follow one another take one stretch, and worked
-//! examples of accounts.
+//! What no contract says: that calls succeed where memory is ample, that numbers which follow one another take one
+//! stretch, and worked examples of accounts.
 use cs_numbers::{Account, Numbers, Stretch, account};
 use std::alloc::{AllocError, Global};
 use std::test::Fail;

@@ -1,6 +1,7 @@
 //! The words of the command line, as they are read.
 use clap::ArgMatches;
 use clap::error::ErrorKind;
+use cs_frame::StoreId;
 use cs_options::{command, geometry_of, race_of};
 use cs_refusal::Refusal;
 use std::alloc::Global;
@@ -25,7 +26,7 @@ fn device_pages(
 ) -> Result<Result<u64, Refusal>, Fail> {
     let matches = read(rt.alloc(), words)?.expect(rt, "read");
     let (_, options) = matches.subcommand().expect(rt, "a command");
-    match geometry_of(options) {
+    match geometry_of(options, StoreId([0; 16])) {
         Ok(geometry) => Ok(Ok(geometry.device_pages())),
         Err(refusal) => Ok(Err(refusal)),
     }
@@ -50,12 +51,12 @@ const GEOMETRIES: &[(&[&str], u64)] = &[
         524_297,
     ),
     (&["cs_cli", "run", "--format", "2"], 14),
-    (&["cs_cli", "run", "--format=3"], 16),
+    (&["cs_cli", "run", "--format=4"], 16),
     (
         &[
             "cs_cli",
             "run",
-            "--format=3",
+            "--format=4",
             "--extents=7680",
             "--pages=65535",
         ],
@@ -78,9 +79,9 @@ const NO_GEOMETRIES: &[&[&str]] = &[
     &["cs_cli", "run", "--extents=64", "--sections=259"],
     &["cs_cli", "run", "--extents=513", "--sections=1"],
     &["cs_cli", "run", "--format=1"],
-    &["cs_cli", "run", "--format=4"],
+    &["cs_cli", "run", "--format=3"],
     &["cs_cli", "run", "--format=259"],
-    &["cs_cli", "run", "--format=3", "--extents=4"],
+    &["cs_cli", "run", "--format=4", "--extents=4"],
 ];
 
 #[test]

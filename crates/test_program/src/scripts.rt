@@ -53,8 +53,8 @@ struct Ended {
     left: Option<Counts>,
 }
 
-/// How many commands the store found when it was opened, how many it accepted since and how many of these are persistent, and how many
-/// writes are volatile.
+/// How many commands the store found when it was opened, how many it accepted since and how many of these are
+/// persistent, and how many writes are volatile.
 #[derive(Clone, Copy)]
 struct Counts {
     found: u64,
@@ -63,7 +63,8 @@ struct Counts {
     volatile: usize,
 }
 
-/// Runs a script on a core, which is let go here alone: whatever a function has is proved to be let go at each of its exits.
+/// Runs a script on a core, which is let go here alone: whatever a function has is proved to be let go at each of its
+/// exits.
 fn run_to_end<D: CrashDisk + Drop, R: Read + Drop, W: Write>(
     alloc: Global,
     core: Core<D>,
@@ -157,7 +158,8 @@ impl Ended {
     }
 }
 
-/// The text of a script whose lines are parted by strokes, and in which @ stands for the first 31 digits of an identifier.
+/// The text of a script whose lines are parted by strokes, and in which @ stands for the first 31 digits of an
+/// identifier.
 fn script_text(alloc: Global, script: &str) -> Result<String, Fail> {
     let mut text = script
         .replace(alloc, "@", "0000000000000000000000000000000")?
@@ -177,7 +179,8 @@ fn printed(alloc: Global, lines: &str) -> Result<String, Fail> {
     Ok(text)
 }
 
-/// Asserts the output of a script's text, its exit status and how many commands are acknowledged, with 6 extents of 2 pages.
+/// Asserts the output of a script's text, its exit status and how many commands are acknowledged, with 6 extents of 2
+/// pages.
 fn prints_text(
     rt: &(impl Abort + AllocGlobal),
     text: &str,

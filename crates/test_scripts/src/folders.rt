@@ -1,4 +1,5 @@
-//! The folder that rows stand in: `NAME.script`, `NAME.stdout`, and where they aren't as mostly `NAME.args` and `NAME.status`.
+//! The folder that rows stand in: `NAME.script`, `NAME.stdout`, and where they aren't as mostly `NAME.args` and
+//! `NAME.status`.
 use std::alloc::{AllocError, Global};
 use std::fs::DirEntry;
 use std::io::ErrorKind;

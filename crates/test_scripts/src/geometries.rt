@@ -1,9 +1,13 @@
 //! The geometry of a row's store.
-use cs_frame::{Format, Geometry};
+use cs_frame::{Format, FormatNumber, Geometry, StoreId};
 use cs_refusal::Refusal;
 
-/// The geometry that words ask for, of those that `cs_cli run` understands: `--format=N`, `--extents=N`, `--pages=N` and `--sections=N`, 2,
-/// 6, 2 and as few as the extents need where they aren't given. None where a word is another. Refused 7 BadGeometry where there is no such geometry.
+/// The identity of a row's store.
+const STORE: StoreId = StoreId([0; 16]);
+
+/// The geometry that words ask for, of those that `cs_cli run` understands: `--format=N`, `--extents=N`, `--pages=N`
+/// and `--sections=N`. Default: 2, 6, 2, and as few sections as the extents need. It returns None if a word is another.
+/// It is refused 7 BadGeometry if there is no such geometry.
 pub fn geometry_of(words: &str) -> Option<Result<Geometry, Refusal>> {
     let mut format = 2;
     let mut extents = 6;
@@ -20,10 +24,12 @@ pub fn geometry_of(words: &str) -> Option<Result<Geometry, Refusal>> {
             sections = Some(word.strip_prefix("--sections=")?.parse().ok()?);
         }
     }
-    let Some(format) = Format::numbered(format) else {
-        return Some(Err(Refusal::BadGeometry));
+    let geometry = match FormatNumber::of(format) {
+        Some(FormatNumber::Two) => Geometry::of_format(Format::two(), extents, pages, sections),
+        Some(FormatNumber::Four) => Geometry::for_file(STORE, extents, pages, sections),
+        None => return Some(Err(Refusal::BadGeometry)),
     };
-    match Geometry::of_format(format, extents, pages, sections) {
+    match geometry {
         Ok(geometry) => Some(Ok(geometry)),
         Err(_) => Some(Err(Refusal::BadGeometry)),
     }

@@ -1,5 +1,5 @@
-//! Runs each row of a folder, a script beside what it has to print, over a new store in memory. It prints a line a row, and ends with status 1
-//! where a row isn't as wanted.
+//! Runs each row of a folder, a script beside what it has to print, over a new store in memory. It prints a line a row,
+//! and ends with status 1 where a row isn't as wanted.
 #![tactic(auto)]
 
 mod folders;

@@ -16,8 +16,8 @@ pub struct Ended {
     pub left: Option<Counts>,
 }
 
-/// How many commands the store found when it was opened, how many it accepted since, how many of these are persistent, and how many writes
-/// are volatile.
+/// How many commands the store found when it was opened, how many it accepted since, how many of these are persistent,
+/// and how many writes are volatile.
 #[derive(Clone, Copy)]
 pub struct Counts {
     pub found: u64,

@@ -1,5 +1,5 @@
 -- The sections of a new store's superblock, one after another.
-use Rattle.std.proofs.Common.{◌≡◌, ◌∙◌, ◌⊎◌, inl, inr, ⊎_elim, ℕ, zero, suc, ◌+◌, ◌^◌, ◌<◌, ◌≤◌, Bool, true, false, if◌then◌else◌, List, [], ◌∷◌, ◌++◌, None, Some, length, length-append, replicate, refl, sym, ap, subst, arith}
+use Rattle.std.proofs.Common.{◌≡◌, ◌∙◌, ◌⊎◌, inl, inr, ⊎_elim, ℕ, zero, suc, ◌+◌, ◌^◌, ◌<◌, ◌≤◌, List, [], ◌∷◌, ◌++◌, None, Some, length, length-append, replicate, refl, sym, ap, subst, arith}
 use Rattle.std.proofs.lemmas.List.{length-replicate}
 use Rattle.std.proofs.lemmas.Option.{same_Some}
 use Rattle.std.specs.List.{AllByRecursion}
@@ -8,10 +8,10 @@ use Rattle.cs_extent.specs.Sections.{AreSections, IsSectionAt}
 use Rattle.cs_frame.specs.declared.superblocks.Superblock.{Superblock}
 use Rattle.cs_frame.specs.Geometries.{IsGeometry, section_length}
 use Rattle.cs_frame.specs.Superblocks.{FitsRecord}
-use Rattle.law_machine.specs.Geometry.{records_in}
+use Rattle.law_machine.specs.Format.{Format, Four, Two}
 
 -- these are the first of them, so many
-pub record AreFirst (format extents pages sections count : ℕ) (items : List Superblock) : Type 0 where
+pub record AreFirst (format : Format) (extents pages sections count : ℕ) (items : List Superblock) : Type 0 where
   pub counted : length items ≡ count
   pub each : (k : ℕ) (it : Superblock) → slice_get items k ≡ Some it → IsSectionAt format extents pages sections k it
 
@@ -19,16 +19,13 @@ pub record AreFirst (format extents pages sections count : ℕ) (items : List Su
 pub pair_is : (p : ℕ × ℕ) → (p.0 ≡ 0) × (p.1 ≡ 0) → p ≡ (0, 0)
 pair_is (a, b) h = ap (λ (n : ℕ). (n, b)) h.0 ∙ ap (λ (n : ℕ). (0, n)) h.1
 
-pub none_first : (format extents pages sections : ℕ) → AreFirst format extents pages sections 0 []
+pub none_first : (format : Format) (extents pages sections : ℕ) → AreFirst format extents pages sections 0 []
 none_first format extents pages sections = record { counted = refl; each = λ k it at. absurd (let clash : None ≡ Some it = at in cc clash) }
 
 -- that no root was persistent can be spelled
-none_fits : (format : ℕ) → FitsRecord format 0
-none_fits format = go (records_in format)
-  where
-    go : (b : Bool) → 0 < 256 ^ (if b then 8 else 0)
-    go true = (let small : 0 < 2 ^ 64 = omega arith in small)
-    go false = omega arith
+none_fits : (format : Format) → FitsRecord format 0
+none_fits Two = omega arith
+none_fits (Four store device) = (let small : 0 < 2 ^ 64 = omega arith in small)
 
 -- the last of a list, or one before it
 last_or : (xs : List Superblock) (y : Superblock) (k : ℕ) (x : Superblock) → slice_get (xs ++ y ∷ []) k ≡ Some x → (slice_get xs k ≡ Some x) ⊎ ((k ≡ length xs) × (y ≡ x))
@@ -40,7 +37,7 @@ last_or (z ∷ xs) y (suc k) x at = ⊎_elim
     (λ (r : (k ≡ length xs) × (y ≡ x)). inr (ap suc r.0, r.1))
     (last_or xs y k x at)
 
-module _ (format extents pages sections : ℕ) (geometry : IsGeometry format extents pages sections) where
+module _ (format : Format) (extents pages sections : ℕ) (geometry : IsGeometry format extents pages sections) where
   -- one of them is the next
   pub is_section : (k : ℕ) → k < sections → (it : Superblock) → it.format ≡ format → it.version ≡ 1 → it.recorded ≡ 0 → it.extent_count ≡ extents → it.pages ≡ pages → it.sections ≡ sections → it.section ≡ k
       → it.extents.items ≡ replicate (section_length extents sections k) (0, 0) → IsSectionAt format extents pages sections k it
@@ -49,7 +46,7 @@ module _ (format extents pages sections : ℕ) (geometry : IsGeometry format ext
       first_version = omega (arith, version);
       last_version = omega (arith, version);
       recorded_fits = subst (λ (n : ℕ). FitsRecord it.format n) (sym unrecorded) (none_fits it.format);
-      geometry = subst (λ (n : ℕ). IsGeometry n it.extent_count it.pages it.sections) (sym written)
+      geometry = subst (λ (n : Format). IsGeometry n it.extent_count it.pages it.sections) (sym written)
           (subst (λ (n : ℕ). IsGeometry format n it.pages it.sections) (sym counted)
           (subst (λ (n : ℕ). IsGeometry format extents n it.sections) (sym same) (subst (λ (n : ℕ). IsGeometry format extents pages n) (sym divided) geometry)));
       one_of_them = omega (arith, place, divided, lt);
@@ -85,7 +82,7 @@ module _ (format extents pages sections : ℕ) (geometry : IsGeometry format ext
   all_first (first ∷ items) all = let here = all.each 0 first refl in record {
     some = omega arith;
     each = λ k it at.
-        subst (λ (n : ℕ). IsSectionAt n first.extent_count first.pages (length (first ∷ items)) k it) (sym here.of_format)
+        subst (λ (n : Format). IsSectionAt n first.extent_count first.pages (length (first ∷ items)) k it) (sym here.of_format)
         (subst (λ (n : ℕ). IsSectionAt format n first.pages (length (first ∷ items)) k it) (sym here.of_extents)
         (subst (λ (n : ℕ). IsSectionAt format extents n (length (first ∷ items)) k it) (sym here.of_pages)
         (subst (λ (n : ℕ). IsSectionAt format extents pages n k it) (sym all.counted) (all.each k it at))));

@@ -100,15 +100,16 @@ fn a_second_sweep(rt: HostRuntime) {
     plays(&rt, 1000, &scripts);
 }
 
-/// Does what a script says on a store with a persistent put that is opened on a disk of which the call after that fails.
+/// Does what a script says on a store with a persistent put that is opened on a disk of which the call after that
+/// fails.
 fn plays_reading(rt: &(impl Abort + AllocGlobal), script: &str) {
     let mut core = opened_failing(rt, disk_of_a_put(rt), 5, 1000);
     play(rt, &mut core, script);
     let_go(core);
 }
 
-/// A get whose read fails changes nothing, and the next one is answered. The four calls of opening are the flush and the reads of
-/// superblock, root and run.
+/// A get whose read fails changes nothing, and the next one is answered. The four calls of opening are the flush and
+/// the reads of superblock, root and run.
 #[test]
 fn a_read_that_fails(rt: HostRuntime) {
     plays_reading(&rt, READ_FAILS);

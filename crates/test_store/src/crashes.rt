@@ -1,5 +1,5 @@
-//! Crashes of a core that writes back: in each round after its begin and after each of its issues, with each mask of the writes that are
-//! out.
+//! Crashes of a core that writes back: in each round after its begin and after each of its issues, with each mask of
+//! the writes that are out.
 use crate::damage::disk_of;
 use crate::disks::crashed;
 use crate::machines::{answer, let_go, members, opened, play, writes_round};
@@ -7,8 +7,8 @@ use cs_core::{Core, Event};
 use cs_disk::{CrashDisk, MemoryDisk, PageDisk};
 use std::process::Abort;
 
-/// A round of so many members, and what a crash leaves in it: of a part of them, and of all. That is what page 0 begins with, a line, and a
-/// script for the core that is opened then.
+/// A round of so many members, and what a crash leaves in it: of a part of them, and of all. That is what page 0 begins
+/// with, a line, and a script for the core that is opened then.
 #[derive(Clone, Copy)]
 pub struct Round<'a> {
     pub size: usize,
@@ -16,7 +16,8 @@ pub struct Round<'a> {
     pub all: &'a str,
 }
 
-/// Does what scripts say, writes so many rounds, and then so many of the members of the next one, which has to have this size.
+/// Does what scripts say, writes so many rounds, and then so many of the members of the next one, which has to have
+/// this size.
 fn stops<D: PageDisk>(
     rt: &(impl Abort + AllocGlobal),
     core: &mut Core<D>,
@@ -62,7 +63,8 @@ fn leaves(rt: &(impl Abort + AllocGlobal), disk: MemoryDisk, number: usize, want
     let_go(core);
 }
 
-/// Crashes each time a core that is opened on this image and does what scripts say, in this round behind so many others.
+/// Crashes each time a core that is opened on this image and does what scripts say, in this round behind so many
+/// others.
 fn crashes_in(
     rt: &(impl Abort + AllocGlobal),
     image: &[u8],

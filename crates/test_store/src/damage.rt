@@ -63,7 +63,8 @@ pub fn is_refused(
     same
 }
 
-/// Asserts why a disk isn't opened, or why its shard isn't got, where the lowest bit of one byte of this page is turned, byte by byte.
+/// Asserts why a disk isn't opened, or why its shard isn't got, where the lowest bit of one byte of this page is
+/// turned, byte by byte.
 pub fn damaged(
     rt: &(impl Abort + AllocGlobal),
     mut disk: MemoryDisk,

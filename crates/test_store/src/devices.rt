@@ -1,9 +1,10 @@
 //! Devices in memory, of 5 extents of 3 pages, on which frames lie.
 
 use cs_disk::{MemoryDisk, PageDisk};
-use cs_frame::{ChunkHead, Format, Geometry, encode_chunk};
+use cs_frame::{ChunkHead, Geometry, StoreId, encode_chunk};
 use cs_salvage::{
-    Part, Put, WholeShard, ambiguous, find_parts, missing_puts, newest_whole, read_whole,
+    Part, Put, Sought, WholeShard, Whose, ambiguous, find_parts, missing_puts, newest_whole,
+    read_whole,
 };
 use std::process::Abort;
 
@@ -14,9 +15,13 @@ pub struct Device {
     pub geometry: Geometry,
 }
 
+/// The geometry of a store of format 4 with this identity.
+pub fn geometry_of(rt: &impl Abort, store: StoreId) -> Geometry {
+    Geometry::for_file(store, 5, 3, None).expect(rt, "a geometry")
+}
+
 /// A device of zeros.
-pub fn new_device(rt: &(impl Abort + AllocGlobal), format: Format) -> Device {
-    let geometry = Geometry::of_format(format, 5, 3, None).expect(rt, "a geometry");
+pub fn new_device(rt: &(impl Abort + AllocGlobal), geometry: Geometry) -> Device {
     let disk = MemoryDisk::new(rt.alloc(), geometry.device_pages()).expect(rt, "memory");
     Device { disk, geometry }
 }
@@ -68,12 +73,21 @@ pub fn damage(rt: &impl Abort, device: &mut Device, place: (u16, u16), byte: usi
     write(rt, device, number, &page);
 }
 
-/// All parts on the device.
+/// All parts on the device of its store.
 pub fn parts(rt: &(impl Abort + AllocGlobal), device: &mut Device) -> Vec<Part> {
+    parts_of(rt, device, Whose::OfStore)
+}
+
+/// All parts on the device of its store, or of any.
+pub fn parts_of(rt: &(impl Abort + AllocGlobal), device: &mut Device, whose: Whose) -> Vec<Part> {
     let pages = device.disk.pages();
     let needed = 2 + u64::from(device.geometry.extents()) * u64::from(device.geometry.pages());
     assert!(rt; needed <= pages);
-    find_parts(rt.alloc(), &mut device.disk, device.geometry).expect(rt, "memory")
+    let sought = Sought {
+        geometry: device.geometry,
+        whose,
+    };
+    find_parts(rt.alloc(), &mut device.disk, &sought).expect(rt, "memory")
 }
 
 /// The bytes of a shard, where its parts are as they were found.
@@ -85,7 +99,11 @@ pub fn bytes(
     let pages = device.disk.pages();
     let needed = 2 + u64::from(device.geometry.extents()) * u64::from(device.geometry.pages());
     assert!(rt; needed <= pages);
-    read_whole(rt.alloc(), &mut device.disk, device.geometry, shard).expect(rt, "memory")
+    let sought = Sought {
+        geometry: device.geometry,
+        whose: Whose::OfStore,
+    };
+    read_whole(rt.alloc(), &mut device.disk, &sought, shard).expect(rt, "memory")
 }
 
 /// A put in words.

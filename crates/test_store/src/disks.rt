@@ -82,7 +82,8 @@ fn are_at(rt: &impl Abort, bytes: &[u8], count: usize, wanted: &[(usize, u8)]) {
     }
 }
 
-/// Asserts of which bytes the first and the last page are after a crash of a disk of three pages, of which these are written.
+/// Asserts of which bytes the first and the last page are after a crash of a disk of three pages, of which these are
+/// written.
 fn crash_and_look(rt: &(impl Abort + AllocGlobal), mask: &[bool], first: u8, last: u8) {
     let disk = plays(rt, memory(rt, 3), TWO_WRITES, mask, "");
     let wanted = [(0, first), (4095, first), (4096, 0), (8192, last)];
@@ -106,7 +107,8 @@ fn of_image(rt: &(impl Abort + AllocGlobal), bytes: usize) -> Result<MemoryDisk,
     MemoryDisk::of_image(rt.alloc(), nines)
 }
 
-/// Does what a script says on the disk that an image of nines is, of two pages, and asserts which bytes those begin with then.
+/// Does what a script says on the disk that an image of nines is, of two pages, and asserts which bytes those begin
+/// with then.
 fn plays_image(rt: &(impl Abort + AllocGlobal), script: &str, wanted: &[(usize, u8)]) {
     let mut disk = of_image(rt, 8192).expect(rt, "a disk");
     play(rt, &mut disk, script);

@@ -160,8 +160,8 @@ fn optimal_plans(rt: HostRuntime) {
     all_give(&rt, OPTIMAL);
 }
 
-/// Edits that leave the plan optimal. A later version stands for an earlier one, an element may stand in two rounds, what is
-/// not listed is passed over, and of a repeated key the last value counts.
+/// Edits that leave the plan optimal. A later version stands for an earlier one, an element may stand in two rounds,
+/// what is not listed is passed over, and of a repeated key the last value counts.
 const OPTIMAL: &str = "chain:[w1,s3,r2] chain:[w1,s3,r2] > Ok(Verdict { flushes: 3 })
 chain:[w1,s3,r2] chain:[w1,s2,r2] > Ok(Verdict { flushes: 3 })
 [[w1,w2],[s3],[r2]] [[w1,w2],[s3],[s3,r2]] > Ok(Verdict { flushes: 3 })

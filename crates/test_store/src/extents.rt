@@ -2,7 +2,7 @@
 ghost use Rattle.std.specs.Prelude.{◌^◌, ◌≤◌, ◌<◌, All, length};
 
 use crate::stores::{
-    Store, assert_ready, geometry, new_extents, plays, plays_divided, plays_third, store_of,
+    Store, assert_ready, geometry, new_extents, plays, plays_divided, plays_fourth, store_of,
 };
 use crate::texts::{byte, prints, text_of, words_of};
 use cs_deps::{Dependency, Element, Graph};
@@ -10,7 +10,7 @@ use cs_extent::{
     Extents, Purpose, ROOT, joining_adds_nothing_to_one_section, needs_never_fall, one_place,
     pages_are_given_once, root_needs, section_family,
 };
-use cs_frame::{Format, Locator, decode_section};
+use cs_frame::{FormatNumber, Locator, decode_section};
 use cs_refusal::Refusal;
 use std::alloc::Global;
 use std::process::Abort;
@@ -29,7 +29,8 @@ fn append(
     store.extents.append(&mut store.graph, frame, purpose)
 }
 
-/// Appends a frame, and tells its extent, its page and its generation, and the page of the device that its last plain write goes to.
+/// Appends a frame, and tells its extent, its page and its generation, and the page of the device that its last plain
+/// write goes to.
 fn place_of(
     rt: &impl Abort,
     store: &mut Store,
@@ -52,7 +53,8 @@ fn last_page(store: &Store) -> Option<u64> {
         .page_of(Element::Plain(store.graph.last_plain()))
 }
 
-/// Stages the next version of the root, which needs what was staged of all sections, and all plain writes where those don't come first.
+/// Stages the next version of the root, which needs what was staged of all sections, and all plain writes where those
+/// don't come first.
 fn stage_root(
     rt: &impl Abort,
     alloc: Global,
@@ -119,7 +121,7 @@ fn state(rt: &impl Abort, store: &Store, extent: usize) -> ((usize, usize), (usi
 fn spelled(rt: &(impl Abort + AllocGlobal), graph: &Graph, section: u8, version: u16) -> String {
     let element = Element::Version(section_family(section), u64::from(version));
     let page = graph.bytes_of(element).expect(rt, "a page");
-    let spelled = decode_section(rt.alloc(), page, Format::two()).expect(rt, "a section");
+    let spelled = decode_section(rt.alloc(), page, FormatNumber::Two).expect(rt, "a section");
     text_of(rt, &(spelled.version, spelled.section, &spelled.extents))
 }
 
@@ -215,8 +217,8 @@ byte 1 > Some(7)
 extent spelled 0 2 > (2, 0, [(2, 0), (0, 0), (0, 0), (0, 0), (0, 0), (0, 0)])
 extent dimensions > (6, 2, 1)";
 
-/// Each of three sections has two extents: its versions record these and need what is written there, and are on a page of their own. A
-/// root needs the versions, and all plain writes too where those don't come first.
+/// Each of three sections has two extents: its versions record these and need what is written there, and are on a page
+/// of their own. A root needs the versions, and all plain writes too where those don't come first.
 #[test]
 fn frames_of_several_sections(rt: HostRuntime) {
     plays_divided(&rt, DIVIDED);
@@ -257,13 +259,14 @@ names 1.3 1 > true
 names 1.3 9 > true
 names 1.3 10 > false";
 
-/// Where places lie apart the superblock doesn't need the pages that it shows, and each root needs all that were staged before it.
+/// If chunks and runs lie apart, the superblock doesn't need the pages that it shows. Each root needs all pages that
+/// were staged before it.
 #[test]
-fn in_format_3_the_root_needs_the_pages(rt: HostRuntime) {
-    plays_third(&rt, 1, THIRD);
+fn the_root_needs_the_pages(rt: HostRuntime) {
+    plays_fourth(&rt, 1, APART);
 }
 
-const THIRD: &str = "extent two > true
+const APART: &str = "extent two > true
 names 0.2 1 > false
 names 0.2 2 > false
 extent own > Ok(2)
@@ -279,11 +282,11 @@ names 1.3 3 > true";
 
 /// So it is of several sections: a root needs the pages of all of them.
 #[test]
-fn in_format_3_the_root_needs_all_sections_pages(rt: HostRuntime) {
-    plays_third(&rt, 3, THIRD_DIVIDED);
+fn the_root_needs_all_sections_pages(rt: HostRuntime) {
+    plays_fourth(&rt, 3, APART_DIVIDED);
 }
 
-const THIRD_DIVIDED: &str = "extent put > Ok(((0, 0, 0), Some(2)))
+const APART_DIVIDED: &str = "extent put > Ok(((0, 0, 0), Some(2)))
 extent put > Ok(((0, 1, 0), Some(3)))
 extent put > Ok(((1, 0, 0), Some(4)))
 extent put > Ok(((1, 1, 0), Some(5)))
@@ -297,7 +300,8 @@ names 1.2 2.2 > true
 names 1.2 1 > true
 names 1.2 5 > true";
 
-/// The section of an extent that was emptied says so with its next version, and no version of another section needs the root that emptied it.
+/// The section of an extent that was emptied says so with its next version, and no version of another section needs the
+/// root that emptied it.
 #[test]
 fn a_reset_of_one_section(rt: HostRuntime) {
     plays_divided(&rt, RESET_OF_ONE);
@@ -323,8 +327,8 @@ extent spelled 0 6 > (6, 0, [(1, 1), (2, 0)])";
 /// Whether frames may be appended, or why not.
 type Answer = Result<(), Refusal>;
 
-/// Whether frames may be appended: two that fill the extents of the first of three sections, one more, which goes to the second one, and five,
-/// which need one extent more than puts may take.
+/// Whether frames may be appended: two that fill the extents of the first of three sections, one more, which goes to
+/// the second one, and five, which need one extent more than puts may take.
 fn may_append(rt: &impl Abort, store: &Store) -> (Answer, Answer, Answer) {
     assert_ready(rt, store);
     let pages = store.extents.extent_pages();

@@ -1,5 +1,5 @@
-//! Files as disks, by scripts. What is done with files stands in one function over any runtime, since a call that knows the runtime takes long
-//! to prove.
+//! Files as disks, by scripts. What is done with files stands in one function over any runtime, since a call that knows
+//! the runtime takes long to prove.
 use crate::disks::{crashed, said};
 use crate::texts::{is_said, sides, text_of};
 use cs_disk::{Access, FileDisk};
@@ -109,7 +109,8 @@ fn plays_files<R: Abort + AllocGlobal + Files<File = File>>(rt: &R, script: &str
     }
 }
 
-/// A file that is there is emptied, and one that is opened has what was written to it. What isn't of whole pages isn't opened.
+/// A file that is there is emptied, and one that is opened has what was written to it. What isn't of whole pages isn't
+/// opened.
 #[test]
 fn a_file_keeps_its_pages(rt: HostRuntime) {
     plays_files(&rt, KEEPS);
@@ -215,7 +216,8 @@ failures > 0
 close > true
 remove cs_disk_locked > true";
 
-/// Files that are only read are read beside each other, and not beside one that writes. Nothing that is there is lost to a new file.
+/// Files that are only read are read beside each other, and not beside one that writes. Nothing that is there is lost
+/// to a new file.
 #[test]
 fn a_file_is_read_alone(rt: HostRuntime) {
     plays_files(&rt, READ_ALONE);
@@ -266,8 +268,9 @@ file cs_disk_filled > (532480, [Some(0), Some(0), Some(0), Some(0)])
 close > true
 remove cs_disk_filled > true";
 
-/// What is written after it was read ahead is what is read, before a flush and after it. Pages that lie ready are read without the file,
-/// but only one behind the other: cut from outside, as no other program may, the file shows which those are.
+/// What is written after it was read ahead is what is read, before a flush and after it. Pages that lie ready are read
+/// without the file, but only one behind the other: cut from outside, as no other program may, the file shows which
+/// those are.
 #[test]
 fn a_file_is_read_ahead(rt: HostRuntime) {
     plays_files(&rt, AHEAD);

@@ -1,12 +1,12 @@
 //! The formats of root, frames and runs by their bytes, and by each byte that is damaged.
 use crate::texts::{is_said, prints};
 use cs_frame::{
-    Format as StoreFormat, FormatFault, FrameKind, Locator, Places, Root, Run, ShardId,
-    decode_frame, decode_frame_header, decode_root, decode_run, decode_section, decode_superblock,
-    encode_frame, encode_root, encode_run, first_format_has_one_spelling, formats_are_apart,
-    frame_has_one_spelling, frame_is_read_by_its_header, frame_pages, page_zero_has_one_spelling,
-    root_has_one_spelling, run_has_one_spelling, sections_have_all_extents,
-    superblock_has_one_spelling, these_formats_are_formats,
+    Format as StoreFormat, FormatFault, FormatNumber, FrameKind, Locator, Places, Root, Run,
+    ShardId, decode_frame, decode_frame_header, decode_root, decode_run, decode_section,
+    decode_superblock, encode_frame, encode_root, encode_run, first_format_has_one_spelling,
+    formats_are_apart, frame_has_one_spelling, frame_is_read_by_its_header, frame_pages,
+    page_zero_has_one_spelling, root_has_one_spelling, run_has_one_spelling,
+    sections_have_all_extents, superblock_has_one_spelling, these_formats_are_formats,
 };
 use std::process::Abort;
 
@@ -83,42 +83,43 @@ pub fn page_of(rt: &impl Abort, start: &[u8]) -> [u8; 4096] {
 #[test]
 fn roots(rt: HostRuntime) {
     let first = Root {
-        format: StoreFormat::two(),
+        store: None,
         version: 1,
         commands: 0,
         runs: Vec::new(rt.alloc()),
     };
     assert!(rt; is_page(&encode_root(&first), &FORMAT_ROOT));
     let later = Root {
-        format: StoreFormat::two(),
+        store: None,
         version: 2,
         commands: 1,
         runs: vec![in rt.alloc(); SECOND].expect(&rt, "memory"),
     };
     let page = encode_root(&later);
     assert!(rt; is_page(&page, &ROOT));
-    let read = decode_root(rt.alloc(), &page, StoreFormat::two()).expect(&rt, "a root");
+    let read = decode_root(rt.alloc(), &page, FormatNumber::Two).expect(&rt, "a root");
     prints(&rt, &read, OF_ONE);
 }
 
 /// How a root of one run prints.
 const OF_ONE: &str =
-    "Root { format: Format { known: Two }, version: 2, commands: 1, runs: [Locator { extent: 0, page: 1, generation: 0, mark: 0 }] }";
+    "Root { store: None, version: 2, commands: 1, runs: [Locator { extent: 0, page: 1, generation: 0, mark: 0 }] }";
 
 /// The pages of a frame.
 fn encoded(rt: &(impl Abort + AllocGlobal), kind: FrameKind, payload: &[u8]) -> Vec<[u8; 4096]> {
     assert!(rt; payload.len() < 5000);
-    encode_frame(rt.alloc(), kind, payload).expect(rt, "a frame")
+    encode_frame(rt.alloc(), FormatNumber::Two, kind, payload).expect(rt, "a frame")
 }
 
 /// The payload of a frame.
 pub fn decoded(
     rt: &(impl Abort + AllocGlobal),
+    number: FormatNumber,
     kind: FrameKind,
     pages: &[[u8; 4096]],
 ) -> Result<Vec<u8>, FormatFault> {
     assert!(rt; 0 < pages.len());
-    decode_frame(rt.alloc(), kind, pages)
+    decode_frame(rt.alloc(), number, kind, pages)
 }
 
 /// Asserts which payload is read of a frame.
@@ -128,7 +129,7 @@ fn is_payload(
     pages: &[[u8; 4096]],
     payload: &[u8],
 ) {
-    let read = decoded(rt, kind, pages).expect(rt, "bytes");
+    let read = decoded(rt, FormatNumber::Two, kind, pages).expect(rt, "bytes");
     assert!(rt; read.as_slice() == payload);
 }
 
@@ -136,7 +137,8 @@ fn is_payload(
 fn is_chunk_page(rt: &impl Abort, pages: &[[u8; 4096]], count: usize, start: &[u8]) {
     assert!(rt; pages.len() == 1);
     assert!(rt; is_page(&pages[0], start));
-    let header = decode_frame_header(FrameKind::Chunk, &pages[0], 1).expect(rt, "a header");
+    let header = decode_frame_header(FormatNumber::Two, FrameKind::Chunk, &pages[0], 1);
+    let header = header.expect(rt, "a header");
     assert!(rt; header.payload_len as usize == count);
     assert!(rt; header.pages() == 1);
 }
@@ -159,13 +161,14 @@ fn frames(rt: HostRuntime) {
     is_chunk(&rt, b"", &EMPTY_CHUNK);
 }
 
-/// Asserts that the last byte of a frame's payload alone, of sevens, lies on its second page, and that its first one isn't enough.
+/// Asserts that the last byte of a frame's payload alone, of sevens, lies on its second page, and that its first one
+/// isn't enough.
 fn are_two_pages(rt: &impl Abort, pages: &[[u8; 4096]]) {
     assert!(rt; pages.len() == 2);
     assert!(rt; pages[0][4095] == 7);
     assert!(rt; pages[1][0] == 7);
     assert!(rt; pages[1][1] == 0);
-    let header = decode_frame_header(FrameKind::Run, &pages[0], 1);
+    let header = decode_frame_header(FormatNumber::Two, FrameKind::Run, &pages[0], 1);
     assert!(rt; matches!(header, Err(FormatFault::BadLength)));
 }
 
@@ -186,12 +189,13 @@ pub enum Format {
     First,
     // another page of a superblock, in either format
     Section,
-    ThirdSection,
+    FourthSection,
     // page 1, in either format
     Root,
-    ThirdRoot,
-    // the first of two pages
+    FourthRoot,
+    // the first of two pages, in either format
     Chunk,
+    FourthChunk,
     // alone
     Run,
 }
@@ -204,16 +208,22 @@ pub fn number_of<T: Drop>(read: Result<T, FormatFault>) -> u8 {
     }
 }
 
+/// Why a page isn't read as the first of two pages of a chunk's frame, 0 if it is.
+fn chunk_fault(rt: &(impl Abort + AllocGlobal), number: FormatNumber, page: &[u8; 4096]) -> u8 {
+    number_of(decoded(rt, number, FrameKind::Chunk, &[*page, *page]))
+}
+
 /// Why a page isn't read, 0 where it is.
 pub fn fault_of(rt: &(impl Abort + AllocGlobal), format: Format, page: &[u8; 4096]) -> u8 {
     match format {
         Format::First => number_of(decode_superblock(rt.alloc(), page)),
-        Format::Section => number_of(decode_section(rt.alloc(), page, StoreFormat::two())),
-        Format::ThirdSection => number_of(decode_section(rt.alloc(), page, StoreFormat::three())),
-        Format::Root => number_of(decode_root(rt.alloc(), page, StoreFormat::two())),
-        Format::ThirdRoot => number_of(decode_root(rt.alloc(), page, StoreFormat::three())),
-        Format::Chunk => number_of(decoded(rt, FrameKind::Chunk, &[*page, *page])),
-        Format::Run => number_of(decoded(rt, FrameKind::Run, &[*page])),
+        Format::Section => number_of(decode_section(rt.alloc(), page, FormatNumber::Two)),
+        Format::FourthSection => number_of(decode_section(rt.alloc(), page, FormatNumber::Four)),
+        Format::Root => number_of(decode_root(rt.alloc(), page, FormatNumber::Two)),
+        Format::FourthRoot => number_of(decode_root(rt.alloc(), page, FormatNumber::Four)),
+        Format::Chunk => chunk_fault(rt, FormatNumber::Two, page),
+        Format::FourthChunk => chunk_fault(rt, FormatNumber::Four, page),
+        Format::Run => number_of(decoded(rt, FormatNumber::Two, FrameKind::Run, &[*page])),
     }
 }
 
@@ -231,7 +241,8 @@ fn turn(rt: &impl Abort, bytes: &mut [u8], place: usize) {
     bytes[place] ^= 1;
 }
 
-/// Asserts why the page that begins with these bytes isn't read where the lowest bit of one of its bytes is turned, byte by byte.
+/// Asserts why the page that begins with these bytes isn't read where the lowest bit of one of its bytes is turned,
+/// byte by byte.
 pub fn damaged(
     rt: &(impl Abort + AllocGlobal),
     format: Format,

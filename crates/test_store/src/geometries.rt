@@ -1,5 +1,7 @@
-//! Geometries by scripts: which there are, and where what they divide lies. The numbers of a line are those of extents, of pages and, but
-//! after `new` and `new_third`, of sections. Those of format 3 have other words.
+//! Geometries by scripts: which there are, and where what they divide lies. The numbers of a line are those of extents,
+//! of pages and, but after `new` and `new_fourth`, of sections. Those of format 4 have other words, and `long_fourth`
+//! has the pages of its device in place of the sections.
+use crate::stores::STORE;
 use crate::texts::{byte, is_said, prints, sides, text_of, words_of};
 use cs_frame::{Format, FormatFault, Geometry, entry_weight};
 use std::process::Abort;
@@ -9,9 +11,14 @@ fn geometry(rt: &impl Abort, extents: u64, pages: u64, sections: u64) -> Geometr
     Geometry::with_sections(extents, pages, sections).expect(rt, "a geometry")
 }
 
-/// A geometry of format 3.
-fn third(extents: u64, pages: u64, sections: Option<u64>) -> Result<Geometry, FormatFault> {
-    Geometry::of_format(Format::three(), extents, pages, sections)
+/// A geometry of format 4, in a file as large as it needs.
+fn fourth(extents: u64, pages: u64, sections: Option<u64>) -> Result<Geometry, FormatFault> {
+    Geometry::for_file(STORE, extents, pages, sections)
+}
+
+/// A geometry of format 4, on a device of so many pages.
+fn long_fourth(extents: u64, pages: u64, device_pages: u64) -> Result<Geometry, FormatFault> {
+    Geometry::of_format(Format::four(STORE, device_pages), extents, pages, None)
 }
 
 /// How many sections a geometry has, or the number of the fault.
@@ -49,10 +56,11 @@ fn said(rt: &(impl Abort + AllocGlobal), line: &str) -> String {
             rt,
             &sections_of(Geometry::with_sections(extents, pages, sections)),
         ),
-        "new_third" => text_of(rt, &sections_of(third(extents, pages, None))),
-        "with_third" => text_of(rt, &sections_of(third(extents, pages, Some(sections)))),
-        "pages_third" => {
-            let made = third(extents, pages, Some(sections)).expect(rt, "a geometry");
+        "new_fourth" => text_of(rt, &sections_of(fourth(extents, pages, None))),
+        "with_fourth" => text_of(rt, &sections_of(fourth(extents, pages, Some(sections)))),
+        "long_fourth" => text_of(rt, &sections_of(long_fourth(extents, pages, sections))),
+        "pages_fourth" => {
+            let made = fourth(extents, pages, Some(sections)).expect(rt, "a geometry");
             text_of(rt, &made.device_pages())
         }
         "pages" => text_of(rt, &geometry(rt, extents, pages, sections).device_pages()),
@@ -103,22 +111,25 @@ with 2049 2 8 > Err(7)";
 
 /// Each format has bounds of its own.
 #[test]
-fn which_geometries_of_format_3_there_are(rt: HostRuntime) {
-    plays(&rt, THIRD_RULES);
+fn which_geometries_of_format_4_there_are(rt: HostRuntime) {
+    plays(&rt, FOURTH_RULES);
 }
 
-const THIRD_RULES: &str = "new_third 4 2 > Err(7)
-new_third 5 2 > Ok(1)
-new_third 5 1 > Err(7)
-new_third 5 65535 > Ok(1)
-new_third 7680 65535 > Ok(15)
-new_third 7681 2 > Err(7)
-with_third 7680 2 14 > Err(7)
-with_third 7680 2 15 > Ok(15)
-with_third 7680 2 16 > Err(7)
-with_third 30 2 15 > Ok(15)
-pages_third 6 2 3 > 20
-pages_third 7680 65535 15 > 503308832";
+const FOURTH_RULES: &str = "new_fourth 4 2 > Err(7)
+new_fourth 5 2 > Ok(1)
+new_fourth 5 1 > Err(7)
+new_fourth 5 65535 > Ok(1)
+new_fourth 7680 65535 > Ok(15)
+new_fourth 7681 2 > Err(7)
+with_fourth 7680 2 14 > Err(7)
+with_fourth 7680 2 15 > Ok(15)
+with_fourth 7680 2 16 > Err(7)
+with_fourth 30 2 15 > Ok(15)
+pages_fourth 6 2 3 > 20
+pages_fourth 7680 65535 15 > 503308832
+long_fourth 6 2 15 > Err(7)
+long_fourth 6 2 16 > Ok(1)
+long_fourth 6 2 17 > Ok(1)";
 
 /// Section 0 is before all extents, and the others are behind them. The last one may have fewer extents.
 #[test]
@@ -139,7 +150,8 @@ extent 7 2 3 6 > 2
 pages 2048 256 4 > 524293
 section 2048 256 4 3 > (524292, 1536, 512)";
 
-/// How many extents of how many pages a geometry has, how many bytes a frame and a chunk of a shard, and what an index may weigh.
+/// How many extents of how many pages a geometry has, how many bytes a frame and a chunk of a shard, and what an index
+/// may weigh.
 fn figures(geometry: Geometry) -> ((u16, u16), (usize, usize, usize)) {
     (
         (geometry.extents(), geometry.pages()),
@@ -171,19 +183,20 @@ fn extents_and_their_pages(rt: HostRuntime) {
     );
 }
 
-/// A chunk has its head there, and an index weighs as many bytes as its entries take in one run.
+/// A chunk has its head of 34 bytes there. An index weighs as many bytes as its entries take in one run, which begins
+/// with 8 bytes of the store's identity.
 #[test]
-fn extents_of_format_3(rt: HostRuntime) {
-    let six = third(6, 2, None).expect(&rt, "a geometry");
-    prints(&rt, &figures(six), "((6, 2), (8151, 8125, 8147))");
-    let widest = third(7680, 65535, None).expect(&rt, "a geometry");
+fn extents_of_format_4(rt: HostRuntime) {
+    let six = fourth(6, 2, None).expect(&rt, "a geometry");
+    prints(&rt, &figures(six), "((6, 2), (8151, 8117, 8139))");
+    let widest = fourth(7680, 65535, None).expect(&rt, "a geometry");
     prints(
         &rt,
         &figures(widest),
-        "((7680, 65535), (268431319, 268431293, 268431315))",
+        "((7680, 65535), (268431319, 268431285, 268431307))",
     );
     assert!(rt; entry_weight(Format::two(), 0) == 1);
     assert!(rt; entry_weight(Format::two(), 8) == 1);
-    assert!(rt; entry_weight(Format::three(), 0) == 17);
-    assert!(rt; entry_weight(Format::three(), 8) == 145);
+    assert!(rt; entry_weight(Format::four(STORE, 16), 0) == 17);
+    assert!(rt; entry_weight(Format::four(STORE, 16), 8) == 145);
 }

@@ -1,6 +1,6 @@
-//! Graphs by scripts: a put of one byte and the root over it, a round of it, and the refusals. A number is a plain write, as `2`, and a
-//! family with one a version, as `0.3`. Elements with `+` between them are what is named, `..2` names the writes up to the second one,
-//! `2-3` those from the second to the third, and `-` nothing.
+//! Graphs by scripts: a put of one byte and the root over it, a round of it, and the refusals. A number is a plain
+//! write, as `2`, and a family with one a version, as `0.3`. Elements with `+` between them are what is named, `..2`
+//! names the writes up to the second one, `2-3` those from the second to the third, and `-` nothing.
 ghost use Rattle.std.specs.Prelude.{◌^◌, ◌≤◌, ◌<◌, All, length};
 
 use crate::plans::{next, text_of_plan};
@@ -69,7 +69,8 @@ fn stage_version(
     graph.stage_version(family, page, &[byte; 4096], needs)
 }
 
-/// Stages what a line says: a plain write by its page, its byte and what it needs, or a version, whose family stands before them.
+/// Stages what a line says: a plain write by its page, its byte and what it needs, or a version, whose family stands
+/// before them.
 fn stage(rt: &(impl Abort + AllocGlobal), graph: &mut Graph, line: &str) -> Result<u64, Refusal> {
     let (word, numbers) = words_of(line);
     let (_, named_last) = line.rsplit_once(' ').expect(rt, "what is needed");

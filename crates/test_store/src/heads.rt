@@ -1,24 +1,25 @@
 //! The heads of chunks on a device.
 use crate::damage::page;
 use crate::frames::decoded;
-use crate::lost_roots::new_third;
+use crate::lost_roots::new_fourth;
 use crate::machines::{answer, opened, play};
-use crate::stores::id;
+use crate::stores::{STORE, id};
 use crate::texts::prints;
 use cs_core::{Bytes, Core, Event, Reply};
 use cs_disk::{MemoryDisk, PageDisk};
-use cs_frame::{Format, FrameKind, chunk_body, decode_head};
+use cs_frame::{Format, FormatNumber, FrameKind, chunk_body, decode_head};
 use std::process::Abort;
 
 /// Puts a shard of two chunks, the second of one byte.
 fn put_two_chunks<D: PageDisk>(rt: &(impl Abort + AllocGlobal), core: &mut Core<D>) {
-    let bytes = vec![in rt.alloc(); 98; 8126].expect(rt, "memory");
+    let bytes = vec![in rt.alloc(); 98; 8118].expect(rt, "memory");
     let bytes = Bytes::new(rt.alloc(), bytes).expect(rt, "bytes");
     let reply = answer(rt, core, &Event::Put(id(11), bytes));
     assert!(rt; matches!(reply, Reply::Accepted(2)));
 }
 
-/// Asserts what the chunk whose frame lies on these pages of a disk says of itself, and how many bytes of the shard it has.
+/// Asserts what the chunk whose frame lies on these pages of a disk says of itself, and how many bytes of the shard it
+/// has.
 fn says(
     rt: &(impl Abort + AllocGlobal),
     disk: &mut MemoryDisk,
@@ -30,33 +31,33 @@ fn says(
     for number in numbers {
         pages.push(page(rt, disk, *number)).expect(rt, "memory");
     }
-    let payload = decoded(rt, FrameKind::Chunk, &pages).expect(rt, "a chunk");
+    let payload = decoded(rt, FormatNumber::Four, FrameKind::Chunk, &pages).expect(rt, "a chunk");
     prints(rt, &decode_head(&payload), wanted);
-    assert!(rt; chunk_body(Format::three(), &payload).len() == bytes);
+    assert!(rt; chunk_body(Format::four(STORE, 16), &payload).len() == bytes);
 }
 
 /// Each chunk says whose it is, its number, how many there are, and which command put it.
 #[test]
 fn chunks_say_whose_they_are(rt: HostRuntime) {
-    let mut core = new_third(&rt);
+    let mut core = new_fourth(&rt);
     play(&rt, &mut core, "put 10 97 > Accepted(1)");
     put_two_chunks(&rt, &mut core);
     play(&rt, &mut core, "stage > Staged(2)");
     play(&rt, &mut core, "written > 2");
     let mut disk = core.into_disk();
     says(&rt, &mut disk, &[2], FIRST, 1);
-    says(&rt, &mut disk, &[4, 5], FIRST_OF_TWO, 8125);
+    says(&rt, &mut disk, &[4, 5], FIRST_OF_TWO, 8117);
     says(&rt, &mut disk, &[3], SECOND_OF_TWO, 1);
 }
 
 const FIRST: &str =
-    "Some(ChunkHead { id: ShardId([0, 0, 0, 0, 0, 0, 0, 0, 0, 0, 0, 0, 0, 0, 0, 10]), number: 0, count: 1, command: 1 })";
+    "Some(FoundHead { head: ChunkHead { id: ShardId([0, 0, 0, 0, 0, 0, 0, 0, 0, 0, 0, 0, 0, 0, 0, 10]), number: 0, count: 1, command: 1 }, store: [0, 1, 2, 3, 4, 5, 6, 7] })";
 
 const FIRST_OF_TWO: &str =
-    "Some(ChunkHead { id: ShardId([0, 0, 0, 0, 0, 0, 0, 0, 0, 0, 0, 0, 0, 0, 0, 11]), number: 0, count: 2, command: 2 })";
+    "Some(FoundHead { head: ChunkHead { id: ShardId([0, 0, 0, 0, 0, 0, 0, 0, 0, 0, 0, 0, 0, 0, 0, 11]), number: 0, count: 2, command: 2 }, store: [0, 1, 2, 3, 4, 5, 6, 7] })";
 
 const SECOND_OF_TWO: &str =
-    "Some(ChunkHead { id: ShardId([0, 0, 0, 0, 0, 0, 0, 0, 0, 0, 0, 0, 0, 0, 0, 11]), number: 1, count: 2, command: 2 })";
+    "Some(FoundHead { head: ChunkHead { id: ShardId([0, 0, 0, 0, 0, 0, 0, 0, 0, 0, 0, 0, 0, 0, 0, 11]), number: 1, count: 2, command: 2 }, store: [0, 1, 2, 3, 4, 5, 6, 7] })";
 
 /// Two puts that are made persistent.
 const TWO: &str = "put 10 97 > Accepted(1)
@@ -73,10 +74,11 @@ move 0 > NoneLive
 retire 0 > Retired(3)
 written > 1";
 
-/// Commands are counted on behind those that the root counts, and the copy that a sweep makes has the head of what it copies.
+/// Commands are counted on behind those that the root counts, and the copy that a sweep makes has the head of what it
+/// copies.
 #[test]
 fn copies_have_their_heads(rt: HostRuntime) {
-    let mut core = new_third(&rt);
+    let mut core = new_fourth(&rt);
     play(&rt, &mut core, TWO);
     let mut core = opened(&rt, core.into_disk(), 1000);
     play(&rt, &mut core, THIRD);
@@ -86,4 +88,4 @@ fn copies_have_their_heads(rt: HostRuntime) {
 }
 
 const OF_THIRD: &str =
-    "Some(ChunkHead { id: ShardId([0, 0, 0, 0, 0, 0, 0, 0, 0, 0, 0, 0, 0, 0, 0, 12]), number: 0, count: 1, command: 3 })";
+    "Some(FoundHead { head: ChunkHead { id: ShardId([0, 0, 0, 0, 0, 0, 0, 0, 0, 0, 0, 0, 0, 0, 0, 12]), number: 0, count: 1, command: 3 }, store: [0, 1, 2, 3, 4, 5, 6, 7] })";

@@ -2,12 +2,12 @@
 ghost use Rattle.std.specs.Prelude.{◌≡◌, ◌<◌, ◌^◌};
 
 use crate::stores::{
-    Store, assert_indexed, assert_ready, id, plays_divided, plays_large, plays_small, plays_third,
+    Store, assert_indexed, assert_ready, id, plays_divided, plays_fourth, plays_large, plays_small,
 };
 use crate::texts::{byte, text_of, words_of};
 use cs_deps::{Element, Graph};
 use cs_extent::Purpose;
-use cs_frame::{Format, Locator, Places, decode_root};
+use cs_frame::{FormatNumber, Locator, Places, decode_root};
 use cs_index::{Entries, Index};
 use cs_refusal::Refusal;
 use std::alloc::Global;
@@ -99,7 +99,7 @@ fn listed(index: &Index) -> (Option<u8>, Option<u8>, Option<u8>) {
 /// How many commands and how many runs a root has that is version 6.
 fn root(rt: &impl Abort, alloc: Global, graph: &Graph) -> (u64, usize) {
     let page = graph.bytes_of(Element::Version(1, 6)).expect(rt, "a page");
-    let root = decode_root(alloc, page, Format::two()).expect(rt, "a root");
+    let root = decode_root(alloc, page, FormatNumber::Two).expect(rt, "a root");
     (root.commands, root.runs.len())
 }
 
@@ -182,10 +182,11 @@ index erase 1 > true
 index set 3 5 > Err(IndexFull)
 index set 1 7 > Ok(())";
 
-/// An entry of a chunk weighs 33, and a deletion 17, which makes room of 16. An identifier that is named may be refused more chunks.
+/// An entry of a chunk weighs 33, and a deletion 17, which makes room of 16. An identifier that is named may be refused
+/// more chunks.
 #[test]
 fn the_limit_is_a_weight(rt: HostRuntime) {
-    plays_third(&rt, 1, WEIGHT);
+    plays_fourth(&rt, 1, WEIGHT);
 }
 
 const WEIGHT: &str = "index weight > (0, 100)

@@ -1,6 +1,6 @@
-//! Tests of disks, formats, graphs, plans, their documents and pictures, of the parts of a store and of the core, and of what is read of damaged
-//! stores, by the public calls of the crates below alone, one file a subject. Most are scripts: a line each, with what is done or asked, and what is
-//! printed then.
+//! Tests of disks, formats, graphs, plans, their documents and pictures, of the parts of a store and of the core, and
+//! of what is read of damaged stores, by the public calls of the crates below alone, one file a subject. Most are
+//! scripts: a line each, with what is done or asked, and what is printed then.
 #![tactic(auto)]
 
 #[cfg(test)]
@@ -23,6 +23,8 @@ mod documents;
 mod extents;
 #[cfg(test)]
 mod files;
+#[cfg(test)]
+mod fourth_format;
 #[cfg(test)]
 mod frames;
 #[cfg(test)]
@@ -59,5 +61,3 @@ mod sweeps;
 mod targets;
 #[cfg(test)]
 mod texts;
-#[cfg(test)]
-mod third_format;

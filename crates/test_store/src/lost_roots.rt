@@ -1,17 +1,17 @@
-//! A root in the place of a newer one, as where a device lost the write of the newer one. A section records the version of the root that
-//! was persistent as the section was staged, so a root that is older than such a one is refused.
+//! A root in the place of a newer one, as where a device lost the write of the newer one. A section records the version
+//! of the root that was persistent as the section was staged, so a root that is older than such a one is refused.
 use crate::damage::{disk_of, image_of, is_refused, page, set_page};
 use crate::machines::{let_go, new_core_of, opened, play};
-use crate::stores::geometry;
+use crate::stores::{STORE, geometry};
 use cs_core::Core;
 use cs_disk::MemoryDisk;
-use cs_frame::{Format, Geometry, decode_superblock};
+use cs_frame::{Geometry, decode_superblock};
 use std::process::Abort;
 
-/// A new store of format 3, of 6 extents of 2 pages.
-pub fn new_third(rt: &(impl Abort + AllocGlobal)) -> Core<MemoryDisk> {
-    let third = Geometry::of_format(Format::three(), 6, 2, None).expect(rt, "a geometry");
-    new_core_of(rt, third, 1000)
+/// A new store of format 4, of 6 extents of 2 pages.
+pub fn new_fourth(rt: &(impl Abort + AllocGlobal)) -> Core<MemoryDisk> {
+    let fourth = Geometry::for_file(STORE, 6, 2, None).expect(rt, "a geometry");
+    new_core_of(rt, fourth, 1000)
 }
 
 /// A put that is made persistent.
@@ -29,7 +29,8 @@ const THIRD: &str = "put 12 99 > Accepted(1)
 stage > Staged(4)
 written > 1";
 
-/// The bytes of the disk of a store after each of three puts that were made persistent one by one, the third one in a store that was opened anew.
+/// The bytes of the disk of a store after each of three puts that were made persistent one by one, the third one in a
+/// store that was opened anew.
 fn after_each(
     rt: &(impl Abort + AllocGlobal),
     mut core: Core<MemoryDisk>,
@@ -71,7 +72,7 @@ fn recorded(rt: &(impl Abort + AllocGlobal), image: &[u8]) -> u64 {
 /// The section of the third put records the root of the second one.
 #[test]
 fn sections_record_the_persistent_root(rt: HostRuntime) {
-    let (first, second, third) = after_each(&rt, new_third(&rt));
+    let (first, second, third) = after_each(&rt, new_fourth(&rt));
     assert!(rt; recorded(&rt, &first) == 1);
     assert!(rt; recorded(&rt, &second) == 2);
     assert!(rt; recorded(&rt, &third) == 3);
@@ -80,8 +81,8 @@ fn sections_record_the_persistent_root(rt: HostRuntime) {
 /// The root of before may be one whose successor was torn as it was written, so it is opened; an older one isn't.
 #[test]
 fn a_root_that_is_lost_is_refused(rt: HostRuntime) {
-    let (first, second, third) = after_each(&rt, new_third(&rt));
-    let new = image_of(&rt, &new_third(&rt).into_disk());
+    let (first, second, third) = after_each(&rt, new_fourth(&rt));
+    let new = image_of(&rt, &new_fourth(&rt).into_disk());
     is_refused(&rt, with_root_of(&rt, &third, &first), true, 27, 1);
     is_refused(&rt, with_root_of(&rt, &third, &new), true, 27, 2);
     is_refused(&rt, with_root_of(&rt, &second, &new), true, 27, 3);
@@ -98,7 +99,7 @@ get 10 > Found(Bytes { block: [97] })
 get 11 > Found(Bytes { block: [98] })
 get 12 > Absent";
 
-/// In the older formats nothing is recorded, and any root of before is opened.
+/// In format 2 nothing is recorded, and any root of before is opened.
 #[test]
 fn up_to_format_2_an_older_root_is_opened(rt: HostRuntime) {
     let (first, _, third) = after_each(&rt, new_core_of(&rt, geometry(&rt, 6, 1), 1000));

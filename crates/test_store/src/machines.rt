@@ -1,5 +1,5 @@
-//! Cores over disks in memory, and what they are told to do and to show by scripts: a line each, with the words of an event or of a
-//! question, and what is printed then.
+//! Cores over disks in memory, and what they are told to do and to show by scripts: a line each, with the words of an
+//! event or of a question, and what is printed then.
 use crate::plans::text_of_plan;
 use crate::stores::id;
 use crate::texts::{byte, is_said, sides, text_of, words_of};
@@ -96,8 +96,8 @@ fn plan_of_superblock<D: PageDisk>(
     core.plan_for(&target)
 }
 
-/// A number that a core shows: how many pages it keeps in memory, how many commands it accepted, how many events it keeps, or how many were
-/// replaced.
+/// A number that a core shows: how many pages it keeps in memory, how many commands it accepted, how many events it
+/// keeps, or how many were replaced.
 fn count_of<D: PageDisk>(rt: &impl Abort, core: &Core<D>, word: &str) -> usize {
     match word {
         "kept" => core.kept_pages(),

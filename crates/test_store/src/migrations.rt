@@ -1,5 +1,5 @@
-//! A store of which page 0 is of the first format: it is opened as one section, and goes over to sections with the next version of its
-//! superblock that is written.
+//! A store of which page 0 is of the first format: it is opened as one section, and goes over to sections with the next
+//! version of its superblock that is written.
 use crate::crashes::{Round, crashes};
 use crate::damage::{disk_of, image_of, page, set_page};
 use crate::machines::{disk_of_a_put, let_go, opened, play};

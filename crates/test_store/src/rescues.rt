@@ -1,17 +1,17 @@
 //! Stores in memory of which a run is damaged, or whose root is an older one.
 use crate::damage::{page, set_page, why_not_opened};
 use crate::machines::{answer, new_core_of, one_byte, opened, writes_back};
-use crate::stores::id;
+use crate::stores::{STORE, id};
 use cs_core::{Core, Event};
 use cs_disk::MemoryDisk;
-use cs_frame::{Format, Geometry, Locator, decode_root};
+use cs_frame::{FormatNumber, Geometry, Locator, decode_root};
 use cs_refusal::Refusal;
 use cs_salvage::{Rescue, RescueRefusal};
 use std::process::Abort;
 
-/// A new store of format 3, of 8 extents of 4 pages.
+/// A new store of 8 extents of 4 pages.
 fn new_core(rt: &(impl Abort + AllocGlobal)) -> Core<MemoryDisk> {
-    let geometry = Geometry::of_format(Format::three(), 8, 4, Some(2)).expect(rt, "a geometry");
+    let geometry = Geometry::for_file(STORE, 8, 4, Some(2)).expect(rt, "a geometry");
     new_core_of(rt, geometry, 1000)
 }
 
@@ -31,7 +31,7 @@ fn sync(rt: &(impl Abort + AllocGlobal), core: &mut Core<MemoryDisk>) {
 /// The runs of the root on a disk, oldest first.
 fn runs(rt: &(impl Abort + AllocGlobal), disk: &mut MemoryDisk) -> Vec<Locator> {
     let bytes = page(rt, disk, 1);
-    decode_root(rt.alloc(), &bytes, Format::three())
+    decode_root(rt.alloc(), &bytes, FormatNumber::Four)
         .expect(rt, "a root")
         .runs
 }

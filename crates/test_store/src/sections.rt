@@ -1,5 +1,6 @@
-//! Stores of which the superblock has several sections: what their rounds are, what a crash leaves of them, and what isn't opened. Each of
-//! three sections has two of 6 extents of 2 pages: section 0 is on page 0, and the others are on pages 14 and 15.
+//! Stores of which the superblock has several sections: what their rounds are, what a crash leaves of them, and what
+//! isn't opened. Each of three sections has two of 6 extents of 2 pages: section 0 is on page 0, and the others are on
+//! pages 14 and 15.
 use crate::core_sweeps::{BEHIND, FILL, HOLDS, STAGED, SWEEP};
 use crate::crashes::{Round, crashes};
 use crate::damage::{damaged, image_of, is_refused, set_page};
@@ -205,7 +206,8 @@ fn why_not_opened(alloc: Global, disk: MemoryDisk, call: u64) -> u8 {
     }
 }
 
-/// Making a store of three sections writes these and the root, and flushes; opening it flushes, and reads as many pages.
+/// Making a store of three sections writes these and the root, and flushes; opening it flushes, and reads as many
+/// pages.
 #[test]
 fn calls_that_fail(rt: HostRuntime) {
     for call in 1..7 {

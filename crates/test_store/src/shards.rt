@@ -1,8 +1,10 @@
 //! What is salvaged of a device.
-use crate::devices::{Device, bytes, damage, missing, new_device, parts, put, salvaged};
-use crate::stores::id;
-use cs_frame::{ChunkHead, Format};
-use cs_salvage::{newest_whole, what_stands_is_whole, whole_shards_are_what_was_put};
+use crate::devices::{
+    Device, bytes, damage, geometry_of, missing, new_device, parts, parts_of, put, salvaged,
+};
+use crate::stores::{STORE, id};
+use cs_frame::{ChunkHead, Geometry, StoreId};
+use cs_salvage::{Whose, newest_whole, what_stands_is_whole, whole_shards_are_what_was_put};
 use std::process::Abort;
 
 /// The head of a chunk of the shard with this last byte.
@@ -21,10 +23,10 @@ fn gives(rt: &(impl Abort + AllocGlobal), device: &mut Device, wanted: &str) {
     assert!(rt; text.as_str() == wanted);
 }
 
-/// A device with two shards: 1 has three chunks, of which the first has two pages, and lies scattered; 2 was put twice, the older put has two
-/// chunks.
+/// A device with two shards: 1 has three chunks, of which the first has two pages, and lies scattered; 2 was put twice,
+/// the older put has two chunks.
 fn two_shards(rt: &(impl Abort + AllocGlobal)) -> Device {
-    let mut device = new_device(rt, Format::three());
+    let mut device = new_device(rt, geometry_of(rt, STORE));
     put(rt, &mut device, (3, 0), head(1, 0, 3, 7), &[5; 5000]);
     put(rt, &mut device, (0, 2), head(1, 1, 3, 7), &[6, 6]);
     put(rt, &mut device, (0, 0), head(1, 2, 3, 7), &[9]);
@@ -96,7 +98,7 @@ fn a_newest_put_that_is_not_whole_is_missing(rt: HostRuntime) {
 
 #[test]
 fn heads_that_no_put_writes_are_no_parts(rt: HostRuntime) {
-    let mut device = new_device(&rt, Format::three());
+    let mut device = new_device(&rt, geometry_of(&rt, STORE));
     put(&rt, &mut device, (0, 0), head(1, 1, 1, 7), &[5]);
     put(&rt, &mut device, (0, 1), head(1, 0, 9, 7), &[5]);
     // It would end on the next extent.
@@ -106,9 +108,21 @@ fn heads_that_no_put_writes_are_no_parts(rt: HostRuntime) {
 
 #[test]
 fn an_older_format_has_no_parts(rt: HostRuntime) {
-    let mut device = new_device(&rt, Format::two());
+    let older = Geometry::new(5, 3).expect(&rt, "a geometry");
+    let mut device = new_device(&rt, older);
     put(&rt, &mut device, (0, 0), head(1, 0, 1, 7), &[5; 100]);
     assert!(rt; parts(&rt, &mut device).is_empty());
+}
+
+/// What another store left on the device is a part only if those of any store are sought.
+#[test]
+fn parts_of_another_store_are_left_out(rt: HostRuntime) {
+    let mut device = two_shards(&rt);
+    device.geometry = geometry_of(&rt, StoreId([7; 16]));
+    assert!(rt; parts(&rt, &mut device).is_empty());
+    put(&rt, &mut device, (4, 1), head(2, 0, 1, 3), &[8]);
+    gives(&rt, &mut device, "2 by 3 4:1 1 bytes 8..8; ");
+    assert!(rt; parts_of(&rt, &mut device, Whose::OfAny).len() == 7);
 }
 
 #[test]

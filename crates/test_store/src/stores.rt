@@ -1,5 +1,5 @@
-//! The parts of a store, and what is done with them and asked of them by scripts: the first word of a line names a part, and others
-//! are asked of the graph.
+//! The parts of a store, and what is done with them and asked of them by scripts: the first word of a line names a
+//! part, and others are asked of the graph.
 ghost use Rattle.std.specs.Prelude.{ℕ, ◌≡◌, ◌≤◌, ◌+◌, ◌*◌, IfOk, false, length, replicate, slice_index};
 ghost use Rattle.cs_extent.specs.Appended.{IsReady};
 ghost use Rattle.cs_extent.specs.Sections.{AreSections};
@@ -13,7 +13,7 @@ use crate::{chunks, extents, indexes, sweeps};
 use cs_deps::Graph;
 use cs_disk::{FailAt, PageDisk};
 use cs_extent::Extents;
-use cs_frame::{Format, Geometry, ShardId, Superblock};
+use cs_frame::{FormatNumber, Geometry, ShardId, StoreId, Superblock};
 use cs_index::Index;
 use std::alloc::{AllocError, Global};
 use std::process::Abort;
@@ -26,6 +26,9 @@ pub struct Store {
     pub graph: Graph,
     ghost staged: { (e : ℕ) → (extents_of extents).reset e ≤ slice_index graph.staging.latest 1 },
 }
+
+/// The identity of the stores of format 4, which docs/FORMATS.md has in its worked pages.
+pub const STORE: StoreId = StoreId([0, 1, 2, 3, 4, 5, 6, 7, 8, 9, 10, 11, 12, 13, 14, 15]);
 
 /// An identifier whose last byte is this.
 pub fn id(last: u8) -> ShardId {
@@ -131,8 +134,8 @@ pub fn assert_ready(rt: &impl Abort, store: &Store)
     assert_families(rt, &store.extents, &store.graph);
 }
 
-/// Asserts that the index is that of a store of format 2 whose extents have two pages, in which each entry weighs one, so that it names at most
-/// a hundred identifiers.
+/// Asserts that the index is that of a store of format 2 whose extents have two pages, in which each entry weighs one,
+/// so that it names at most a hundred identifiers.
 pub fn assert_indexed(rt: &impl Abort, index: &Index, extents: &Extents)
     ensures format { index.now.format ≡ (shape extents.now).format }
     ensures limit { index.now.limit ≡ (shape extents.now).most_weight }
@@ -144,9 +147,9 @@ pub fn assert_indexed(rt: &impl Abort, index: &Index, extents: &Extents)
     let pages = extents.extent_pages();
     assert!(rt; pages == 2);
     let format = geometry.format().number();
-    assert!(rt; format == 2);
+    assert!(rt; format == FormatNumber::Two);
     let of_index = index.format().number();
-    assert!(rt; of_index == 2);
+    assert!(rt; of_index == FormatNumber::Two);
     let limit = index.limit();
     assert!(rt; limit == 100);
 }
@@ -219,10 +222,11 @@ pub fn plays_large(rt: &(impl Abort + AllocGlobal), script: &str) {
     plays_on(rt, geometry(rt, 12, 1), 100, 0, script);
 }
 
-/// Does what a script says on an empty store of format 3, of 6 extents of 2 pages and of so many sections, whose index may weigh 100 bytes.
-pub fn plays_third(rt: &(impl Abort + AllocGlobal), sections: u64, script: &str) {
-    let third = Geometry::of_format(Format::three(), 6, 2, Some(sections)).expect(rt, "a geometry");
-    plays_on(rt, third, 100, 0, script);
+/// Does what a script says on an empty store of format 4, of 6 extents of 2 pages and of so many sections, whose index
+/// may weigh 100 bytes.
+pub fn plays_fourth(rt: &(impl Abort + AllocGlobal), sections: u64, script: &str) {
+    let fourth = Geometry::for_file(STORE, 6, 2, Some(sections)).expect(rt, "a geometry");
+    plays_on(rt, fourth, 100, 0, script);
 }
 
 /// Does what a script says on an empty store of 6 extents, of which each of three sections has two.

@@ -1,9 +1,10 @@
-//! The pages of a superblock in sections, and the one of a superblock of the first format, by their bytes and by each byte that is damaged.
+//! The pages of a superblock in sections, and the one of a superblock of the first format, by their bytes and by each
+//! byte that is damaged.
 use crate::frames::{Format, damaged, fault_of, is_page, page_of};
 use crate::texts::prints;
 use cs_frame::{
-    Format as StoreFormat, Geometry, Superblock, decode_section, decode_superblock, encode_section,
-    encode_superblock,
+    Format as StoreFormat, FormatNumber, Geometry, Superblock, decode_section, decode_superblock,
+    encode_section, encode_superblock,
 };
 use std::process::Abort;
 
@@ -57,19 +58,8 @@ pub const FIRST_FORMAT_FAULTS: [(usize, u8); 6] = [
     (4096, 23),
 ];
 
-/// Why one of the one section on page 0 isn't: by the fourth byte, which is turned to the digit 3, as a section of format 3.
-pub const ONE_SECTION_FAULTS: [(usize, u8); 7] = [
-    (3, 20),
-    (14, 21),
-    (15, 22),
-    (16, 21),
-    (18, 22),
-    (86, 21),
-    (4096, 23),
-];
-
-/// Why one of the one section on another page isn't.
-const SECTION_FAULTS: [(usize, u8); 8] = [
+/// Why one of the one section isn't, on page 0 or on another page.
+pub const ONE_SECTION_FAULTS: [(usize, u8); 8] = [
     (3, 20),
     (4, 24),
     (14, 21),
@@ -98,7 +88,7 @@ fn reads(rt: &(impl Abort + AllocGlobal), page: &[u8; 4096], wanted: &str) {
 
 /// Asserts how the section that a page spells prints.
 fn reads_section(rt: &(impl Abort + AllocGlobal), page: &[u8; 4096], wanted: &str) {
-    let read = decode_section(rt.alloc(), page, StoreFormat::two()).expect(rt, "a section");
+    let read = decode_section(rt.alloc(), page, FormatNumber::Two).expect(rt, "a section");
     prints(rt, &read, wanted);
 }
 
@@ -164,7 +154,7 @@ fn damaged_superblocks(rt: HostRuntime) {
 /// A page that isn't page 0 is read in one format alone.
 #[test]
 fn damaged_sections(rt: HostRuntime) {
-    damaged(&rt, Format::Section, &ONE_SECTION, &SECTION_FAULTS);
+    damaged(&rt, Format::Section, &ONE_SECTION, &ONE_SECTION_FAULTS);
     damaged(
         &rt,
         Format::Section,

@@ -1,9 +1,9 @@
-//! Makes calls of a store one after the other, and marks in what it prints where each begins and ends: `[` stands ahead of it and `]` behind it,
-//! each written by itself, and between mark and call nothing is done. So what counts the requests for memory and refuses one of them
-//! (`trials/growths`) sees within which call it was.
+//! Makes calls of a store one after the other, and marks in what it prints where each begins and ends: `[` stands ahead
+//! of it and `]` behind it, each written by itself, and between mark and call nothing is done. So what counts the
+//! requests for memory and refuses one of them (`trials/growths`) sees within which call it was.
 //!
-//! What a call answers stands behind its marks. Where that is 9 OutOfMemory, it is told whether all is as it was, and the call is made once
-//! more.
+//! What a call answers stands behind its marks. Where that is 9 OutOfMemory, it is told whether all is as it was, and
+//! the call is made once more.
 
 mod cores;
 mod documents;
@@ -38,8 +38,8 @@ fn new_disk(alloc: Global, geometry: Geometry) -> Result<MemoryDisk, Fault> {
     Ok(MemoryDisk::new(alloc, geometry.device_pages())?)
 }
 
-/// Makes a store, does the events of a script, opens the store anew, and makes the calls of another and those of documents. Of a store whose
-/// superblock has one section the calls of its parts come between.
+/// Makes a store, does the events of a script, opens the store anew, and makes the calls of another and those of
+/// documents. Of a store whose superblock has one section the calls of its parts come between.
 fn try_core<D: PageDisk + Drop, R: Print>(
     rt: &R,
     alloc: Global,

@@ -1,5 +1,6 @@
-//! Times parts of the store. The first argument says which: `graph`, `core` or `node`; what the others say stands at the head of the
-//! file of that name. Where no argument is given, a little is done with each of them, and nothing timed.
+//! Times parts of the store. The first argument says which: `graph`, `core` or `node`; what the others say stands at
+//! the head of the file of that name. Where no argument is given, a little is done with each of them, and nothing
+//! timed.
 
 mod clocks;
 mod cores;

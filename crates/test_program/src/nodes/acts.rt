@@ -1,5 +1,6 @@
-//! What tests do on a node, by scripts: each call of a node stands in one function, and a test says which calls come, and what each is to
-//! answer. These functions have no end but the one at their foot, and so little has to be proved of what they hold.
+//! What tests do on a node, by scripts: each call of a node stands in one function, and a test says which calls come,
+//! and what each is to answer. These functions have no end but the one at their foot, and so little has to be proved of
+//! what they hold.
 use super::calls::{
     are_places, delete, get, is_content, keep_ack, keep_ticket, poll, put, put_told, settle,
 };
@@ -29,8 +30,8 @@ pub enum Act {
     GetAny(u8),
     /// The number of the ticket, or nothing.
     Delete(u8, Option<u64>),
-    /// Whether the command of the ticket in the hand is persistent: None, and the ack is in the hand then, or up to which number commands
-    /// are.
+    /// Whether the command of the ticket in the hand is persistent: None, and the ack is in the hand then, or up to
+    /// which number commands are.
     Poll(Option<u64>),
     /// The same under the lock.
     Settle(Result<Option<u64>, Refusal>),
@@ -86,7 +87,8 @@ pub enum Act {
     ReclaimOf(usize),
     /// Puts this byte as `Put` does. Where it is refused it comes back.
     Offer(u8, Result<u64, Refusal>),
-    /// Puts other bytes under one identifier a hundred times, each of which becomes persistent, with a checkpoint each time.
+    /// Puts other bytes under one identifier a hundred times, each of which becomes persistent, with a checkpoint each
+    /// time.
     Hundred,
 }
 

@@ -42,8 +42,8 @@ const HALTS: &[Act] = &[
     Act::KeepTicket,
 ];
 
-/// Three calls format the store, and three open it, four are the first round's writes and flush and the second round's write, and two more its
-/// flush and the root's write: the thirteenth call is the flush of the root.
+/// Three calls format the store, and three open it, four are the first round's writes and flush and the second round's
+/// write, and two more its flush and the root's write: the thirteenth call is the flush of the root.
 #[test]
 fn the_flush_of_the_root_fails(rt: HostRuntime) {
     tries(

@@ -32,8 +32,8 @@ impl Gate for Keeps {
 /// More bytes than eight chunks of two pages have.
 const TOO_MANY: usize = 70_000;
 
-/// Fills a history of ten events with a gate, and asks for one more: puts, of which one is refused, two turns of a reclaimer, and one of a
-/// reclaimer that has no sweep left, two turns of the pilot, and three of a stream behind them.
+/// Fills a history of ten events with a gate, and asks for one more: puts, of which one is refused, two turns of a
+/// reclaimer, and one of a reclaimer that has no sweep left, two turns of the pilot, and three of a stream behind them.
 const FILLS_TEN: &[Act] = &[
     Act::PutTold(10, 1, Ok(1)),
     Act::KeepTicket,
@@ -54,7 +54,8 @@ const FILLS_TEN: &[Act] = &[
     Act::PutTold(12, TOO_MANY, Err(Refusal::HistoryFull)),
 ];
 
-/// All that the gate is told of, which is the whole history: a refused put is recorded, and a turn with nothing to do isn't.
+/// All that the gate is told of, which is the whole history: a refused put is recorded, and a turn with nothing to do
+/// isn't.
 const TOLD: &str = "[Put, Put, Put, BeginSweep, MoveOne, Begin, Issue, Issue, Issue, End]";
 
 /// Fills a history with a gate that keeps what it is told.

@@ -12,8 +12,8 @@ use std::sync::{Arc, Wait};
 use std::thread;
 use std::thread::Threads;
 
-/// A gate that mixes what it is told into one number, by a load, a while for other threads, and a store: were two threads told at a time, one
-/// of them would be lost.
+/// A gate that mixes what it is told into one number, by a load, a while for other threads, and a store: were two
+/// threads told at a time, one of them would be lost.
 #[derive(Drop)]
 struct Mixes {
     told: Arc<AtomicU64, Global>,

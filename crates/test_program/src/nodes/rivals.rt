@@ -92,7 +92,8 @@ fn held_after(held: Option<u8>, event: &Event) -> Option<u8> {
     }
 }
 
-/// Asserts that all that was asked about the identifier that ends with this byte was answered by what was put and deleted before.
+/// Asserts that all that was asked about the identifier that ends with this byte was answered by what was put and
+/// deleted before.
 fn is_as_put<R: Abort>(rt: &R, history: &[(Event, Reply)], last: u8) {
     let mut held: Option<u8> = None;
     for entry in history {
@@ -115,7 +116,8 @@ fn accepted_in<R: Abort>(rt: &R, history: &[(Event, Reply)]) -> u64 {
     last
 }
 
-/// Asserts that all accepted commands are counted and persistent, and that all three shards were answered by what was put and deleted.
+/// Asserts that all accepted commands are counted and persistent, and that all three shards were answered by what was
+/// put and deleted.
 pub fn is_agreed<R: Abort>(rt: &R, ended: &Ended) {
     let accepted = accepted_in(rt, ended.history.as_slice());
     assert!(rt; ended.number == accepted);

@@ -105,8 +105,8 @@ fn a_reclaimer_runs_until_its_sweeps_are_done(rt: HostRuntime) {
     );
 }
 
-/// A sweep of format 3 whose second move fails is abandoned, once all commands are persistent. No other begins while its copy is noted. The
-/// pilot writes the copy, and then stages a root alone, after which the next sweep goes to its end.
+/// A sweep whose second move fails is abandoned, once all commands are persistent. No other begins while its copy is
+/// noted. The pilot writes the copy, and then stages a root alone. After that the next sweep goes to its end.
 const GIVES_UP_APART: &[Act] = &[
     Act::Put(10, Ok(1)),
     Act::KeepTicket,
@@ -138,8 +138,8 @@ const GIVES_UP_APART: &[Act] = &[
     Act::Sweep(Ok(Step::Idle)),
 ];
 
-/// Three calls format the store, five are the writes of the two shards, the run and the superblock, and their flush, and two the
-/// write of the root and its flush. The eleventh call reads the first shard, the twelfth the second one.
+/// Three calls format the store, five are the writes of the two shards, the run and the superblock, and their flush,
+/// and two the write of the root and its flush. The eleventh call reads the first shard, the twelfth the second one.
 #[test]
 fn a_pilot_stages_a_root_for_copies_that_are_left(rt: HostRuntime) {
     tries(

@@ -4,8 +4,8 @@ use super::tasks::Task;
 use super::{Store, Wanted, tries};
 use cs_node::Step;
 
-/// Syncs while a round is out whose only member is written: that round ends, then come the chunk and the index's page with the superblock of
-/// the chunk before, then the next superblock, then the root.
+/// Syncs while a round is out whose only member is written: that round ends, then come the chunk and the index's page
+/// with the superblock of the chunk before, then the next superblock, then the root.
 const BEFORE_AN_END: &[Act] = &[
     Act::Hire(true),
     Act::Put(10, Ok(1)),
@@ -31,7 +31,8 @@ fn a_sync_ends_the_round_that_is_out(rt: HostRuntime) {
     );
 }
 
-/// Syncs while a round is out of which one of two chunks is written: the other is, and the round ends. Then it is as above.
+/// Syncs while a round is out of which one of two chunks is written: the other is, and the round ends. Then it is as
+/// above.
 const BETWEEN_ISSUES: &[Act] = &[
     Act::Hire(true),
     Act::Put(10, Ok(1)),
@@ -59,9 +60,9 @@ fn a_sync_goes_on_with_a_round_that_is_half_written(rt: HostRuntime) {
     );
 }
 
-/// Syncs while a round of a stream is out, behind which a root waits that doesn't have the last put: the other member is written, and the
-/// round ends. Then come the next chunk and the index's next page with the superblock, then the first root with the next superblock, then the
-/// second root.
+/// Syncs while a round of a stream is out, behind which a root waits that doesn't have the last put: the other member
+/// is written, and the round ends. Then come the next chunk and the index's next page with the superblock, then the
+/// first root with the next superblock, then the second root.
 const BEHIND_A_ROOT: &[Act] = &[
     Act::Hire(true),
     Act::Put(10, Ok(1)),

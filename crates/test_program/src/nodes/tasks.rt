@@ -1,5 +1,5 @@
-//! What a test does with a node that did nothing yet, which is made and closed here. Few functions have a node, since whatever a function
-//! has is proved to be let go at each of its ends: all others are lent one.
+//! What a test does with a node that did nothing yet, which is made and closed here. Few functions have a node, since
+//! whatever a function has is proved to be let go at each of its ends: all others are lent one.
 ghost use Rattle.std.specs.Prelude.{◌≡◌, []};
 ghost use Rattle.cs_node.specs.Starts.{start_of};
 
@@ -24,8 +24,9 @@ use std::thread::Threads;
 pub enum Task {
     /// One hand does these acts.
     Plays(&'static [Act]),
-    /// The same with a gate that lets through so many turns and counts events: the acts up to the first look, how many events were counted by
-    /// then, the acts after it, and how many turns are left and how many events were counted in the end.
+    /// The same with a gate that lets through so many turns and counts events: the acts up to the first look, how many
+    /// events were counted by then, the acts after it, and how many turns are left and how many events were counted in
+    /// the end.
     Counts(u64, &'static [Act], u64, &'static [Act], u64, u64),
     /// Two hands do these acts beside one another.
     Beside(&'static [Act], &'static [Act]),
@@ -42,15 +43,16 @@ pub enum Task {
     Rests,
 }
 
-/// What hands give back: their purses, and a number, which is how many tickets they kept, where nothing else is counted.
+/// What hands give back: their purses, and a number, which is how many tickets they kept, where nothing else is
+/// counted.
 #[derive(Drop)]
 pub struct Gave<K: Naming> {
     pub purses: Vec<Purse<K>>,
     pub number: u64,
 }
 
-/// How many commands a node that was closed accepted, and how many of them are acknowledged, its history, and the number that was given
-/// back.
+/// How many commands a node that was closed accepted, and how many of them are acknowledged, its history, and the
+/// number that was given back.
 #[derive(Drop)]
 pub struct Ended {
     pub accepted: u64,

@@ -39,8 +39,8 @@ impl Gate for Counts {
     }
 }
 
-/// Does acts with a gate that lets through so many turns, up to a look at how many events it counted, and after it up to one at how many
-/// turns are left and how many events were counted.
+/// Does acts with a gate that lets through so many turns, up to a look at how many events it counted, and after it up
+/// to one at how many turns are left and how many events were counted.
 pub fn count_events<D: PageDisk, K: Naming, R: Wait + Abort>(
     rt: &R,
     alloc: Global,

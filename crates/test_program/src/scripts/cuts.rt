@@ -26,8 +26,8 @@ fn prints_cut(
     Ok(())
 }
 
-/// A line whose end is missing is read as it stands: an identifier without its payload and half a byte aren't readable, nor is a
-/// part of a word, and the line feed at the end isn't needed.
+/// A line whose end is missing is read as it stands: an identifier without its payload and half a byte aren't readable,
+/// nor is a part of a word, and the line feed at the end isn't needed.
 #[test]
 fn a_script_cut_after_each_byte(rt: HostRuntime) -> Result<(), Fail> {
     let text = script_text(rt.alloc(), "put @a 61 / sync")?;

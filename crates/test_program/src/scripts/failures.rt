@@ -34,7 +34,8 @@ pub fn core_that_fails(
     }
 }
 
-/// Asserts what a script prints on a disk of which a call fails, and its exit status, and that it leaves a core or none.
+/// Asserts what a script prints on a disk of which a call fails, and its exit status, and that it leaves a core or
+/// none.
 fn fails(
     rt: &(impl Abort + AllocGlobal),
     call: u64,
@@ -51,8 +52,8 @@ fn fails(
     Ok(())
 }
 
-/// The flush of the second round fails. The store halts, and a crash leaves the one before, with the volatile superblock or
-/// without.
+/// The flush of the second round fails. The store halts, and a crash leaves the one before, with the volatile
+/// superblock or without.
 #[test]
 fn a_crash_after_a_failed_flush(rt: HostRuntime) -> Result<(), Fail> {
     for (digit, kept) in [("0", 0), ("1", 1)] {
@@ -80,7 +81,8 @@ fn a_crash_after_which_no_store_is_opened(rt: HostRuntime) -> Result<(), Fail> {
     )
 }
 
-/// A call that fails, which rounds are printed before, and for a crash then its mask, what it keeps, and how many commands it leaves.
+/// A call that fails, which rounds are printed before, and for a crash then its mask, what it keeps, and how many
+/// commands it leaves.
 type Halt = (u64, &'static str, &'static str, &'static str, u64);
 
 /// The store halts, so what was put first is read from memory.

@@ -1,9 +1,9 @@
-//! Stores of format 3 of which a page of the root was torn by hand. An opening passes the page over. Until it is
+//! Stores of which a page of the root was torn by hand. An opening passes the page over. Until it is
 //! fenced nothing is written to a pair.
 use super::{end_of, printed, script_text};
 use cs_core::Core;
 use cs_disk::MemoryDisk;
-use cs_frame::{Format, Geometry, ShardId};
+use cs_frame::{Geometry, ShardId, StoreId};
 use cs_mount::{Finding, MountOptions, Mounted, fence};
 use cs_store::OpenOptions;
 use std::process::Abort;
@@ -15,7 +15,7 @@ const TORN: u64 = 1;
 /// The disk of a new store of 6 extents of 2 pages, with a byte of that page turned.
 fn torn_disk(rt: &(impl Abort + AllocGlobal)) -> Result<MemoryDisk, Fail> {
     let alloc = rt.alloc();
-    let geometry = Geometry::of_format(Format::three(), 6, 2, None)?;
+    let geometry = Geometry::for_file(StoreId([0; 16]), 6, 2, None)?;
     match MountOptions::new(alloc).create_in_memory(geometry) {
         Ok(core) => {
             let disk = core.into_disk().into_disk();

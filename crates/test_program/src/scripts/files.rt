@@ -1,11 +1,12 @@
 //! Stores in files.
 use super::{printed, script_text};
 use cs_core::Core;
-use cs_disk::{CrashDisk, FileDisk, OpenFault};
-use cs_frame::Geometry;
+use cs_disk::{CrashDisk, FileDisk, OpenFault, PageDisk};
+use cs_frame::{Geometry, ShardId, StoreId};
 use cs_mount::{MountOptions, Mounted};
 use cs_options::script::run_over;
 use cs_refusal::Refusal;
+use cs_store::{OpenOptions, pages_said};
 use std::alloc::Global;
 use std::fs::File;
 use std::process::Abort;
@@ -160,5 +161,56 @@ fn no_store_is_made(rt: HostRuntime) -> Result<(), Fail> {
     let path = "no_such_folder/store";
     let store = new_in_file(&rt, rt.alloc(), path, Geometry::new(6, 2)?);
     prints_over(&rt, store, &text, "refused 1 DeviceFault\n", 3);
+    Ok(())
+}
+
+/// A store of 16 pages in a new file, which has four pages more then.
+fn new_on_longer<R: Abort + AllocGlobal + Files<File = File>>(
+    rt: &R,
+    path: &str,
+) -> Result<(), Fail> {
+    let geometry = Geometry::for_file(StoreId([3; 16]), 6, 2, None)?;
+    assert!(rt; new_in_file(rt, rt.alloc(), path, geometry).is_ok());
+    let mut bytes = std::fs::read(rt, path)?;
+    for _ in 0..4 {
+        bytes.extend_from_slice(&[9; 4096])?;
+    }
+    std::fs::write(rt, path, bytes.as_slice())?;
+    Ok(())
+}
+
+/// Page 0 says how many pages the device had when its store was made.
+#[test]
+fn the_pages_of_a_longer_device(rt: HostRuntime) -> Result<(), Fail> {
+    let path = "cs_cli_pages";
+    new_on_longer(&rt, path)?;
+    match FileDisk::open_device(&rt, rt.alloc(), path) {
+        Ok(mut device) => {
+            assert!(&rt; device.pages() == 20);
+            let said = pages_said(rt.alloc(), &mut device);
+            assert!(&rt; said.is_ok_and(|said| said == Some(16)));
+            assert!(&rt; device.first_pages(16).pages() == 16);
+        }
+        Err(_) => panic!(&rt; "no device"),
+    }
+    std::fs::remove_file(&rt, path)?;
+    Ok(())
+}
+
+/// A store on a longer device is used, and the pages after its own stay as they are.
+#[test]
+fn a_store_on_a_longer_device(rt: HostRuntime) -> Result<(), Fail> {
+    let path = "cs_cli_longer";
+    new_on_longer(&rt, path)?;
+    match OpenOptions::new(rt.alloc()).open_file(&rt, path) {
+        Ok(mut store) => {
+            assert!(&rt; store.put(ShardId([1; 16]), b"a rope").is_ok());
+            assert!(&rt; store.sync().is_ok());
+        }
+        Err(_) => panic!(&rt; "not opened"),
+    }
+    let bytes = std::fs::read(&rt, path)?;
+    assert!(&rt; bytes.ends_with(&[9; 4096]));
+    std::fs::remove_file(&rt, path)?;
     Ok(())
 }

@@ -64,7 +64,8 @@ fn pages(rt: HostRuntime) -> Result<(), Fail> {
     Ok(())
 }
 
-/// The pages of two sections after seven puts, which fill all extents of the first, and a sync: page 0, and the one behind the extents.
+/// The pages of two sections after seven puts, which fill all extents of the first, and a sync: page 0, and the one
+/// behind the extents.
 const SECTIONS: &[(usize, &[u8])] = &[
     (
         0,

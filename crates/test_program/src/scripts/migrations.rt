@@ -5,8 +5,8 @@ use cs_disk::MemoryDisk;
 use std::process::Abort;
 use std::test::{Fail, *};
 
-/// How page 0 begins in the first format after one put and a sync on 6 extents of 2 pages; zeros follow. The digest is that which sha256sum
-/// makes.
+/// How page 0 begins in the first format after one put and a sync on 6 extents of 2 pages; zeros follow. The digest is
+/// that which sha256sum makes.
 const FIRST_FORMAT: &[u8] =
     b"CSS1\0\0\0\0\0\0\0\x03\0\x06\0\x02\0\x02\0\0\0\0\0\0\0\0\0\0\0\0\0\0\0\0\0\0\0\0\0\0\0\0\0\0\0\0\0\0\0\0\0\0\x1f\xe2\xc4\xcb\x0b\x99\x98\x63\xd2\xe2\x83\xe9\x16\xcc\x8d\x8e\x2a\xfd\x79\x34\xc7\xfe\xb1\xcf\x30\x27\xd1\xa7\x95\x6d\xbe\xef\0\0";
 
@@ -64,7 +64,8 @@ fn the_second_format_is_written(rt: HostRuntime) -> Result<(), Fail> {
     )
 }
 
-/// A crash that loses that version leaves the first format, and one that keeps it the second; the root is the one before in either.
+/// A crash that loses that version leaves the first format, and one that keeps it the second; the root is the one
+/// before in either.
 #[test]
 fn a_crash_beside_the_first_version(rt: HostRuntime) -> Result<(), Fail> {
     for (digit, begins) in [("0", b"CSS1"), ("1", b"CSS2")] {

@@ -4,8 +4,8 @@ use std::alloc::Global;
 use std::process::Abort;
 use std::test::Fail;
 
-/// What is put and deleted, swept twice and synced twice. The second sync writes nine rounds back, since the pages of both extents are
-/// used again behind the root of their sweep.
+/// What is put and deleted, swept twice and synced twice. The second sync writes nine rounds back, since the pages of
+/// both extents are used again behind the root of their sweep.
 const SCRIPT: &str =
     "put @a 61 / put @b 62 / sync / put @a 63 / sweep 0 / put @c 64 / sweep 1 / del @b / put @a 65 / sync";
 
@@ -64,8 +64,8 @@ fn mask_text(alloc: Global, count: usize, number: u64) -> Result<String, Fail> {
     Ok(digits)
 }
 
-/// Crashes after these lines, opens what is left, and asserts that it is the map after the first commands, of which none that was
-/// acknowledged is missing.
+/// Crashes after these lines, opens what is left, and asserts that it is the map after the first commands, of which
+/// none that was acknowledged is missing.
 fn crashes(
     rt: &(impl Abort + AllocGlobal),
     sections: u64,

@@ -67,8 +67,8 @@ fn found_after(
     }
 }
 
-/// The rounds have six, one, one, three, one and one members: with the begin of each and its end, 25 steps. A step that ends a round
-/// leaves nothing volatile, and is no stop.
+/// The rounds have six, one, one, three, one and one members: with the begin of each and its end, 25 steps. A step that
+/// ends a round leaves nothing volatile, and is no stop.
 #[test]
 fn each_stop_with_each_mask(rt: HostRuntime) -> Result<(), Fail> {
     let mut outcomes = Outcomes {

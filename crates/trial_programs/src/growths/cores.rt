@@ -39,8 +39,8 @@ frontier
 checkpoint
 base";
 
-/// What a store has that was opened anew, and puts that wait. A history grows at its events 1, 5, 9 and 17: a settle, a deletion, an abandoned
-/// sweep and one that begins.
+/// What a store has that was opened anew, and puts that wait. A history grows at its events 1, 5, 9 and 17: a settle, a
+/// deletion, an abandoned sweep and one that begins.
 const SECOND: &str = "opened
 settle 1
 get 10

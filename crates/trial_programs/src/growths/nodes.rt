@@ -48,7 +48,8 @@ put 13 100
 keep_ticket
 abandon";
 
-/// Makes the calls on a node over a new store, and tells how many commands were accepted and acknowledged, and a sum of what the disk holds.
+/// Makes the calls on a node over a new store, and tells how many commands were accepted and acknowledged, and a sum of
+/// what the disk holds.
 pub fn try_node<D: PageDisk + Drop, R: Wait + Print>(
     rt: &R,
     alloc: Global,

@@ -8,7 +8,7 @@ use crate::growths::marks::{begin_call, ended};
 use cs_deps::{Dependency, Element, Graph};
 use cs_disk::PageDisk;
 use cs_extent::Extents;
-use cs_frame::{Format, Locator, Places, Superblock, decode_section};
+use cs_frame::{Format, FormatNumber, Locator, Places, Superblock, decode_section};
 use cs_index::Index;
 use std::alloc::Global;
 use std::{io, mem};
@@ -49,7 +49,7 @@ fn tell_shard<R: Print>(rt: &R, index: &Index) -> Result<(), Fault> {
 fn superblock_of(alloc: Global, page: &[u8; 4096]) -> Result<Superblock, Fault>
     ensures { IfOk result (λ it. AreSections (it ∷ [])) }
 {
-    let superblock = decode_section(alloc, page, Format::two())?;
+    let superblock = decode_section(alloc, page, FormatNumber::Two)?;
     if superblock.sections != 1 || superblock.section != 0 {
         return Err(Fault::Missing);
     }
@@ -117,8 +117,8 @@ fn stage(
     Ok(graph.stage_version(family, 0, page, needs)?)
 }
 
-/// A graph of eight sections and the root, in which a plain write waits, versions of all sections that need it, and a root that needs these, all
-/// of them with these bytes.
+/// A graph of eight sections and the root, in which a plain write waits, versions of all sections that need it, and a
+/// root that needs these, all of them with these bytes.
 fn new_graph(alloc: Global, page: &[u8; 4096]) -> Result<Graph, Fault> {
     let mut graph = Graph::new(alloc, &[1; 9])?;
     match stage_all(alloc, &mut graph, page) {

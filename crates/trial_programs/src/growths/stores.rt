@@ -115,7 +115,8 @@ fn of<D: PageDisk + Drop, R: Print>(
     and_told(told, core)
 }
 
-/// A sum of the pages from one on and below another, by which one disk can be told from another; 0 where they are zeros.
+/// A sum of the pages from one on and below another, by which one disk can be told from another; 0 where they are
+/// zeros.
 pub fn sum_of<D: PageDisk>(disk: &mut D, from: u64, below: u64) -> Result<u64, Fault> {
     let mut sum: u64 = 0;
     let mut page = [0; 4096];

@@ -1,9 +1,9 @@
 //! Lines of the input: a word, and what it is about.
 
 use crate::tears::fates::read_fates;
-use crate::words::{bytes, id, number, place};
+use crate::words::{bytes, geometry_of, id, number, place};
 use cs_core::{Bytes, Event};
-use cs_frame::{Format, Geometry};
+use cs_frame::Geometry;
 use cs_twin::Fate;
 use std::alloc::{AllocError, Global};
 
@@ -79,12 +79,12 @@ fn read_put(alloc: Global, rest: &str) -> Result<Option<Line>, AllocError> {
 
 fn read_new(rest: &str) -> Option<Line> {
     let mut words = rest.splitn(5, ' ');
-    let format = Format::numbered(number(words.next()?)?)?;
+    let format = number(words.next()?)?;
     let extents = number(words.next()?)?;
     let pages = number(words.next()?)?;
     let sections = number(words.next()?)?;
     let calls = read_calls(words.next().unwrap_or(""))?;
-    let geometry = Geometry::of_format(format, extents, pages, Some(sections)).ok()?;
+    let geometry = geometry_of(format, extents, pages, Some(sections))?;
     Some(Line::New { geometry, calls })
 }
 

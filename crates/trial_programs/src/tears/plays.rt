@@ -14,13 +14,13 @@ use std::alloc::Global;
 use std::io::{BufRead, BufReader};
 use std::{io, mem};
 
-/// A making that is cut. Then a deletion whose root is torn, and so is the fence of its page; a second torn crash of that
-/// page has the bytes that would complete the deletion.
-const LINES: &str = "new 3 8 2 1 8
+/// A making that is cut. Then a deletion whose root is torn, and so is the fence of its page; a second torn crash of
+/// that page has the bytes that would complete the deletion.
+const LINES: &str = "new 4 8 2 1 8
 stop
 tear k t:0:20
 open
-new 3 8 2 1
+new 4 8 2 1
 put 00000000-0000-0000-0000-00000000000a 61
 stage
 begin

@@ -1,11 +1,13 @@
-//! Times a core, with no text around it, beside the digests alone of what it writes or reads. The second argument says what is
-//! timed, the third how often it is done, the fourth how many bytes a shard has, the fifth how many puts a batch has, the sixth
-//! how many extents of 256 pages the store has, whose superblock is one section but for `sections`, the seventh its format, 2 or 3:
+//! Times a core, with no text around it, beside the digests alone of what it writes or reads. The second argument says
+//! what is timed, the third how often it is done, the fourth how many bytes a shard has, the fifth how many puts a
+//! batch has, the sixth how many extents of 256 pages the store has, whose superblock is one section but for
+//! `sections`, the seventh its format, 2 or 3:
 //!
 //! - `puts`: each batch is put, staged and written back, round by round;
 //! - `gets`: so many puts are written back, and so many gets are timed;
 //! - `beside`: so many puts wait, and 1,000 gets of what was written back before are timed, then as many of what waits;
-//! - `sections`: as `puts`, on one new store after another, whose superblocks have 1, 4 and 8 sections, with a line for each.
+//! - `sections`: as `puts`, on one new store after another, whose superblocks have 1, 4 and 8 sections, with a line for
+//!   each.
 //!
 //! Where none is given, a few puts are done, and what they wrote is counted and not timed.
 mod counts;
@@ -24,7 +26,8 @@ use timings::Timed;
 /// How many pages an extent has.
 const PAGES: u64 = 256;
 
-/// How often it is done, with how many bytes a shard, how many puts a batch, how many extents, how many sections, and in which format.
+/// How often it is done, with how many bytes a shard, how many puts a batch, how many extents, how many sections, and
+/// in which format.
 #[derive(Clone, Copy)]
 pub struct Task {
     pub count: u64,

@@ -1,7 +1,8 @@
-//! Times the graph and the planner. The second argument says what is done with puts, each a plain write and a superblock version over all
-//! plain writes so far, and the third how many there are:
+//! Times the graph and the planner. The second argument says what is done with puts, each a plain write and a
+//! superblock version over all plain writes so far, and the third how many there are:
 //!
-//! - `plan`, and where none is given: all wait, with a root over the latest version at the end, and are planned at once;
+//! - `plan`, and where none is given: all wait, with a root over the latest version at the end, and are planned at
+//!   once;
 //! - `target`: the same, and what is planned is the latest superblock version and what it needs;
 //! - `steady`: a round is out all the time, and after each put it ends and the next is taken;
 //! - `gets`: all wait, and a million times the newest write to a page is looked up.

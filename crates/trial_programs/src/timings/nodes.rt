@@ -1,11 +1,13 @@
-//! Times a node. The second argument says what is done, the third how often it is done in all, the fourth with how many threads:
+//! Times a node. The second argument says what is done, the third how often it is done in all, the fourth with how many
+//! threads:
 //!
 //! - `stream`, and where none is given: a put between any two flushes, and all is written back by a stream;
 //! - `pilot`: the same, and all is written back by a pilot;
 //! - `puts`: threads put beside a pilot;
 //! - `polls`: threads poll a ticket beside a pilot that ends rounds;
 //! - `settles`: threads settle a ticket beside a pilot that ends rounds;
-//! - `endless`: threads put beside a stream and a reclaimer, with checkpoints, whatever is refused for want of room or of history;
+//! - `endless`: threads put beside a stream and a reclaimer, with checkpoints, whatever is refused for want of room or
+//!   of history;
 //! - `drops`: the same, and the first of the threads drops its first ticket.
 mod batches;
 mod calls;

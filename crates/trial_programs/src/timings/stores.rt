@@ -2,17 +2,18 @@
 ghost use Rattle.std.specs.Prelude.{◌≡◌, [], IfOk};
 
 use crate::faults::Fault;
+use crate::words::geometry_of;
 use cs_core::{Core, Limits};
 use cs_disk::MemoryDisk;
-use cs_frame::{Format, Geometry, ShardId};
+use cs_frame::{Geometry, ShardId};
 use cs_refusal::Refusal;
 use std::alloc::Global;
 
 /// How many events the core may record.
 const HISTORY: usize = 65_536;
 
-/// A core that did nothing yet, over a new store in memory of this format, of so many extents of so many pages, and of so many sections of
-/// its superblock.
+/// A core that did nothing yet, over a new store in memory of this format, of so many extents of so many pages, and of
+/// so many sections of its superblock.
 pub fn new_core(
     alloc: Global,
     form: u64,
@@ -22,10 +23,9 @@ pub fn new_core(
 ) -> Result<Core<MemoryDisk>, Fault>
     ensures { IfOk result (λ core. (core.history ≡ []) × (core.store.accepted ≡ 0)) }
 {
-    let Some(known) = Format::numbered(form) else {
+    let Some(geometry) = geometry_of(form, extents, pages, Some(sections)) else {
         return Err(Fault::Refused(Refusal::BadGeometry));
     };
-    let geometry = Geometry::of_format(known, extents, pages, Some(sections))?;
     let disk = MemoryDisk::new(alloc, geometry.device_pages())?;
     match format(alloc, disk, geometry) {
         Ok(core) => Ok(core),

@@ -1,4 +1,5 @@
-//! Lines of the input: a word, and up to four more. Identifiers are UUIDs, bytes are hex digits, a dash for none, and so are masks binary digits.
+//! Lines of the input: a word, and up to four more. Identifiers are UUIDs, bytes are hex digits, a dash for none, and
+//! so are masks binary digits.
 
 use crate::typed::calls::Call;
 use crate::words::{bytes, id, number, place};
@@ -15,7 +16,8 @@ pub enum Line {
         pages: u64,
         limit: usize,
     },
-    /// Closes the store, does something with its disk, and opens that anew with the so manyth device call from then on failing, none where it is 0.
+    /// Closes the store, does something with its disk, and opens that anew with the so manyth device call from then on
+    /// failing, none where it is 0.
     Reopen {
         between: Between,
         fails: u64,

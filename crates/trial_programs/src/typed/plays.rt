@@ -4,8 +4,9 @@ use crate::answers::print_refusal;
 use crate::typed::calls::{Call, make_call};
 use crate::typed::disks::{TrialDisk, image_after};
 use crate::typed::lines::{Between, Line, read_line};
+use crate::words::geometry_of;
 use cs_disk::{FailAt, MemoryDisk};
-use cs_store::{Format, Geometry, Limits, Mounted, OpenOptions, PageDisk, Refusal, Store};
+use cs_store::{Geometry, Limits, Mounted, OpenOptions, PageDisk, Refusal, Store};
 use std::alloc::Global;
 use std::io::{BufRead, BufReader};
 use std::{io, mem};
@@ -93,7 +94,7 @@ fn play<D: TrialDisk, R: AllocGlobal + Print>(
             pages,
             limit,
         } => {
-            let geometry = geometry_of(format, extents, pages);
+            let geometry = geometry_of(format, extents, pages, None);
             make(rt, held, geometry, Limits { history: limit })
         }
         Line::Reopen { between, fails } => reopen(rt, held, between, fails),
@@ -217,10 +218,4 @@ fn print_opened<D: TrialDisk, R: Print>(rt: &R, held: &Held<D>) -> io::Result<()
 fn print_found<R: Print>(rt: &R, found: (u64, usize)) -> io::Result<()> {
     let (commands, shards) = found;
     println!(rt; "open commands {commands} shards {shards}")
-}
-
-/// The geometry of these dimensions, where there is one.
-fn geometry_of(format: u64, extents: u64, pages: u64) -> Option<Geometry> {
-    let format = Format::numbered(format)?;
-    Geometry::of_format(format, extents, pages, None).ok()
 }

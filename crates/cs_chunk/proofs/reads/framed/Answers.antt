@@ -1,5 +1,6 @@
 use Rattle.std.proofs.Common.{sym}
-use Rattle.cs_frame.specs.Frames.{kind_byte, meant_fault}
+use Rattle.cs_frame.specs.Frames.{kind_byte}
+use Rattle.cs_frame.specs.MeantFrames.{meant_fault}
 use Rattle.cs_chunk.proofs.FrameFaults.{answered, frame_refusal}
 use Rattle.cs_chunk.proofs.reads.framed.Goals as goal
 

@@ -9,6 +9,7 @@ use Rattle.cs_extent.specs.State.{shape}
 use Rattle.cs_frame.specs.declared.locators.Locator.{Locator}
 use Rattle.cs_frame.specs.Formats.{formats_of}
 use Rattle.cs_frame.specs.Heads.{body_in}
+use Rattle.law_machine.specs.Format.{Format}
 use Rattle.cs_chunk.proofs.Sharded.{AreInside, all_read, meant_all, one_meant_more, one_more, reads_all, refused_at}
 use Rattle.cs_chunk.proofs.reads.read_chunks.Goals as goal
 use Rattle.cs_chunk.proofs.reads.read_chunks.Goals.{After-chunk_body, After-extent_count, After-frame_at}
@@ -25,9 +26,9 @@ view_here g c h view are = subst (λ (s : State). AreNewest c.args.graph.now (se
 inside : (g : Over) (c : After-extent_count g) → AreInside c.args.extents.now c.extent_count.ensures.whole (λ p. []) c.args.locators.now
 inside g c = λ k l at. subst (λ (m : Locator). m.page < c.args.extents.now.pages) (get_or_from_slice_get c.args.locators.now k l l at) (c.requires.places k l (slice_get_within c.args.locators.now k l at)).1
 
--- what is added is what is behind the head
+-- what is added is all but the head
 body_is : (g : Over) (c : After-chunk_body g) → c.chunk_body.result.now ≡ (formats_of (shape c.args.extents.now)).body c.in-Ok.chunk
-body_is g c = c.chunk_body.ensures ∙ ap (body_in c.format_of-format.result) c.payload.ensures.value ∙ ap (λ n. body_in n c.in-Ok.chunk) c.format_of-format.ensures
+body_is g c = c.chunk_body.ensures ∙ ap (body_in c.format_of-format.result) c.payload.ensures.value ∙ ap (λ (f : Format). body_in f c.in-Ok.chunk) c.format_of-format.ensures
 
 pub loop-k-preserved : goal.loop-k-preserved
 loop-k-preserved g c =

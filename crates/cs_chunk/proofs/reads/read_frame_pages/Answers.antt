@@ -3,6 +3,8 @@ use Rattle.cs_chunk.specs.Chunks.{end_in}
 use Rattle.cs_chunk.specs.Newest.{IsReadAs}
 use Rattle.cs_chunk.specs.Reads.{AreReadAs, IsOfFault, fault_in}
 use Rattle.cs_disk.specs.Disk.{State, seen}
+use Rattle.cs_frame.specs.declared.formats.FormatNumber.{FormatNumber}
+use Rattle.cs_frame.specs.FormatNumbers.{number_in}
 use Rattle.cs_frame.specs.Frames.{header_fault, kind_byte, page_count}
 use Rattle.cs_chunk.proofs.Framed.{header_refused, fronts_read}
 use Rattle.cs_chunk.proofs.FrameFaults.{header_refusal}
@@ -31,7 +33,9 @@ returns-in-Err-decode_frame_header-clause-fault g c = λ h view are.
     inr (
       c.in-Err-decode_frame_header.fault,
       header_refused c.args.extents.now c.page_number-number.ensures.whole view c.args.kind c.args.locator c.requires.page c.args.graph.now image are c.page_number-number.result c.page_number-number.ensures.number c.read_page.new.buffer (c.in-Ok.ensures.page h) c.in-Err-decode_frame_header.fault
-          (ap (λ n. header_fault (kind_byte c.args.kind) c.read_page.new.buffer n) there ∙ sym c.in-Err-decode_frame_header.ensures.fault),
+          (ap (λ n. header_fault (number_in c.args.extents.now.format) (kind_byte c.args.kind) c.read_page.new.buffer n) there
+          ∙ ap (λ (n : FormatNumber). header_fault n (kind_byte c.args.kind) c.read_page.new.buffer (c.end_of.result - c.from.result)) (sym (c.number.ensures.number ∙ ap number_in c.format_of.ensures))
+          ∙ sym c.in-Err-decode_frame_header.ensures.fault),
       c.refusal_of_fault.ensures.same,
     )
 
@@ -59,7 +63,7 @@ pub returns-in-Ok-decode_frame_header-clause-cause : goal.returns-in-Ok-decode_f
 returns-in-Ok-decode_frame_header-clause-cause g c = caused_on _ _ _ c.read_page.result c.read_pages.result c.read_page.ensures.cause c.read_pages.ensures.cause
 
 pub returns-in-Err-decode_frame_header-clause-refusals : goal.returns-in-Err-decode_frame_header-clause-refusals
-returns-in-Err-decode_frame_header-clause-refusals g c = header_refusal (kind_byte c.args.kind) c.read_page.new.buffer (c.end_of.result - c.from.result) c.in-Err-decode_frame_header.fault c.refusal_of_fault.result c.refusal_of_fault.ensures.number c.in-Err-decode_frame_header.ensures.fault
+returns-in-Err-decode_frame_header-clause-refusals g c = header_refusal c.number.result (kind_byte c.args.kind) c.read_page.new.buffer (c.end_of.result - c.from.result) c.in-Err-decode_frame_header.fault c.refusal_of_fault.result c.refusal_of_fault.ensures.number c.in-Err-decode_frame_header.ensures.fault
 
 pub returns-in-Err-decode_frame_header-clause-cause : goal.returns-in-Err-decode_frame_header-clause-cause
 returns-in-Err-decode_frame_header-clause-cause g c = header_caused _ _ c.read_page.result c.in-Err-decode_frame_header.fault c.refusal_of_fault.result c.refusal_of_fault.ensures.same c.read_page.ensures.cause

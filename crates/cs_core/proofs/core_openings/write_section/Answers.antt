@@ -1,9 +1,9 @@
-use Rattle.std.proofs.Common.{◌≡◌, ◌⊎◌, ◌∙◌, ◌<◌, inl, inr, ⊎_elim, ℕ, List, Result, Ok, Err, OnErr, OnOk, ap, arith, replicate, subst, sym}
+use Rattle.std.proofs.Common.{◌≡◌, ◌⊎◌, ◌∙◌, ◌<◌, inl, inr, ⊎_elim, ℕ, List, Result, Ok, Err, OnErr, OnOk, ap, arith, subst, sym}
 use Rattle.cs_disk.specs.Disk.{State as DiskState, written}
 use Rattle.cs_frame.specs.Geometries.{device_pages}
 use Rattle.cs_core.proofs.Heads.{head_below}
 use Rattle.cs_core.proofs.NewTaken.{others_taken}
-use Rattle.cs_core.proofs.Starting.{spelled_new}
+use Rattle.cs_core.proofs.Starting.{section_geometry, spelled_new}
 use Rattle.cs_core.proofs.core_openings.write_section.Goals as goal
 use Rattle.cs_core.specs.Started.{head_page, SpellsNew}
 
@@ -24,6 +24,7 @@ write-requires g c =
     let it = c.args.superblock.now in
     let below : head_page c.args.geometry.extents c.args.geometry.pages it.section < device_pages c.args.geometry.format c.args.geometry.extents c.args.geometry.pages c.args.geometry.sections =
     head_below c.args.geometry.format c.args.geometry.extents c.args.geometry.pages c.args.geometry.sections it.section
+    (section_geometry c.args.geometry.format c.args.geometry.extents c.args.geometry.pages c.args.geometry.sections it.section it c.requires.section)
     (subst (λ (n : ℕ). it.section < n) c.requires.section.section_at.of_sections c.requires.section.section_at.is.one_of_them) in
     omega (arith, below, c.section_page-number.ensures, c.requires.sized)
 

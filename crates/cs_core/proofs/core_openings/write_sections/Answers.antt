@@ -6,9 +6,10 @@ use Rattle.cs_core.proofs.Heads.{head_failed, head_is, more_written, none_writte
 use Rattle.cs_core.proofs.NewTaken.{taken_from}
 use Rattle.cs_core.proofs.Starting.{moved_section}
 use Rattle.cs_core.proofs.core_openings.write_sections.Goals as goal
+use Rattle.law_machine.specs.Format.{Format}
 
 -- section k of those that are given
-section_k : (format extents pages sections k : ℕ) (items : List Superblock) (it : Superblock) → ((j : ℕ) (other : Superblock) → slice_get items j ≡ Some other → IsNewSection format extents pages sections j other)
+section_k : (format : Format) (extents pages sections k : ℕ) (items : List Superblock) (it : Superblock) → ((j : ℕ) (other : Superblock) → slice_get items j ≡ Some other → IsNewSection format extents pages sections j other)
     → slice_get items k ≡ Some it → IsNewSection format extents pages sections it.section it
 section_k format extents pages sections k items it each at =
     let here = each k it at in
@@ -19,7 +20,7 @@ loop-k-init g c = record {
   honesty = ((λ h. h), (λ h. h));
   size = refl;
   failures = omega arith;
-  written = λ h. none_written c.args.geometry.format c.args.geometry.extents c.args.geometry.pages c.args.geometry.sections (g.D.PageDisk.state c.args.disk.now) (g.met.D.PageDisk.sized c.args.disk.now h ∙ c.requires.sized);
+  written = λ h. none_written c.args.geometry.format c.args.geometry.extents c.args.geometry.pages c.args.geometry.sections c.requires.new.geometry (g.D.PageDisk.state c.args.disk.now) (g.met.D.PageDisk.sized c.args.disk.now h ∙ c.requires.sized);
   taken = λ h sound takes. refl;
   rest = λ h sound takes. (sound, takes);
 }
@@ -45,7 +46,7 @@ loop-k-preserved g c =
       failures = omega (arith, c.loop-k.invariant.failures, c.write_section.ensures.cause.later);
       written = λ h.
           let w = moved_section s.format s.extents s.pages s.sections it.section c.loop-k.k place (g.D.PageDisk.state c.loop-k.disk) (g.D.PageDisk.state c.write_section.new.disk) (c.in-Ok.ensures.written (c.loop-k.invariant.honesty.0 h)) in
-          more_written s.format s.extents s.pages s.sections (g.D.PageDisk.state c.args.disk.now) (g.met.D.PageDisk.sized c.args.disk.now h ∙ c.requires.sized) c.loop-k.k (g.D.PageDisk.state c.loop-k.disk) (g.D.PageDisk.state c.write_section.new.disk)
+          more_written s.format s.extents s.pages s.sections c.requires.new.geometry (g.D.PageDisk.state c.args.disk.now) (g.met.D.PageDisk.sized c.args.disk.now h ∙ c.requires.sized) c.loop-k.k (g.D.PageDisk.state c.loop-k.disk) (g.D.PageDisk.state c.write_section.new.disk)
           w.0 (c.loop-k.invariant.written h) lt w.1 w.2;
       taken = λ h sound takes.
           let so_far = c.loop-k.invariant.rest h sound takes in

@@ -5,5 +5,5 @@ use Rattle.cs_frame.proofs.frames.whole_frame_in.Goals as goal
 
 pub returns-clause-spelled : goal.returns-clause-spelled
 returns-clause-spelled c =
-    subst (λ (ps : List (List ℕ)). SpellsFrame (kind_byte c.args.kind) ps (payload_in ps)) c.deref.ensures.value
-    (spells (kind_byte c.args.kind) c.deref.result.now (payload_in c.deref.result.now) c.in-Ok.ensures.pages c.in-Ok.ensures.bytes (sym c.in-Ok.ensures.fault) refl)
+    subst (λ (ps : List (List ℕ)). SpellsFrame c.args.number (kind_byte c.args.kind) ps (payload_in ps)) c.deref.ensures.value
+    (spells c.args.number (kind_byte c.args.kind) c.deref.result.now (payload_in c.deref.result.now) c.in-Ok.ensures.pages c.in-Ok.ensures.bytes (sym c.in-Ok.ensures.fault) refl)

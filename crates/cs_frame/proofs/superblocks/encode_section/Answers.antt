@@ -1,4 +1,5 @@
 use Rattle.std.proofs.Common.{ℕ, subst}
+use Rattle.law_machine.specs.Format.{Format}
 use Rattle.cs_frame.specs.Superblocks.{SpellsSuperblock}
 use Rattle.cs_frame.proofs.SuperblockLaws.{same_section}
 use Rattle.cs_frame.proofs.superblocks.encode_section.Goals as goal
@@ -18,7 +19,7 @@ spelled_page-requires c =
 
 pub returns : goal.returns
 returns c =
-    subst (λ (n : ℕ). SpellsSuperblock c.spelled_page.result n c.args.version c.args.recorded c.args.geometry.extents c.args.geometry.pages c.args.geometry.sections c.args.section c.args.extents.now) c.format.ensures.format
+    subst (λ (n : Format). SpellsSuperblock c.spelled_page.result n c.args.version c.args.recorded c.args.geometry.extents c.args.geometry.pages c.args.geometry.sections c.args.section c.args.extents.now) c.format.ensures.format
     (subst (λ (n : ℕ). SpellsSuperblock c.spelled_page.result c.format.result c.args.version c.args.recorded n c.args.geometry.pages c.args.geometry.sections c.args.section c.args.extents.now) c.extents.ensures.extents
     (subst (λ (n : ℕ). SpellsSuperblock c.spelled_page.result c.format.result c.args.version c.args.recorded c.extents.result n c.args.geometry.sections c.args.section c.args.extents.now) c.pages.ensures.pages
     (subst (λ (n : ℕ). SpellsSuperblock c.spelled_page.result c.format.result c.args.version c.args.recorded c.extents.result c.pages.result n c.args.section c.args.extents.now) c.sections.ensures.sections

@@ -1,4 +1,5 @@
 use Rattle.std.proofs.Common.{◌≤◌, ◌∙◌, ap, arith, length, ℕ}
+use Rattle.cs_frame.specs.FormatNumbers.{number_in}
 use Rattle.cs_frame.specs.Pages.{padded, sealed}
 use Rattle.cs_frame.specs.Pointers.{FitsExtent, FitsGeneration}
 use Rattle.cs_frame.proofs.Pieces.{AllByRecursion-and}
@@ -10,7 +11,7 @@ unsealed-page-requires c = omega (arith, c.requires.count, extents_in_page c.arg
 
 pub seal-requires : goal.seal-requires
 seal-requires c =
-    omega (arith, ap length c.unsealed-page.ensures.text, length-superblock_fields c.args.head.format c.args.head.version c.args.head.recorded c.args.head.extent_count c.args.head.pages c.args.head.sections c.args.head.section c.args.extents.now, c.requires.count, end_in_page c.args.head.format c.args.head.extent_count c.args.head.pages c.args.head.sections c.args.head.section c.requires.geometry)
+    omega (arith, ap length c.unsealed-page.ensures.text, length-superblock_fields c.args.head.format c.args.head.version c.args.head.recorded c.args.head.extent_count c.args.head.pages c.args.head.sections c.args.head.section c.args.extents.now c.requires.geometry.fits_format, c.requires.count, end_in_page (number_in c.args.head.format) c.args.head.format c.args.head.extent_count c.args.head.pages c.args.head.sections c.args.head.section c.requires.geometry)
 
 pub returns : goal.returns
 returns c = record {

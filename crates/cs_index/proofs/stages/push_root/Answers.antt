@@ -1,12 +1,13 @@
-use Rattle.std.proofs.Common.{◌≡◌, ◌∙◌, ◌⊎◌, ◌+◌, Bool, ap, arith, subst, Err, ⊎_elim, ℕ}
+use Rattle.std.proofs.Common.{◌≡◌, ◌∙◌, ◌⊎◌, ◌+◌, Bool, List, Option, ap, arith, subst, Err, ⊎_elim, ℕ}
 use Rattle.std.specs.Prelude.{◌↔◌}
 use Rattle.cs_refusal.specs.declared.refusals.Refusal.{Refusal}
 use Rattle.cs_refusal.specs.declared.refusals.Refusal.TheVariants.{UnknownNeed, OwnFamily, WornOut, OutOfMemory}
 use Rattle.cs_deps.specs.declared.elements.Element.{Element}
 use Rattle.cs_deps.specs.Named.{Names}
 use Rattle.cs_extent.specs.Frames.{IsRootNeed, root_pages}
-use Rattle.cs_frame.specs.Roots.{SpellsRoot}
-use Rattle.cs_index.proofs.Rooted.{not_own_family, root_families, root_number, root_rises, within_needs}
+use Rattle.cs_frame.proofs.RootLaws.{root_of_format}
+use Rattle.cs_frame.specs.Roots.{SpellsRoot, identity_in}
+use Rattle.cs_index.proofs.Rooted.{below_worn, not_own_family, root_families, root_number, root_rises, within_needs}
 use Rattle.cs_index.proofs.stages.push_root.Goals as goal
 
 pub unreachable-requires : goal.unreachable-requires
@@ -24,6 +25,13 @@ unreachable-requires c =
     o)
     e.refusals
 
+-- the root's identity is that of the format
+pub encode_root-page-requires : goal.encode_root-page-requires
+encode_root-page-requires c =
+    root_of_format c.args.format _ c.store.ensures.store (omega arith)
+    (below_worn c.args.graph.now.staging c.last_version-version.result c.last_version-version.ensures c.requires.number)
+    c.requires.commands c.requires.places c.requires.marks
+
 pub returns-clause-staged : goal.returns-clause-staged
 returns-clause-staged c =
     let e = c.in-Ok.ensures in
@@ -32,7 +40,12 @@ returns-clause-staged c =
       needs = c.root_needs-needs.result;
       names = subst (λ (first : Bool). (x : Element) → Names c.root_needs-needs.result x ↔ IsRootNeed (root_pages first c.args.graph.now.staging.staged) c.args.graph.now.staging.latest x) c.pages_first.ensures c.root_needs-needs.ensures.names;
       version = e.staged;
-      page = (c.encode_root-page.result, e.write, subst (λ (n : ℕ). SpellsRoot c.encode_root-page.result c.args.format n c.args.commands c.args.places.items) number c.encode_root-page.ensures);
+      page = (
+        c.encode_root-page.result,
+        e.write,
+        subst (λ (n : ℕ). SpellsRoot c.encode_root-page.result (identity_in c.args.format) n c.args.commands c.args.places.items) number
+            (subst (λ (store : Option (List ℕ)). SpellsRoot c.encode_root-page.result store (c.last_version-version.result + 1) c.args.commands c.args.places.items) c.store.ensures.store c.encode_root-page.ensures),
+      );
       others = e.others;
       round = e.round;
     }

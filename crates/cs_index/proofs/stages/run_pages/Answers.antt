@@ -10,6 +10,7 @@ use Rattle.cs_index.proofs.Staging.{counts_of}
 use Rattle.cs_index.proofs.Weights.{entries_weigh, most_few}
 use Rattle.cs_index.proofs.stages.run_pages.Goals as goal
 use Rattle.cs_index.proofs.stages.run_pages.Goals.{After-run_size}
+use Rattle.law_machine.specs.Format.{Format}
 
 pub run_size-requires-clause-few : goal.run_size-requires-clause-few
 run_size-requires-clause-few c = counts_of c.args.run.now.entries.items c.requires.short
@@ -20,7 +21,7 @@ run_size-requires-clause-most c =
 
 -- how many bytes the payload has
 bytes_are : (c : After-run_size) → c.run_size.result ≡ run_size c.args.extents.now.format (entries_of c.args.run.now.entries.items)
-bytes_are c = c.run_size.ensures ∙ ap (λ (f : ℕ). run_size f (entries_of c.args.run.now.entries.items)) (c.format.ensures.format ∙ c.geometry.ensures.format)
+bytes_are c = c.run_size.ensures ∙ ap (λ (f : Format). run_size f (entries_of c.args.run.now.entries.items)) (c.format.ensures.format ∙ c.geometry.ensures.format)
 
 pub frame_pages-requires : goal.frame_pages-requires
 frame_pages-requires c =
@@ -29,7 +30,7 @@ frame_pages-requires c =
 
 pub returns-clause-count : goal.returns-clause-count
 returns-clause-count c =
-    c.frame_pages.ensures ∙ ap page_count (bytes_are (goal.at.returns-clause-count c).After-run_size) ∙ sym (run_pages c.args.extents.now c.args.run.now.entries.items c.requires.short)
+    c.frame_pages.ensures ∙ ap page_count (bytes_are (goal.at.returns-clause-count c).After-run_size) ∙ sym (run_pages c.args.extents.now c.args.run.now.entries.items c.geometry.ensures.whole.geometry.fits_format c.requires.short)
 
 pub returns-clause-fits : goal.returns-clause-fits
 returns-clause-fits c =

@@ -8,17 +8,16 @@ use Rattle.cs_extent.specs.Places.{GoesIn}
 use Rattle.cs_extent.specs.Purposes.{reason_of}
 use Rattle.cs_extent.specs.State.{shape}
 use Rattle.cs_extent.specs.Worn.{IsFrameWorn}
-use Rattle.cs_frame.proofs.RootLaws.{most_runs}
+use Rattle.cs_index.proofs.OfFormat.{most_runs}
 use Rattle.cs_frame.specs.declared.locators.Locator.{Locator}
-use Rattle.cs_frame.specs.Geometries.{IsKnown}
 use Rattle.cs_frame.specs.Locators.{KeepFormat}
-use Rattle.cs_frame.specs.Roots.{greatest_runs}
 use Rattle.cs_index.specs.Staged.{IsRootOver, IsRootWorn, IsWhy, run_frame}
 use Rattle.cs_index.specs.State.{named_entry}
 use Rattle.cs_index.proofs.Exact.{why_same, why_worn, written_why}
 use Rattle.cs_index.proofs.Marks.{more_keep, placed_keeps}
 use Rattle.cs_index.proofs.Rooted.{frame_below, run_staged_by}
-use Rattle.law_machine.specs.Geometry.{pages_first_in}
+use Rattle.law_machine.specs.Format.{Format}
+use Rattle.law_machine.specs.Geometry.{most_runs_in, pages_first_in}
 use Rattle.cs_index.proofs.stages.stage_run.Goals as goal
 use Rattle.cs_index.proofs.stages.stage_run.Goals.{After-append}
 
@@ -41,12 +40,9 @@ push_root-version-requires-clause-number c =
     frame_below c.prepare.new.graph.staging c.append.new.graph.staging _ _ _ _ _ _ c.in-Ok.ensures.appended.staged
     (λ worn. c.in_ok-frame.ensures.why.1 (subst (λ (s : Staging). IsRootWorn s) (staging_is at) worn))
 
-pub push_root-version-requires-clause-format : goal.push_root-version-requires-clause-format
-push_root-version-requires-clause-format c = subst (λ (f : ℕ). IsKnown f) (sym c.format-format.ensures.format) c.format-format.ensures.geometry.known
-
 pub push_root-version-requires-clause-places : goal.push_root-version-requires-clause-places
 push_root-version-requires-clause-places c =
-    let same : greatest_runs c.format-format.result ≡ greatest_runs c.args.extents.now.format = ap greatest_runs (c.format-format.ensures.format ∙ c.geometry.ensures.format) in
+    let same : most_runs_in c.format-format.result ≡ most_runs_in c.args.extents.now.format = ap most_runs_in (c.format-format.ensures.format ∙ c.geometry.ensures.format) in
     omega (
       arith,
       same,
@@ -62,14 +58,14 @@ pub push_root-version-requires-clause-marks : goal.push_root-version-requires-cl
 push_root-version-requires-clause-marks c =
     let older = subst (λ (ls : List Locator). KeepFormat c.args.extents.now.format ls) (sym c.in_ok-frame.ensures.places) c.requires.marks in
     subst (λ (ls : List Locator). KeepFormat c.format-format.result ls) (sym c.push_reserved.ensures.items)
-    (subst (λ (f : ℕ). KeepFormat f (c.in_ok-frame.places.items ++ c.in-Ok.place ∷ [])) (sym (c.format-format.ensures.format ∙ c.geometry.ensures.format))
+    (subst (λ (f : Format). KeepFormat f (c.in_ok-frame.places.items ++ c.in-Ok.place ∷ [])) (sym (c.format-format.ensures.format ∙ c.geometry.ensures.format))
     (more_keep c.args.extents.now.format c.in_ok-frame.places.items c.in-Ok.place older (placed_keeps c.args.extents.now c.deref.result.now c.in-Ok.place c.in-Ok.ensures.appended.place)))
 
 pub returns-in-Ok-clause-staged : goal.returns-in-Ok-clause-staged
 returns-in-Ok-clause-staged c =
     let x = c.args.extents.now in
     let root = subst (λ (ls : List Locator). IsRootOver x.format (pages_first_in x.format) c.append.new.graph c.push_root-version.new.graph c.push_root-version.result c.args.commands ls) c.push_reserved.ensures.items
-    (subst (λ (f : ℕ). IsRootOver f (pages_first_in f) c.append.new.graph c.push_root-version.new.graph c.push_root-version.result c.args.commands c.push_reserved.new.self.items)
+    (subst (λ (f : Format). IsRootOver f (pages_first_in f) c.append.new.graph c.push_root-version.new.graph c.push_root-version.result c.args.commands c.push_reserved.new.self.items)
     (c.format-format.ensures.format ∙ c.geometry.ensures.format) c.push_root-version.ensures.staged) in
     run_staged_by (shape x).apart x c.args.graph.now c.prepare.new.graph (reason_of c.args.purpose) (map named_entry c.args.run.now.entries.items) c.args.older.now c.in-Ok.place c.push_root-version.result c.args.commands c.append.new.self c.push_root-version.new.graph
     c.deref.result.now c.in_ok-frame.places.items c.in_ok-frame.ensures.rest (c.deref.ensures.value ∙ c.in_ok-frame.ensures.frame) c.in_ok-frame.ensures.places (c.append.new.graph, c.in-Ok.ensures.appended, root)

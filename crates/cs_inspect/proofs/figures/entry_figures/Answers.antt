@@ -1,18 +1,23 @@
-use Rattle.std.proofs.Common.{◌≢◌, ◌∙◌, ◌+◌, ◌*◌, ℕ, Bool, List, [], ap, length, map, sym}
-use Rattle.std.specs.Prelude.{if◌then◌else◌}
+use Rattle.std.proofs.Common.{◌≡◌, ◌≢◌, ◌∙◌, ℕ, false, List, [], ap, length, map, refl, sym, true≢false}
 use Rattle.std.proofs.lemmas.List.{length-map}
 use Rattle.cs_index.specs.State.{id_number, index_of}
 use Rattle.law_machine.proofs.Weights.{ones_weigh}
-use Rattle.law_machine.specs.Geometry.{weigh_in}
+use Rattle.law_machine.specs.Format.{Format, Four, Two}
+use Rattle.law_machine.specs.Geometry.{marks_in, weigh_in}
 use Rattle.law_machine.specs.Index.{live_at}
 use Rattle.cs_inspect.specs.Chunks.{Chunk, chunk_of}
 use Rattle.cs_inspect.proofs.Counted.{all_one}
 use Rattle.cs_inspect.proofs.Inside.{live_chunks_one}
 use Rattle.cs_inspect.proofs.figures.entry_figures.Goals as goal
 
+-- in a format without marks each entry weighs one
+each_one : (format : Format) → marks_in format ≡ false → (n : ℕ) → weigh_in format n ≡ 1
+each_one Two plain n = refl
+each_one (Four store device) plain n = absurd (true≢false plain)
+
 pub returns-clause-ones : goal.returns-clause-ones
 returns-clause-ones c = λ plain. c.weight.ensures.weight
-    ∙ ones_weigh (weigh_in c.args.index.now.format) (λ n. ap (λ (b : Bool). if b then 17 + 16 * n else 1) plain) (index_of c.args.index.now)
+    ∙ ones_weigh (weigh_in c.args.index.now.format) (each_one c.args.index.now.format plain) (index_of c.args.index.now)
     ∙ sym c.named_count.ensures.count
 
 pub returns-clause-shards : goal.returns-clause-shards

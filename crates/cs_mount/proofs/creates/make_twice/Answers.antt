@@ -3,7 +3,7 @@ use Rattle.cs_disk.specs.Disk.{MayLeave, State}
 use Rattle.cs_mount.specs.Makings.{LeavesLaying}
 use Rattle.cs_mount.proofs.Laying.{flushed_left}
 use Rattle.cs_twin.specs.Paired.{state_shown}
-use Rattle.cs_mount.proofs.NewMade.{made_both, made_found, made_recovers, made_shows, made_start, made_store, made_written}
+use Rattle.cs_mount.proofs.NewMade.{made_both, made_found, made_one, made_recovers, made_shows, made_start, made_store, made_written}
 use Rattle.cs_mount.proofs.creates.make_twice.Goals as goal
 
 pub returns-in-Ok-open-clause-store : goal.returns-in-Ok-open-clause-store
@@ -25,7 +25,7 @@ returns-in-Ok-open-clause-found g c = λ h.
     let mid = c.lay_store.new.disk in
     let there = c.lay_store.ensures.honest.0 h in
     let count = c.lay_store.ensures.pages ∙ sym c.requires.sized in
-    made_found _ c.in-Ok-open.core.store c.in-Ok-open.core.found (c.in-Ok-open.ensures.recovers there d.format d.extents d.pages d.sections c.requires.geometry count 0 _
+    made_found _ c.in-Ok-open.core.store c.in-Ok-open.core.found (c.in-Ok-open.ensures.recovers there (c.in-Ok-open.ensures.one there) d.format d.extents d.pages d.sections c.requires.geometry count 0 _
     (made_recovers d c.requires.geometry c.requires.twins (D.state disk) (g.met.D.PageDisk.sized disk h ∙ sym c.requires.sized) (D.page_count mid) (D.state mid) count (c.in-Ok.ensures.laid h)))
 
 pub returns-in-Ok-open-clause-start : goal.returns-in-Ok-open-clause-start
@@ -63,7 +63,8 @@ returns-clause-cause g c = λ h is.
     let mid = c.lay_store.new.disk in
     let there = c.lay_store.ensures.honest.0 h in
     let count = c.lay_store.ensures.pages ∙ sym c.requires.sized in
-    let none = c.in-Err-open.ensures.recovers there d.format d.extents d.pages d.sections c.requires.geometry count 0 _
+    let one = made_one d c.requires.geometry c.requires.twins (D.state disk) (g.met.D.PageDisk.sized disk h ∙ sym c.requires.sized) (D.page_count mid) (D.state mid) count (c.in-Ok.ensures.laid h) in
+    let none = c.in-Err-open.ensures.recovers there one d.format d.extents d.pages d.sections c.requires.geometry count 0 _
     (made_recovers d c.requires.geometry c.requires.twins (D.state disk) (g.met.D.PageDisk.sized disk h ∙ sym c.requires.sized) (D.page_count mid) (D.state mid) count (c.in-Ok.ensures.laid h)) in
     let rises = c.in-Err-open.ensures.cause (sym (c.refusal_of_making.ensures.same none) ∙ is) in
     omega (arith, rises, c.lay_store.ensures.cause.later)

@@ -1,10 +1,23 @@
-use Rattle.std.proofs.Common.{◌∙◌, ◌-◌, List, ap, refl, subst}
+use Rattle.std.proofs.Common.{◌∙◌, ◌-◌, List, ap, refl, subst, arith}
 use Rattle.cs_disk.specs.Disk.{Write}
+use Rattle.cs_frame.proofs.GeometryLaws.{pages_on_device}
 use Rattle.cs_mount.specs.Makings.{LeavesSome, after_writes, clearing, zero_page}
 use Rattle.cs_mount.specs.StorePairs.{pages_of}
 use Rattle.cs_mount.proofs.Laying.{and_flush, flush_made}
 use Rattle.cs_mount.proofs.NewPages.{two_are}
 use Rattle.cs_mount.proofs.makings.clear.Goals as goal
+
+pub write_two-requires-clause-first : goal.write_two-requires-clause-first
+write_two-requires-clause-first g c =
+    let d = c.args.geometry in
+    let on = pages_on_device d.format d.extents d.pages d.sections c.requires.geometry in
+    omega (arith, on, c.requires.sized)
+
+pub write_two-requires-clause-second : goal.write_two-requires-clause-second
+write_two-requires-clause-second g c =
+    let d = c.args.geometry in
+    let on = pages_on_device d.format d.extents d.pages d.sections c.requires.geometry in
+    omega (arith, on, c.requires.sized, c.device_pages-last.ensures)
 
 pub returns-in-Ok-clause-made : goal.returns-in-Ok-clause-made
 returns-in-Ok-clause-made g c = λ h.

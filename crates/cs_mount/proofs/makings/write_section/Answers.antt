@@ -3,8 +3,7 @@ use Rattle.std.specs.List.{AllByRecursion}
 use Rattle.cs_disk.specs.Disk.{Write}
 use Rattle.cs_mount.specs.Makings.{LeavesSome, after_writes, both_halves, pair_of_section}
 use Rattle.cs_mount.proofs.Laying.{none_yet}
-use Rattle.cs_core.proofs.Starting.{pair_is}
-use Rattle.cs_mount.proofs.NewPages.{rows_low, section_writes}
+use Rattle.cs_mount.proofs.NewPages.{pair_is, rows_low, section_writes}
 use Rattle.cs_mount.proofs.makings.write_section.Goals as goal
 
 pub returns-in_default-clause-some : goal.returns-in_default-clause-some

@@ -5,13 +5,26 @@ use Rattle.cs_mount.specs.StorePairs.{store_version}
 use Rattle.cs_mount.proofs.Torn.{torn_opened}
 use Rattle.cs_mount.proofs.mount_laws.a_torn_crash_is_opened.Goals as goal
 
-pub returns : goal.returns
-returns g c = λ honest three image tear.
+pub returns-clause-prefix : goal.returns-clause-prefix
+returns-clause-prefix g c = λ honest twins image tear count start recovers undamaged.
     let D = g.D.PageDisk in
     let v = c.args.core.now in
     let p = v.disk in
     let s = D.state p.disk in
     let long = g.met.D.PageDisk.sized p.disk honest in
     let device = c.progress.ensures.core.device in
-    torn_opened _ v c.progress.ensures.core honest (sized_shown (store_version p.rules.geometry) p.pairs.items s.durable ∙ long) three s image c.progress.ensures.whole.geometry p.rules.geometry p.pairs.items refl
+    (torn_opened _ v c.progress.ensures.core honest (sized_shown (store_version p.rules.geometry) p.pairs.items s.durable ∙ long) twins s image c.progress.ensures.whole.geometry p.rules.geometry p.pairs.items refl
     (long ∙ device) (p.right honest).newer (p.right honest).guarded (subst (λ n. ∥ IsOfStore p.rules.geometry p.pairs.items n s.durable ∥₁) device (p.fit honest).durable) tear (c.progress.ensures.left honest)
+    count start recovers undamaged).1 count start recovers undamaged
+
+pub returns-clause-one : goal.returns-clause-one
+returns-clause-one g c = λ honest twins image tear count start recovers undamaged.
+    let D = g.D.PageDisk in
+    let v = c.args.core.now in
+    let p = v.disk in
+    let s = D.state p.disk in
+    let long = g.met.D.PageDisk.sized p.disk honest in
+    let device = c.progress.ensures.core.device in
+    (torn_opened _ v c.progress.ensures.core honest (sized_shown (store_version p.rules.geometry) p.pairs.items s.durable ∙ long) twins s image c.progress.ensures.whole.geometry p.rules.geometry p.pairs.items refl
+    (long ∙ device) (p.right honest).newer (p.right honest).guarded (subst (λ n. ∥ IsOfStore p.rules.geometry p.pairs.items n s.durable ∥₁) device (p.fit honest).durable) tear (c.progress.ensures.left honest)
+    count start recovers undamaged).0

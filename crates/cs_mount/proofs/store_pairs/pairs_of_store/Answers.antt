@@ -1,4 +1,5 @@
-use Rattle.std.proofs.Common.{arith, ◌∙◌, ◌≡◌, ◌+◌, sym}
+use Rattle.std.proofs.Common.{ap, arith, ◌∙◌, ◌≡◌, ◌+◌, sym}
+use Rattle.law_machine.specs.Geometry.{twins_in}
 use Rattle.cs_mount.proofs.Twins.{listed_apart, pairs_more}
 use Rattle.cs_mount.proofs.store_pairs.pairs_of_store.Goals as goal
 
@@ -8,4 +9,4 @@ loop-k-preserved c = pairs_more c.args.geometry c.loop-k.pairs.items c.push.new.
 pub returns-clause-are : goal.returns-clause-are
 returns-clause-are c =
     let count : c.loop-k.k ≡ 1 + c.args.geometry.sections = omega (arith, c.loop-k-test.false, c.loop-k.auto.k-end, c.from-count.ensures, c.sections.ensures.sections) in
-    listed_apart c.args.geometry c.loop-k.pairs.items c.loop-k.k c.format.ensures.geometry (sym c.format.ensures.format ∙ c.has_twins.ensures.0 c.if-not-has_twins.false) count c.loop-k.invariant
+    listed_apart c.args.geometry c.loop-k.pairs.items c.loop-k.k c.format.ensures.geometry (ap (λ f. twins_in f) (sym c.format.ensures.format) ∙ sym c.has_twins.ensures ∙ c.if-not-has_twins.false) count c.loop-k.invariant

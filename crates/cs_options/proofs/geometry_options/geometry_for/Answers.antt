@@ -12,5 +12,5 @@ loop-fewer-preserved c =
     (c.in_default-with_chunks.ensures.none refl)
 
 pub returns-clause-none : goal.returns-clause-none
-returns-clause-none c chunks extents pages sections geometry suits =
-    c.loop-fewer.invariant chunks (omega (arith, suits.2, c.loop-fewer-test.false)) suits.3 extents pages sections geometry suits
+returns-clause-none c chunks format extents pages sections geometry suits =
+    c.loop-fewer.invariant chunks (omega (arith, suits.2, c.loop-fewer-test.false)) suits.3 format extents pages sections geometry suits

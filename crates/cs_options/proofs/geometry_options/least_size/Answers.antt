@@ -18,5 +18,5 @@ loop-fewer-preserved c = (
 )
 
 pub returns-clause-least : goal.returns-clause-least
-returns-clause-least c size chunks below extents pages sections geometry suits =
-    c.loop-fewer.invariant.1 size chunks below (omega (arith, suits.2, c.loop-fewer-test.false)) suits.3 extents pages sections geometry suits
+returns-clause-least c size chunks below format extents pages sections geometry suits =
+    c.loop-fewer.invariant.1 size chunks below (omega (arith, suits.2, c.loop-fewer-test.false)) suits.3 format extents pages sections geometry suits

@@ -1,6 +1,5 @@
 use Rattle.std.proofs.Common.{◌⊎◌, ℕ, List, subst}
 use Rattle.cs_chunk.specs.Reads.{IsNoAnswer}
-use Rattle.cs_disk.specs.Disk.{page, seen}
 use Rattle.cs_frame.specs.FirstFormat.{page_zero_fault}
 use Rattle.cs_refusal.specs.declared.refusals.Refusal.TheVariants.{NotAStore}
 use Rattle.cs_reader.specs.Openings.{IsWhyNoFirst}

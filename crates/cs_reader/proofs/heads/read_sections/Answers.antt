@@ -3,18 +3,17 @@ use Rattle.cs_chunk.specs.Reads.{IsNoAnswer}
 use Rattle.cs_disk.proofs.OnlyRead.{reads_none, reads_on}
 use Rattle.cs_disk.specs.Disk.{State, page, seen}
 use Rattle.cs_frame.proofs.FirstFormatLaws.{page_zero_fits}
+use Rattle.cs_frame.proofs.GeometryLaws.{pages_on_device}
 use Rattle.cs_frame.specs.declared.superblocks.Superblock.{Superblock}
 use Rattle.cs_reader.specs.Openings.{IsWhyNoSection, SpellsFurther}
 use Rattle.cs_reader.proofs.SectionReads.{AreReadTo, all_read, all_sections, all_sized, first_read, more_read, none_more}
 use Rattle.cs_reader.proofs.heads.read_sections.Goals as goal
 
-pub read_section-requires-clause-known : goal.read_section-requires-clause-known
-read_section-requires-clause-known g c =
+pub read_section-requires-clause-room : goal.read_section-requires-clause-room
+read_section-requires-clause-room g c =
     let it = c.args.first in
-    (page_zero_fits c.requires.some.0 it.format it.version it.recorded it.extent_count it.pages it.sections it.section it.extents.items c.requires.some.1).geometry.known
-
-pub read_section-requires-clause-sized : goal.read_section-requires-clause-sized
-read_section-requires-clause-sized g c = c.loop-k.invariant.disk.pages ∙ c.requires.sized
+    let fits = page_zero_fits c.requires.some.0 it.format it.version it.recorded it.extent_count it.pages it.sections it.section it.extents.items c.requires.some.1 in
+    omega (arith, pages_on_device it.format it.extent_count it.pages it.sections fits.geometry, c.loop-k.invariant.disk.pages, c.requires.sized)
 
 pub loop-k-init : goal.loop-k-init
 loop-k-init g c =

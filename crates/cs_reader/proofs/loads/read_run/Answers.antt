@@ -1,7 +1,8 @@
-use Rattle.std.proofs.Common.{◌∙◌, ℕ, subst}
+use Rattle.std.proofs.Common.{◌∙◌, subst}
 use Rattle.cs_disk.specs.Disk.{page, seen}
 use Rattle.cs_frame.specs.FormatRuns.{run_fault}
 use Rattle.cs_frame.specs.Runs.{IsRun}
+use Rattle.law_machine.specs.Format.{Format}
 use Rattle.cs_reader.proofs.Loading.{fault_or_none, frame_not_read, fresh_view, is_run, memory_or_fault, no_device, not_caused, run_not_read, run_read}
 use Rattle.cs_reader.proofs.Ranges.{frame_refused, run_refused}
 use Rattle.cs_reader.proofs.loads.read_run.Goals as goal
@@ -14,7 +15,7 @@ returns-in-Ok-decode_run-clause-read g c = λ h.
 
 pub returns-in-Ok-decode_run-clause-run : goal.returns-in-Ok-decode_run-clause-run
 returns-in-Ok-decode_run-clause-run g c =
-    subst (λ (f : ℕ). IsRun f (record { entries = c.in-Ok-decode_run.run'.entries })) (c.format.ensures.format ∙ c.geometry.ensures.format)
+    subst (λ (f : Format). IsRun f (record { entries = c.in-Ok-decode_run.run'.entries })) (c.format.ensures.format ∙ c.geometry.ensures.format)
     (is_run c.format.result c.in-Ok-decode_run.run'.entries c.payload.result.now c.in-Ok-decode_run.ensures.spelled)
 
 pub returns-clause-why : goal.returns-clause-why

@@ -4,6 +4,9 @@ use Rattle.cs_extent.specs.Appended.{IsAppended}
 use Rattle.cs_extent.specs.Places.{GoesIn}
 use Rattle.cs_extent.specs.Worn.{IsFrameWorn}
 use Rattle.cs_frame.proofs.GeometryLaws.{bounds}
+use Rattle.cs_frame.specs.declared.formats.FormatNumber.{FormatNumber}
+use Rattle.cs_frame.specs.FormatNumbers.{number_in}
+use Rattle.cs_frame.specs.Frames.{spelled_frame}
 use Rattle.cs_index.specs.Staged.{IsExact}
 use Rattle.law_machine.specs.Extents.{ForMove}
 use Rattle.cs_reclaim.specs.Moves.{Nowhere, chunk_frame}
@@ -12,17 +15,21 @@ use Rattle.cs_reclaim.proofs.moves.append_chunk.Goals as goal
 use Rattle.cs_reclaim.proofs.moves.append_chunk.Goals.{After-append}
 
 pub encode_frame-requires : goal.encode_frame-requires
-encode_frame-requires c = small_payload 0 c.args.extents.now.pages c.args.payload.now (bounds _ _ _ _ c.extent_count.ensures.whole.geometry).most_pages (omega (arith, c.requires.size))
+encode_frame-requires c = small_payload (number_in c.args.extents.now.format) 0 c.args.extents.now.pages c.args.payload.now (bounds _ _ _ _ c.geometry.ensures.whole.geometry).most_pages (omega (arith, c.requires.size))
 
 -- the frame is that of the payload
 frame_is : (c : After-append) → c.deref.result.now ≡ chunk_frame c.args.extents.now c.args.payload.now
-frame_is c = c.deref.ensures.value ∙ c.in-Ok.ensures.spelled
+frame_is c =
+    c.deref.ensures.value ∙ c.in-Ok.ensures.spelled
+    ∙ ap (λ (n : FormatNumber). spelled_frame n 0 c.args.payload.now) (c.number-number.ensures.number ∙ ap number_in (c.format.ensures.format ∙ c.geometry.ensures.format))
 
 pub append-requires-clause-pages : goal.append-requires-clause-pages
 append-requires-clause-pages c =
-    let size : length c.deref.result.now ≡ length (chunk_frame c.args.extents.now c.args.payload.now) = ap (λ (f : List (List ℕ)). length f) (c.deref.ensures.value ∙ c.in-Ok.ensures.spelled) in
+    let size : length c.deref.result.now ≡ length (chunk_frame c.args.extents.now c.args.payload.now) =
+    ap (λ (f : List (List ℕ)). length f) (c.deref.ensures.value ∙ c.in-Ok.ensures.spelled
+    ∙ ap (λ (n : FormatNumber). spelled_frame n 0 c.args.payload.now) (c.number-number.ensures.number ∙ ap number_in (c.format.ensures.format ∙ c.geometry.ensures.format))) in
     let fits = c.requires.size in
-    (omega (arith, size, length-spelled 0 c.args.payload.now), omega (arith, size, fits))
+    (omega (arith, size, length-spelled (number_in c.args.extents.now.format) 0 c.args.payload.now), omega (arith, size, fits))
 
 why : (c : After-append) → IsExact c.append.result (Nowhere c.args.extents.now (length (chunk_frame c.args.extents.now c.args.payload.now))) (IsFrameWorn c.args.extents.now ForMove c.args.graph.now.staging (length (chunk_frame c.args.extents.now c.args.payload.now)))
 why c = subst (λ (f : List (List ℕ)). IsExact c.append.result (Nowhere c.args.extents.now (length f)) (IsFrameWorn c.args.extents.now ForMove c.args.graph.now.staging (length f))) (frame_is c)

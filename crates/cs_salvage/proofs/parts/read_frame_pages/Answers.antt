@@ -2,7 +2,10 @@ use Rattle.std.proofs.Common.{◌≡◌, ◌∙◌, ap, arith, subst, sym}
 use Rattle.cs_disk.proofs.OnlyRead.{reads_on}
 use Rattle.cs_disk.specs.Disk.{State, page, seen}
 use Rattle.cs_disk.specs.Reads.{OnlyReads}
-use Rattle.cs_frame.specs.Frames.{page_count}
+use Rattle.cs_frame.specs.declared.formats.FormatNumber.{FormatNumber}
+use Rattle.cs_frame.specs.Faults.{fault_in}
+use Rattle.cs_frame.specs.FormatNumbers.{number_in}
+use Rattle.cs_frame.specs.Frames.{header_fault, page_count}
 use Rattle.cs_salvage.specs.Frames.{AreReadAs}
 use Rattle.cs_salvage.proofs.Standing.{front_read, none_by}
 use Rattle.cs_salvage.proofs.parts.read_frame_pages.Goals as goal
@@ -10,7 +13,8 @@ use Rattle.cs_salvage.proofs.parts.read_frame_pages.Goals as goal
 pub returns-in_default-clause-pages : goal.returns-in_default-clause-pages
 returns-in_default-clause-pages g c = λ h payload it.
     none_by c.args.geometry (seen (g.D.PageDisk.state c.args.disk.now)) c.pages.ensures.geometry c.args.extent c.args.page c.device_page-number.result c.device_page-number.ensures c.requires.page c.read.new.buffer (c.in-Ok.ensures.bytes h)
-    c.decode_frame_header.result c.from-there.result (omega (arith, c.from-there.ensures, c.pages.ensures.pages)) c.decode_frame_header.ensures.fault c.in_default.not-Ok payload it
+    c.decode_frame_header.result c.from-there.result (omega (arith, c.from-there.ensures, c.pages.ensures.pages))
+    (subst (λ (n : FormatNumber). fault_in c.decode_frame_header.result ≡ header_fault n 0 c.read.new.buffer c.from-there.result) (c.number-format.ensures.number ∙ ap number_in c.format.ensures.format) c.decode_frame_header.ensures.fault) c.in_default.not-Ok payload it
 
 pub returns-in-Ok-read_pages-clause-pages : goal.returns-in-Ok-read_pages-clause-pages
 returns-in-Ok-read_pages-clause-pages g c = λ h.

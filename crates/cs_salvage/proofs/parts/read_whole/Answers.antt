@@ -1,13 +1,13 @@
-use Rattle.std.proofs.Common.{◌∙◌, ◌++◌, ◌∷◌, [], ◌<◌, ◌≤◌, List, ℕ, ap, ap₂, arith, get_or, length, subst, sym}
+use Rattle.std.proofs.Common.{◌∙◌, [], ◌<◌, ◌≤◌, List, ap, ap₂, arith, get_or, length, subst, sym}
 use Rattle.cs_disk.proofs.OnlyRead.{reads_on}
 use Rattle.cs_disk.specs.Disk.{State, seen}
 use Rattle.cs_frame.specs.Heads.{body_in}
 use Rattle.cs_salvage.specs.Frames.{IsMeant}
 use Rattle.cs_salvage.specs.Parts.{IsPart, formats_in}
 use Rattle.cs_salvage.specs.declared.parts.Part.{Part}
-use Rattle.cs_salvage.proofs.Meaning.{meant_more}
-use Rattle.cs_salvage.proofs.Sames.{at_any, no_part}
-use Rattle.cs_salvage.proofs.Zips.{bodies_push, zip_all, zip_at, zip_more}
+use Rattle.cs_salvage.proofs.Meaning.{read_more}
+use Rattle.cs_salvage.proofs.Sames.{no_part}
+use Rattle.cs_salvage.proofs.Zips.{zip_all, zip_at}
 use Rattle.cs_salvage.proofs.parts.read_whole.Goals as goal
 
 pub returns-in_err-extend_from_slice-in-Ok-Some-clause-disk : goal.returns-in_err-extend_from_slice-in-Ok-Some-clause-disk
@@ -26,35 +26,25 @@ returns-in-Ok-None-clause-bytes g c = λ h payloads all.
     let k = c.loop-part.part-index in
     let none = rw c.in-Ok-None.field-0-is at (c.in-Ok-None.ensures.payload (c.loop-part.invariant.disk.honesty.0 h)) in
     let is = c.deref-part-items.ensures.value in
-    let here = zip_at (IsPart c.args.geometry image) items payloads k no_part [] all (omega (arith, c.loop-part-test.true, ap length is)) in
-    none (get_or payloads k []) (subst (λ (s : State). IsPart c.args.geometry (seen s) (get_or c.deref-part-items.result.now k no_part) (get_or payloads k [])) (sym (c.loop-part.invariant.disk.same h))
-    (subst (λ (ps : List Part). IsPart c.args.geometry image (get_or ps k no_part) (get_or payloads k [])) (sym is) here))
+    let here = zip_at (IsPart c.args.sought.now image) items payloads k no_part [] all (omega (arith, c.loop-part-test.true, ap length is)) in
+    none (get_or payloads k []) (subst (λ (s : State). IsPart c.args.sought.now (seen s) (get_or c.deref-part-items.result.now k no_part) (get_or payloads k [])) (sym (c.loop-part.invariant.disk.same h))
+    (subst (λ (ps : List Part). IsPart c.args.sought.now image (get_or ps k no_part) (get_or payloads k [])) (sym is) here))
 
 pub loop-part-preserved : goal.loop-part-preserved
 loop-part-preserved g c = record {
   disk = reads_on g.D.PageDisk c.args.disk.now c.loop-part.disk c.payload_of.new.disk c.loop-part.invariant.disk c.payload_of.ensures.disk;
   bytes = λ h.
       let image = seen (g.D.PageDisk.state c.args.disk.now) in
-      let items = c.args.shard.now.parts.items in
-      let k = c.loop-part.part-index in
-      let payload = c.in-Ok-Some.payload.items in
-      let F = formats_in c.args.geometry in
-      let is = c.deref-part-items.ensures.value in
       let it = rw c.in-Ok-Some.field-0-is at (c.in-Ok-Some.ensures.payload (c.loop-part.invariant.disk.honesty.0 h)) in
-      let here = subst (λ (ps : List Part). IsPart c.args.geometry image (get_or ps k no_part) payload) is
-      (subst (λ (s : State). IsPart c.args.geometry (seen s) (get_or c.deref-part-items.result.now k no_part) payload) (c.loop-part.invariant.disk.same h) it) in
-      let inside : k < length items = omega (arith, c.loop-part-test.true, ap length is) in
-      let was = c.loop-part.invariant.bytes h in (
-        was.0 ++ payload ∷ [],
-        zip_more (IsPart c.args.geometry image) items was.0 k (get_or items k no_part) payload inside (at_any items k inside no_part (get_or items k no_part)) was.1 here,
-        c.in_ok-extend_from_slice-in-Ok-Some.ensures.items
-            ∙ ap₂ (λ (xs ys : List ℕ). xs ++ ys) was.2 (c.chunk_body.ensures ∙ ap₂ body_in c.format-format.ensures.format c.deref.ensures.value)
-            ∙ sym (bodies_push F was.0 payload),
-      );
+      let here = subst (λ (s : State). IsPart c.args.sought.now (seen s) (get_or c.deref-part-items.result.now c.loop-part.part-index no_part) c.in-Ok-Some.payload.items) (c.loop-part.invariant.disk.same h) it in
+      let inside : c.loop-part.part-index < length c.args.shard.now.parts.items = omega (arith, c.loop-part-test.true, ap length c.deref-part-items.ensures.value) in
+      read_more (IsPart c.args.sought.now image) (formats_in c.args.sought.now.geometry) c.args.shard.now.parts.items c.deref-part-items.result.now c.loop-part.part-index
+      c.in-Ok-Some.payload.items c.loop-part.bytes.items _ _ c.deref-part-items.ensures.value inside here (c.loop-part.invariant.bytes h) c.in_ok-extend_from_slice-in-Ok-Some.ensures.items
+      (c.chunk_body.ensures ∙ ap₂ body_in c.format-format.ensures.format c.deref.ensures.value);
   meant =
       let inside : c.loop-part.part-index < length c.args.shard.now.parts.items = omega (arith, c.loop-part-test.true, ap length c.deref-part-items.ensures.value) in
       let meant = rw c.in-Ok-Some.field-0-is at c.in-Ok-Some.ensures.meant in
-      meant_more (formats_in c.args.geometry) c.args.shard.now.parts.items c.deref-part-items.result.now c.loop-part.part-index c.in-Ok-Some.payload.items c.loop-part.bytes.items
+      read_more IsMeant (formats_in c.args.sought.now.geometry) c.args.shard.now.parts.items c.deref-part-items.result.now c.loop-part.part-index c.in-Ok-Some.payload.items c.loop-part.bytes.items
       _ _ c.deref-part-items.ensures.value inside meant c.loop-part.invariant.meant c.in_ok-extend_from_slice-in-Ok-Some.ensures.items
       (c.chunk_body.ensures ∙ ap₂ body_in c.format-format.ensures.format c.deref.ensures.value);
 }

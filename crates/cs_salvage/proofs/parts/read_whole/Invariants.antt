@@ -11,8 +11,8 @@ abbrev pub invariant-loop-part : goal.invariant-loop-part
 invariant-loop-part g l = record {
   disk : OnlyReads g.D.PageDisk l.fn.disk l.disk;
   bytes : g.D.PageDisk.honest l.fn.disk → (payloads : List (List ℕ))
-      × AllZip (IsPart l.geometry (seen (g.D.PageDisk.state l.fn.disk))) (take l.part-index l.shard.parts.items) payloads
-      × (l.bytes.items ≡ joined_bodies (formats_in l.geometry) payloads);
+      × AllZip (IsPart l.sought (seen (g.D.PageDisk.state l.fn.disk))) (take l.part-index l.shard.parts.items) payloads
+      × (l.bytes.items ≡ joined_bodies (formats_in l.sought.geometry) payloads);
   meant : (payloads : List (List ℕ)) × AllZip IsMeant (take l.part-index l.shard.parts.items) payloads
-      × (l.bytes.items ≡ joined_bodies (formats_in l.geometry) payloads);
+      × (l.bytes.items ≡ joined_bodies (formats_in l.sought.geometry) payloads);
 }

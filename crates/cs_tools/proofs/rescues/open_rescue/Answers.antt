@@ -4,7 +4,7 @@ use Rattle.cs_disk.specs.Disk.{Image, flushed, page, seen}
 use Rattle.cs_twin.specs.Paired.{disk_below, state_shown}
 use Rattle.cs_mount.specs.Showing.{shown_on}
 use Rattle.cs_salvage.specs.Rescued.{IsRescued, IsWhyNotRescued}
-use Rattle.cs_tools.proofs.Rescuing.{rescued_by}
+use Rattle.cs_tools.proofs.Rescuing.{no_store, of_pairs, of_rescue, rescued_by}
 use Rattle.cs_tools.proofs.rescues.open_rescue.Goals as goal
 
 pub returns-in-Ok-open-clause-found : goal.returns-in-Ok-open-clause-found
@@ -27,8 +27,9 @@ returns-in-Err-open-clause-why g c = λ h.
     let D = g.D.PageDisk in
     let disk = c.args.disk in
     let r = c.in-Err-open.refusal in
-    subst (λ (n : ℕ). IsNoAnswer r ⊎ IsWhyNotRescued n (page (shown_on (D.page_count disk) (seen (D.state disk)))) r) c.in-Ok.ensures.pages
-    (subst (λ (i : Image). IsNoAnswer r ⊎ IsWhyNotRescued (D.page_count (disk_below c.in-Ok.paired)) (page i) r) (ap seen (c.in-Ok.ensures.shown h)) (c.in-Err-open.ensures.why (c.in-Ok.ensures.honest.0 h)))
+    of_rescue
+    (subst (λ (n : ℕ). IsNoAnswer r ⊎ IsWhyNotRescued n (page (shown_on (D.page_count disk) (seen (D.state disk)))) r) c.in-Ok.ensures.pages
+    (subst (λ (i : Image). IsNoAnswer r ⊎ IsWhyNotRescued (D.page_count (disk_below c.in-Ok.paired)) (page i) r) (ap seen (c.in-Ok.ensures.shown h)) (c.in-Err-open.ensures.why (c.in-Ok.ensures.honest.0 h))))
 
 pub returns-in-Ok-open-clause-unwritten : goal.returns-in-Ok-open-clause-unwritten
 returns-in-Ok-open-clause-unwritten g c = λ h. c.in-Ok-open.ensures.disk.device (c.in-Ok.ensures.honest.0 h) ∙ c.in-Ok.ensures.state h
@@ -39,3 +40,15 @@ returns-in-Err-open-clause-unwritten g c = λ h.
     let disk = c.args.disk in
     subst (λ (below : _). (D.state below ≡ D.state disk) ⊎ (D.state below ≡ flushed (D.state disk))) (sym c.into_disk.ensures)
     (inr (c.in-Err-open.ensures.disk.device (c.in-Ok.ensures.honest.0 h) ∙ c.in-Ok.ensures.state h))
+
+pub returns-in-Err-clause-why : goal.returns-in-Err-clause-why
+returns-in-Err-clause-why g c = λ h. of_pairs (c.in-Err.ensures.why h)
+
+pub returns-in-Ok-open-clause-two : goal.returns-in-Ok-open-clause-two
+returns-in-Ok-open-clause-two g c = λ h two. absurd (two (c.in-Ok.ensures.one h))
+
+pub returns-in-Err-open-clause-two : goal.returns-in-Err-open-clause-two
+returns-in-Err-open-clause-two g c = λ h two. absurd (two (c.in-Ok.ensures.one h))
+
+pub returns-in-Err-clause-two : goal.returns-in-Err-clause-two
+returns-in-Err-clause-two g c = λ h two. no_store (c.in-Err.ensures.why h)

@@ -12,9 +12,9 @@ loop-shard-preserved g c =
     let then_ = c.print_shard.new.disk in
     record {
       disk = reads_on disks first here then_ was.disk c.in_ok-read.ensures.disk;
-      lines = λ honest stand. shard_told c.args.geometry (disks.failure_count first) (disks.failure_count here) (disks.failure_count then_) (disks.state first) (disks.state here) c.args.shards.now c.loop-shard.shard-index c.shard-item.result c.loop-shard.whole c.in_ok-read.read
+      lines = λ honest stand. shard_told c.args.sought.now (disks.failure_count first) (disks.failure_count here) (disks.failure_count then_) (disks.state first) (disks.state here) c.args.shards.now c.loop-shard.shard-index c.shard-item.result c.loop-shard.whole c.in_ok-read.read
           (contents c.args.writer.now) (contents c.loop-shard.writer) (contents c.print_shard.new.writer) was.disk.failures c.in_ok-read.ensures.disk.failures (was.disk.same honest) c.loop-shard-test.true c.shard-item.is stand (was.lines honest stand)
           (c.in_ok-read.ensures.line (was.disk.honesty.0 honest));
-      meant = shard_meant c.args.geometry c.args.shards.now c.loop-shard.shard-index c.shard-item.result c.loop-shard.whole c.in_ok-read.read (contents c.args.writer.now) (contents c.loop-shard.writer) (contents c.print_shard.new.writer)
+      meant = shard_meant c.args.sought.now c.args.shards.now c.loop-shard.shard-index c.shard-item.result c.loop-shard.whole c.in_ok-read.read (contents c.args.writer.now) (contents c.loop-shard.writer) (contents c.print_shard.new.writer)
           c.loop-shard-test.true c.shard-item.is was.meant c.in_ok-read.ensures.meant;
     }

@@ -10,7 +10,7 @@ abbrev pub invariant-loop-piece : goal.invariant-loop-piece
 invariant-loop-piece g l = record {
   size : l.piece-iterator.size ≡ 1000;
   disk : OnlyReads g.D.PageDisk l.fn.disk l.disk;
-  lines : g.D.PageDisk.honest l.fn.disk → AllByRecursion (Stands l.found.geometry (seen (g.D.PageDisk.state l.fn.disk))) l.found.shards.items
-      → IsPrintedUpTo (IsToldOf l.found.geometry (seen (g.D.PageDisk.state l.fn.disk)) (g.D.PageDisk.failure_count l.fn.disk) (g.D.PageDisk.failure_count l.disk)) l.found.shards.items l.piece-iterator.rest.now l.whole (g.W.Write.contents l.fn.writer) (g.W.Write.contents l.writer);
-  meant : IsPrintedUpTo (IsMeantBy l.found.geometry) l.found.shards.items l.piece-iterator.rest.now l.whole (g.W.Write.contents l.fn.writer) (g.W.Write.contents l.writer);
+  lines : g.D.PageDisk.honest l.fn.disk → AllByRecursion (Stands l.found.sought (seen (g.D.PageDisk.state l.fn.disk))) l.found.shards.items
+      → IsPrintedUpTo (IsToldOf l.found.sought (seen (g.D.PageDisk.state l.fn.disk)) (g.D.PageDisk.failure_count l.fn.disk) (g.D.PageDisk.failure_count l.disk)) l.found.shards.items l.piece-iterator.rest.now l.whole (g.W.Write.contents l.fn.writer) (g.W.Write.contents l.writer);
+  meant : IsPrintedUpTo (IsMeantBy l.found.sought) l.found.shards.items l.piece-iterator.rest.now l.whole (g.W.Write.contents l.fn.writer) (g.W.Write.contents l.writer);
 }

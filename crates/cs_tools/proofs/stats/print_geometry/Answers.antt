@@ -1,27 +1,35 @@
-use Rattle.std.proofs.Common.{◌∙◌, [], ◌∷◌}
+use Rattle.std.proofs.Common.{◌∙◌, ◌++◌, ℕ, List, ap, sym}
+use Rattle.std.proofs.lemmas.List.{append-nil}
 use Rattle.std.proofs.lemmas.Result.{on_ok_weaker}
-use Rattle.std.specs.Prelude.{codes}
-use Rattle.cs_tools.specs.Stats.{geometry_text, number_text}
+use Rattle.std.specs.Prelude.{Option}
+use Rattle.cs_frame.specs.FormatNumbers.{counted_as, number_in}
+use Rattle.cs_frame.specs.Roots.{identity_in}
+use Rattle.cs_tools.specs.Stats.{dimensions_text, geometry_text, identity_line, store_text}
 use Rattle.cs_tools.specs.declared.outputs.Style.TheVariants.{Text}
-use Rattle.cs_tools.proofs.Appended.{appends_same}
-use Rattle.cs_tools.proofs.Continued.{five_then, same_geometry}
+use Rattle.cs_tools.proofs.Appended.{appends_same, appends_then}
 use Rattle.cs_tools.proofs.stats.print_geometry.Goals as goal
 
-pub returns : goal.returns
-returns g c =
+pub returns-in-Some : goal.returns-in-Some
+returns-in-Some g c =
     let contents = g.W.Write.contents in
     let start = contents c.args.writer.now in
-    let last = contents c.writeln.new.self in
-    let extents = c.from-extents.result in
-    let pages = c.from-pages.result in
-    let sections = c.from-sections.result in
-    let format = c.from-format.result in
+    let last = contents c.print_store.new.writer in
     let asked = c.args.geometry in
-    on_ok_weaker c.writeln.result
-    (λ ended. appends_same start last (geometry_text Text extents pages sections format) (geometry_text Text asked.extents asked.pages asked.sections asked.format)
-    (same_geometry Text extents pages sections format asked.extents asked.pages asked.sections asked.format
-    (c.from-extents.ensures ∙ c.extents.ensures.extents) (c.from-pages.ensures ∙ c.pages.ensures.pages) (c.from-sections.ensures ∙ c.sections.ensures.sections) (c.from-format.ensures ∙ c.number.ensures.number ∙ c.format.ensures.format))
-    (five_then start (contents c.print_number.new.writer) (contents c.print_number-2.new.writer) (contents c.print_number-3.new.writer) (contents c.print_number-4.new.writer) last
-    (number_text (codes "geometry extents ") extents) (number_text (codes " pages ") pages) (number_text (codes " sections ") sections) (number_text (codes " format ") format) (10 ∷ [])
-    c.in_ok-print_number.ensures c.in_ok-print_number-2.ensures c.in_ok-print_number-3.ensures c.in_ok-print_number-4.ensures ended))
-    c.writeln.ensures.bytes
+    let store = c.in-Some.store.0 in
+    let dimensions = dimensions_text Text asked.extents asked.pages asked.sections (counted_as (number_in asked.format)) in
+    let said = rw c.in-Some.is at c.store.ensures.store in
+    on_ok_weaker c.print_store.result
+    (λ ended. appends_same start last (dimensions ++ store_text Text store) (geometry_text Text asked.extents asked.pages asked.sections asked.format)
+    (ap (λ (identity : Option (List ℕ)). dimensions ++ identity_line identity Text) (said ∙ ap identity_in c.format.ensures.format))
+    (appends_then start (contents c.print_dimensions.new.writer) last dimensions (store_text Text store) c.in_ok-print_dimensions.ensures ended))
+    c.print_store.ensures
+
+pub returns-in-None : goal.returns-in-None
+returns-in-None g c =
+    let contents = g.W.Write.contents in
+    let asked = c.args.geometry in
+    let dimensions = dimensions_text Text asked.extents asked.pages asked.sections (counted_as (number_in asked.format)) in
+    let said = rw c.in-None.is at c.store.ensures.store in
+    appends_same (contents c.args.writer.now) (contents c.print_dimensions.new.writer) dimensions (geometry_text Text asked.extents asked.pages asked.sections asked.format)
+    (sym (append-nil dimensions) ∙ ap (λ (identity : Option (List ℕ)). dimensions ++ identity_line identity Text) (said ∙ ap identity_in c.format.ensures.format))
+    c.in_ok-print_dimensions.ensures

@@ -1,5 +1,5 @@
 use Rattle.law_machine.proofs.machine_events.commands_go_on.Goals as goal
-use Rattle.std.proofs.Common.{◌≡◌, ◌+◌, ℕ, suc, List, length, ap, ap₂, sym, ◌∙◌, arith}
+use Rattle.std.proofs.Common.{◌+◌, ℕ, List, length, ap, ap₂, sym, ◌∙◌, arith}
 use Rattle.law_machine.proofs.Kept.{does_on, history_on, after_both}
 use Rattle.law_machine.specs.State.{Accepted, Command, Put, after_all, commands_of}
 

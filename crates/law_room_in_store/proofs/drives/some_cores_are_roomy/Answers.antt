@@ -1,6 +1,7 @@
 use Rattle.std.proofs.Common.{ap, subst, sym}
 use Rattle.cs_extent.specs.State.{shape}
 use Rattle.cs_core.specs.Stored.{Stored}
+use Rattle.law_machine.specs.Format.{Four}
 use Rattle.law_room_in_store.proofs.CoreRoom.{new_geometry, new_is_empty}
 use Rattle.law_room_in_store.proofs.CrashesWithRoom.{opened_roomy}
 use Rattle.law_room_in_store.specs.Images.{HasGeometry}
@@ -11,12 +12,12 @@ returns-clause-core g c = λ v core honest geometry apart room.
     record { core = core; honest = honest; geometry = geometry; apart = apart; room = room }
 
 pub returns-clause-new : goal.returns-clause-new
-returns-clause-new g c = λ v extents pages sections core honest geometry none made. record {
+returns-clause-new g c = λ v store device extents pages sections core honest geometry none made. record {
   core = core;
   honest = honest;
-  geometry = subst (λ (s : Stored). HasGeometry s.extents) (sym made) (new_geometry 3 extents pages sections geometry);
+  geometry = subst (λ (s : Stored). HasGeometry s.extents) (sym made) (new_geometry (Four store device) extents pages sections geometry);
   apart = ap (λ (s : Stored). (shape s.extents).apart) made;
-  room = new_is_empty g.D.PageDisk v extents pages sections geometry core honest none made;
+  room = new_is_empty g.D.PageDisk v store device extents pages sections geometry core honest none made;
 }
 
 pub returns-clause-opened : goal.returns-clause-opened

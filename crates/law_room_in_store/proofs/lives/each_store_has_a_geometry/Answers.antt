@@ -13,4 +13,4 @@ pub returns-clause-shape : goal.returns-clause-shape
 returns-clause-shape g c = λ x y same geometry. same_geometry x y same geometry
 
 pub returns-clause-apart : goal.returns-clause-apart
-returns-clause-apart g c = λ x is. format_apart x is
+returns-clause-apart g c = λ x store device is. format_apart x store device is

@@ -12,9 +12,9 @@ returns-clause-full g c = λ v w x others event geometry apart has lives full.
     (λ d image honest since. g.met.D.PageDisk.only_now d image honest since) others v w x event geometry apart has lives full
 
 pub returns-clause-new : goal.returns-clause-new
-returns-clause-new g c = λ v w x others extents pages sections event geometry none made lives full.
+returns-clause-new g c = λ v w x others event store device extents pages sections geometry none made lives full.
     new_lives_full g.D.PageDisk (λ d honest. g.met.D.PageDisk.sized d honest)
-    (λ d image honest since. g.met.D.PageDisk.only_now d image honest since) others v w x extents pages sections event geometry none
+    (λ d image honest since. g.met.D.PageDisk.only_now d image honest since) others v w x event store device extents pages sections geometry none
     made lives full
 
 pub returns-clause-shape : goal.returns-clause-shape

@@ -37,8 +37,8 @@ impl<D: PageDisk, K: Naming, R: Wait + Print> Hand<'_, D, K, R> {
         Ok(())
     }
 
-    /// Makes the call that a line names, once more where it is refused 9. All is as it was then, but for a sync, of which the events before the
-    /// refused one stand.
+    /// Makes the call that a line names, once more where it is refused 9. All is as it was then, but for a sync, of
+    /// which the events before the refused one stand.
     fn play(&mut self, line: Line) -> Result<(), Fault> {
         for _ in 0..2 {
             let before = self.state()?;
@@ -195,7 +195,8 @@ impl<D: PageDisk, K: Naming, R: Wait + Print> Hand<'_, D, K, R> {
         told(self.rt, &answer)
     }
 
-    /// Replaces the events that are kept. How many they were isn't told, since a sync that was refused has made more of them.
+    /// Replaces the events that are kept. How many they were isn't told, since a sync that was refused has made more of
+    /// them.
     fn checkpoint(&mut self) -> Result<bool, Fault> {
         begin(self.rt)?;
         let answer = self.node.checkpoint(self.rt, &mut self.pilot);

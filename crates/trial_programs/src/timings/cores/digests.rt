@@ -6,14 +6,40 @@ use crate::faults::Fault;
 use sha2::{Digest, Sha256};
 use std::alloc::Global;
 
-/// How many bytes an entry of a shard of one chunk takes in a run of this format.
-fn entry_bytes(form: u64) -> u64 {
-    if form == 3 { 33 } else { 81 }
+/// How many bytes digests are made of in a format.
+#[derive(Clone, Copy)]
+struct Sizes {
+    /// What the payload of a chunk has beside the bytes of the shard: its head.
+    head: usize,
+    /// A section without its extents.
+    section: usize,
+    /// A root over four runs.
+    root: usize,
+    /// A run without its entries.
+    run: u64,
+    /// An entry of a shard of one chunk.
+    entry: u64,
 }
 
-/// How many bytes the digest of a root over four runs is made of, in this format.
-fn root_bytes(form: u64) -> usize {
-    if form == 3 { 85 } else { 53 }
+/// How many bytes they are made of in the format of this number.
+fn sizes_of(form: u64) -> Sizes {
+    if form == 4 {
+        Sizes {
+            head: 34,
+            section: 50,
+            root: 101,
+            run: 12,
+            entry: 33,
+        }
+    } else {
+        Sizes {
+            head: 0,
+            section: 18,
+            root: 53,
+            run: 4,
+            entry: 81,
+        }
+    }
 }
 
 /// The digests of these texts, each of so many bytes, one of them after another. Gives how many.
@@ -34,15 +60,19 @@ fn digest_texts(alloc: Global, count: u64, bytes: usize) -> Result<u64, Fault> {
 
 /// The digests of all that was written or read. Gives how many there are.
 pub fn digest_puts(alloc: Global, counts: Counts, task: Task) -> Result<u64, Fault> {
-    let chunks = digest_texts(alloc, counts.puts, task.bytes)?;
+    let sizes = sizes_of(task.form);
+    let chunk = task.bytes.saturating_add(sizes.head);
+    let chunks = digest_texts(alloc, counts.puts, chunk)?;
     let extents = task.extents / task.sections.max(1);
-    let section = (extents as usize).saturating_mul(6).saturating_add(18);
+    let section = (extents as usize)
+        .saturating_mul(6)
+        .saturating_add(sizes.section);
     let superblocks = digest_texts(alloc, counts.superblocks, section)?;
     let run = (counts.entries / counts.runs.max(1))
-        .saturating_mul(entry_bytes(task.form))
-        .saturating_add(4);
+        .saturating_mul(sizes.entry)
+        .saturating_add(sizes.run);
     let runs = digest_texts(alloc, counts.runs, run as usize)?;
-    let roots = digest_texts(alloc, counts.roots, root_bytes(task.form))?;
+    let roots = digest_texts(alloc, counts.roots, sizes.root)?;
     Ok(
         chunks
             .saturating_add(superblocks)

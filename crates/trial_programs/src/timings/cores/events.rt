@@ -10,7 +10,8 @@ use cs_refusal::Refusal;
 /// How many rounds there are at most.
 const ROUNDS: u64 = 1_000;
 
-/// What an event is answered, over any disk: over a memory disk in particular the call takes ten times as long to prove.
+/// What an event is answered, over any disk: over a memory disk in particular the call takes ten times as long to
+/// prove.
 fn applied<D: PageDisk>(core: &mut Core<D>, event: &Event) -> Result<Reply, OutOfMemory> {
     core.apply(event)
 }

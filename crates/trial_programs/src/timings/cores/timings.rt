@@ -97,7 +97,8 @@ impl<R: Print + Clock> Timed<'_, R> {
         self.print_times(took, Counts::of_chunks(found))
     }
 
-    /// Times as many gets as there are shards, of what was written back and of what waits, beside so many puts that wait.
+    /// Times as many gets as there are shards, of what was written back and of what waits, beside so many puts that
+    /// wait.
     pub fn time_beside(&mut self) -> Result<(), Fault> {
         let written = Task {
             count: SHARDS,

@@ -47,7 +47,8 @@ struct Batches<'a, K: Naming, R> {
     flushes: u64,
 }
 
-/// Writes back so many batches, with a put between any two flushes, and then all that is left. Counts how many flushes that took.
+/// Writes back so many batches, with a put between any two flushes, and then all that is left. Counts how many flushes
+/// that took.
 pub fn count_flushes<K: Naming, R: Wait>(
     rt: &R,
     alloc: Global,

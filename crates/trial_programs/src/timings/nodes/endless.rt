@@ -1,5 +1,5 @@
-//! Threads that put without end, beside a stream and a reclaimer: what is refused for want of room or since the history is full is put again, and
-//! whenever all is persistent the stream takes a checkpoint.
+//! Threads that put without end, beside a stream and a reclaimer: what is refused for want of room or since the history
+//! is full is put again, and whenever all is persistent the stream takes a checkpoint.
 mod putters;
 mod signs;
 mod workers;
@@ -17,8 +17,8 @@ use std::sync::{Arc, Wait};
 use std::thread::Threads;
 use workers::{Gave, Worker, new_reclaimer, new_stream};
 
-/// What the node's close told: how many commands were accepted and acknowledged, and how many events checkpoints replaced; or how many numbers
-/// are missing.
+/// What the node's close told: how many commands were accepted and acknowledged, and how many events checkpoints
+/// replaced; or how many numbers are missing.
 #[derive(Clone, Copy)]
 pub enum Close {
     Counts {

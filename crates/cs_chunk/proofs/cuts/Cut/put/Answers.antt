@@ -4,6 +4,7 @@ use Rattle.cs_refusal.specs.declared.refusals.Refusal.TheVariants.{Full, WornOut
 use Rattle.cs_chunk.proofs.Planned.{full_iff, passed_on, worn_iff}
 use Rattle.cs_chunk.proofs.Prepared.{frames_made, may_put, put_chunked, put_few, put_room}
 use Rattle.cs_extent.specs.State.{shape}
+use Rattle.cs_frame.specs.FormatNumbers.{number_in}
 use Rattle.cs_frame.specs.Formats.{formats_of}
 use Rattle.cs_frame.specs.Frames.{spelled_frame}
 use Rattle.cs_frame.specs.Identifiers.{id_number}
@@ -25,7 +26,7 @@ append_all-requires-clause-may c =
 
 pub append_all-requires-clause-room : goal.append_all-requires-clause-room
 append_all-requires-clause-room c =
-    let made = frames_made (λ f. f.items) (spelled_frame 0) c.in-Ok-prepare.frames.items (formats_of (shape c.args.extents.now)) (id_number c.args.origin.id) c.args.self.count c.args.origin.command c.args.self.size c.args.self.count c.args.bytes.now c.in-Ok-prepare.ensures.frames in
+    let made = frames_made (λ f. f.items) (spelled_frame (number_in c.args.extents.now.format) 0) c.in-Ok-prepare.frames.items (formats_of (shape c.args.extents.now)) (id_number c.args.origin.id) c.args.self.count c.args.origin.command c.args.self.size c.args.self.count c.args.bytes.now c.in-Ok-prepare.ensures.frames in
     let same = ap length c.deref.ensures.value in
     omega (arith, made, same, c.in-Ok-prepare.ensures.capacity)
 

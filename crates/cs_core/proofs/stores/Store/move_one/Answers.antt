@@ -1,4 +1,4 @@
-use Rattle.std.proofs.Common.{◌∙◌, Bool, ap, le_of_eq, refl, sym, true}
+use Rattle.std.proofs.Common.{◌∙◌, Bool, ap, le_of_eq, refl, sym}
 use Rattle.cs_extent.specs.State.{shape}
 use Rattle.cs_core.specs.contracts.stores.Store.{the_view}
 use Rattle.cs_core.specs.Reads.{MoveAnswers}

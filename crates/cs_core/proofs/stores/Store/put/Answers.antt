@@ -1,4 +1,4 @@
-use Rattle.std.proofs.Common.{◌≡◌, ◌∙◌, inl, inr, Bool, ℕ, ◌+◌, ◌^◌, ◌≤◌, ◌<◌, Err, ap, arith, refl, sym, subst}
+use Rattle.std.proofs.Common.{◌≡◌, ◌∙◌, inl, inr, Bool, ◌+◌, ◌^◌, ◌≤◌, ◌<◌, Err, ap, arith, refl, sym, subst}
 use Rattle.std.specs.Prelude.{map}
 use Rattle.cs_refusal.specs.declared.refusals.Refusal.TheVariants as code
 use Rattle.cs_deps.specs.State.{State as GraphState}
@@ -7,6 +7,7 @@ use Rattle.cs_frame.specs.Formats.{place_of}
 use Rattle.cs_frame.specs.Locators.{KeepFormat}
 use Rattle.cs_index.specs.State.{id_number}
 use Rattle.law_machine.specs.Extents.{ForPut}
+use Rattle.law_machine.specs.Format.{Format}
 use Rattle.law_machine.specs.State.{Accepted, Put}
 use Rattle.law_refinement.proofs.Shapes.{store_shape}
 use Rattle.cs_core.specs.contracts.stores.Store.{the_view}
@@ -88,7 +89,7 @@ pub enter-requires-clause-marks : goal.enter-requires-clause-marks
 enter-requires-clause-marks c =
     let s : Stored = the_view c.self.inside in
     let ls = c.in-Ok.places.items in
-    subst (λ (f : ℕ). KeepFormat f ls) (sym (same_format s.index c.reserve.new.self c.reserve.ensures.rest ∙ c.self.invariant.format))
+    subst (λ (f : Format). KeepFormat f ls) (sym (same_format s.index c.reserve.new.self c.reserve.ensures.rest ∙ c.self.invariant.format))
     (placed_all (shape s.extents).apart s.extents c.put.new.extents s.graph c.put.new.graph ForPut _ ls c.in-Ok.ensures.chunks.2.0)
 
 pub enter-requires-clause-limit : goal.enter-requires-clause-limit

@@ -11,6 +11,7 @@ use Rattle.cs_reader.proofs.Loading.{failed, passed}
 use Rattle.cs_core.proofs.BegunBy.{swept_by}
 use Rattle.cs_core.proofs.Going.{round_told, same_index}
 use Rattle.cs_core.proofs.KeptStages.{kept_refused}
+use Rattle.cs_core.proofs.Moves.{root_on}
 use Rattle.cs_core.proofs.Noted.{pushed_last}
 use Rattle.cs_core.proofs.RetiredBy.{kept_retired_by, retire_refused_by, retire_steps_by, retired_means_by, retired_moves_by}
 use Rattle.cs_core.proofs.StagesApart.{roomed_copies}
@@ -64,7 +65,7 @@ returns-in-Ok-clause-step c = subst (λ (u : Stored). u.halted ≡ false → Ste
     let new = c.retire.new in
     let d = c.in-Ok.ensures in
     let at = passed (IsFound v.extents c.args.extent) (IsGone v.extents c.args.extent) c.is_swept.result c.is_swept.ensures c.if-not-is_swept.false in
-    let m = retired_moves_by v.index v.extents v.graph v.copies c.args.extent c.in-Ok.version _ new.index new.extents new.graph new.self b d.retired whole.geometry.fewest_sections c.retire.ensures.shape in
+    let m = retired_moves_by v.index v.extents v.graph v.copies c.args.extent c.in-Ok.version _ new.index new.extents new.graph new.self b d.retired (root_on _ whole) c.retire.ensures.shape in
     round_told (λ (u : Stored). Steps v (Retire c.args.extent) (Retired c.in-Ok.version) u)
     (record v { extents = new.extents; graph = new.graph; index = new.index; copies = new.self; roots = c.push_back_reserved.new.self.items }) m.round
     (retire_steps_by v whole runs c.args.extent at.1 b refl d.all c.in-Ok.version new.extents new.graph new.index new.self c.push_back_reserved.new.self.items (d.why d.all) at.0 d.retired c.retire.ensures.shape
@@ -85,13 +86,13 @@ pub returns-in-Ok-clause-behind : goal.returns-in-Ok-clause-behind
 returns-in-Ok-clause-behind c = rw (← c.self.view_is) (
     let s : Stored = the_view c.self.inside in
     (retired_moves_by s.index s.extents s.graph s.copies c.args.extent c.in-Ok.version _ c.retire.new.index c.retire.new.extents c.retire.new.graph c.retire.new.self (shape s.extents).apart c.in-Ok.ensures.retired
-    c.extent_count.ensures.whole.geometry.fewest_sections c.retire.ensures.shape).behind)
+    (root_on _ c.extent_count.ensures.whole) c.retire.ensures.shape).behind)
 
 pub returns-in-Ok-clause-round : goal.returns-in-Ok-clause-round
 returns-in-Ok-clause-round c = rw (← c.self.view_is) (
     let s : Stored = the_view c.self.inside in (
       (retired_moves_by s.index s.extents s.graph s.copies c.args.extent c.in-Ok.version _ c.retire.new.index c.retire.new.extents c.retire.new.graph c.retire.new.self (shape s.extents).apart c.in-Ok.ensures.retired
-          c.extent_count.ensures.whole.geometry.fewest_sections c.retire.ensures.shape).round,
+          (root_on _ c.extent_count.ensures.whole) c.retire.ensures.shape).round,
       refl,
     ))
 

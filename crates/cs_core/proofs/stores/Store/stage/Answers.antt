@@ -9,7 +9,7 @@ use Rattle.cs_core.specs.Steps.{Declines, Steps}
 use Rattle.cs_core.specs.Stored.{StagesBehind, Stored, but_for_room}
 use Rattle.cs_core.proofs.Going.{round_told, same_graph, same_index}
 use Rattle.cs_core.proofs.KeptStages.{kept_refused}
-use Rattle.cs_core.proofs.Moves.{behind_none}
+use Rattle.cs_core.proofs.Moves.{behind_none, root_on}
 use Rattle.cs_core.proofs.Noted.{pushed_last}
 use Rattle.cs_core.proofs.StagedBy.{kept_staged_by, may_indeed, none_staged, stage_declines_by, stage_none_by, stage_steps_by, staged_moves_by, staged_table_by}
 use Rattle.cs_core.proofs.StagesApart.{roomed_copies}
@@ -88,7 +88,7 @@ returns-in-Ok-Some-clause-step c = subst (λ (u : Stored). u.halted ≡ false �
     let done = e.staged c.in-Ok-Some.version is in
     let why = subst (λ r. IsExact r (IsSweepStageFullBy b v.index v.extents v.copies) (IsSweepStageWornBy b v.index v.extents v.graph.staging v.copies)) is e.why in
     let may = may_indeed v b (staged_some c.stage.result (MayStageBy b (shape v.extents) (extents_of v.extents) v.index v.copies → ⊥) c.in-Ok-Some.version e.none is) in
-    let m = staged_moves_by v.index v.extents v.graph v.copies c.in-Ok-Some.version _ new.index new.extents new.graph new.self b done whole.geometry.fewest_sections in
+    let m = staged_moves_by v.index v.extents v.graph v.copies c.in-Ok-Some.version _ new.index new.extents new.graph new.self b done (root_on _ whole) in
     round_told (λ (u : Stored). Steps v Stage (Staged c.in-Ok-Some.version) u)
     (record v { graph = new.graph; extents = new.extents; index = new.index; copies = new.self; roots = c.push_back_reserved.new.self.items }) m.round
     (stage_steps_by v whole runs b refl c.in-Ok-Some.version new.extents new.graph new.index new.self c.push_back_reserved.new.self.items why.0 why.1 may done e.shape
@@ -104,13 +104,13 @@ pub returns-in-Ok-Some-clause-behind : goal.returns-in-Ok-Some-clause-behind
 returns-in-Ok-Some-clause-behind c = rw (← c.self.view_is) (
     let s : Stored = the_view c.self.inside in
     (staged_moves_by s.index s.extents s.graph s.copies c.in-Ok-Some.version _ c.stage.new.index c.stage.new.extents c.stage.new.graph c.stage.new.self (shape s.extents).apart
-    (c.stage.ensures.staged c.in-Ok-Some.version (search rules)) c.extent_count.ensures.whole.geometry.fewest_sections).behind)
+    (c.stage.ensures.staged c.in-Ok-Some.version (search rules)) (root_on _ c.extent_count.ensures.whole)).behind)
 
 pub returns-in-Ok-Some-clause-round : goal.returns-in-Ok-Some-clause-round
 returns-in-Ok-Some-clause-round c = rw (← c.self.view_is) (
     let s : Stored = the_view c.self.inside in (
       (staged_moves_by s.index s.extents s.graph s.copies c.in-Ok-Some.version _ c.stage.new.index c.stage.new.extents c.stage.new.graph c.stage.new.self (shape s.extents).apart
-          (c.stage.ensures.staged c.in-Ok-Some.version (search rules)) c.extent_count.ensures.whole.geometry.fewest_sections).round,
+          (c.stage.ensures.staged c.in-Ok-Some.version (search rules)) (root_on _ c.extent_count.ensures.whole)).round,
       refl,
     ))
 

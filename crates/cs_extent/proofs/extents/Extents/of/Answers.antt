@@ -1,5 +1,6 @@
 use Rattle.std.proofs.Common.{◌∙◌, ◌≡◌, ◌≤◌, ap, ℕ, List, replicate, false, zero, length, arith, sym, subst, get_or}
 use Rattle.std.specs.List.{AllByRecursion}
+use Rattle.law_machine.specs.Format.{Format}
 use Rattle.law_machine.specs.Geometry.{apart_in}
 use Rattle.cs_frame.specs.Geometries.{IsGeometry}
 use Rattle.cs_extent.specs.Sections.{format_of, pages_of, rows_of}
@@ -15,7 +16,7 @@ invariant_of-result c =
     let xs : List (ℕ × ℕ) = c.in_ok-written.written.items in
     let same : xs ≡ rows_of c.args.sections.now = c.in_ok-written.ensures in
     let is : IsGeometry g.format (length xs) g.pages g.sections =
-    subst (λ (n : ℕ). IsGeometry n (length xs) g.pages g.sections) (sym e.format)
+    subst (λ (f : Format). IsGeometry f (length xs) g.pages g.sections) (sym e.format)
     (subst (λ (n : ℕ). IsGeometry (format_of c.args.sections.now) (length xs) g.pages n) (sym e.sections)
     (subst (λ (n : ℕ). IsGeometry (format_of c.args.sections.now) (length xs) n (length c.args.sections.now)) (sym e.pages)
     (subst (λ (ys : List (ℕ × ℕ)). IsGeometry (format_of c.args.sections.now) (length ys) (pages_of c.args.sections.now) (length c.args.sections.now)) (sym same) (rows_geometry c.args.sections.now c.requires)))) in

@@ -1,6 +1,6 @@
 use Rattle.std.proofs.Common.{◌≡◌, ◌∙◌, ◌<◌, arith, drop, length, map, subst, sym, inl, inr, refl, ℕ}
 use Rattle.cs_extent.specs.State.{shape}
-use Rattle.cs_frame.proofs.RootLaws.{fewest_runs}
+use Rattle.cs_index.proofs.OfFormat.{fewest_runs}
 use Rattle.law_machine.specs.Extents.{ForMerge, ForRun}
 use Rattle.cs_index.specs.Apart.{IsFullApart, WritesNewest}
 use Rattle.cs_index.specs.State.{named_entry}

@@ -1,9 +1,9 @@
-use Rattle.std.proofs.Common.{◌≡◌, ◌≤◌, ◌<◌, ◌∙◌, ◌&&◌, ◌||◌, Bool, ap, arith, drop, length, nat_le, nat_lt, refl, subst, sym, ℕ, if◌then◌else◌}
+use Rattle.std.proofs.Common.{◌≡◌, ◌≤◌, ◌<◌, ◌∙◌, ◌&&◌, ◌||◌, Bool, ap, arith, drop, length, nat_le, nat_lt, refl, subst, sym, ℕ}
 use Rattle.cs_extent.specs.State.{shape}
 use Rattle.cs_frame.proofs.GeometryLaws.{bounds}
-use Rattle.cs_frame.proofs.RootLaws.{fewest_runs}
-use Rattle.cs_frame.specs.Roots.{greatest_runs}
-use Rattle.law_machine.specs.Geometry.{by_size_in, weigh_in}
+use Rattle.cs_index.proofs.OfFormat.{fewest_runs}
+use Rattle.law_machine.specs.Format.{Format}
+use Rattle.law_machine.specs.Geometry.{by_size_in, most_runs_in, weigh_in}
 use Rattle.cs_index.specs.Merges.{deletions_go, stage_takes}
 use Rattle.cs_index.proofs.Sizes.{goes_all, takes_inside, takes_left}
 use Rattle.cs_index.proofs.Weights.{most_few}
@@ -15,15 +15,15 @@ format_is c = c.format-format.ensures.format ∙ c.geometry.ensures.format
 
 is_newest : (c : After-lets_deletions_go) → c.newest_to_merge-newest.result ≡ stage_takes (shape c.args.extents.now) c.args.self.now
 is_newest c =
-    c.newest_to_merge-newest.ensures (shape c.args.extents.now) (ap (λ (f : ℕ). by_size_in f) (sym (format_is c))) (ap (λ (f : ℕ). weigh_in f) (sym c.requires.format)) (sym c.requires.limit)
-    (ap (λ (f : ℕ). if nat_le f 2 then 4 else 24) (sym (format_is c)))
+    c.newest_to_merge-newest.ensures (shape c.args.extents.now) (ap (λ (f : Format). by_size_in f) (sym (format_is c))) (ap (λ (f : Format). weigh_in f) (sym c.requires.format)) (sym c.requires.limit)
+    (ap (λ (f : Format). most_runs_in f) (sym (format_is c)))
 
 goes_so : (c : After-lets_deletions_go) → c.lets_deletions_go.result ≡ deletions_go (shape c.args.extents.now) c.args.self.now c.newest_to_merge-newest.result
 goes_so c =
     c.lets_deletions_go.ensures
     ∙ ap (λ (n : ℕ). nat_le n c.newest_to_merge-newest.result && (c.merges_by_size-by_size.result || nat_lt 0 c.newest_to_merge-newest.result)) c.run_count-runs.ensures.count
     ∙ ap (λ (b : Bool). nat_le (length c.args.self.now.runs) c.newest_to_merge-newest.result && (b || nat_lt 0 c.newest_to_merge-newest.result))
-    (c.merges_by_size-by_size.ensures ∙ ap (λ (f : ℕ). by_size_in f) (format_is c))
+    (c.merges_by_size-by_size.ensures ∙ ap (λ (f : Format). by_size_in f) (format_is c))
 
 pub newest_to_merge-newest-requires : goal.newest_to_merge-newest-requires
 newest_to_merge-newest-requires c =
@@ -42,9 +42,9 @@ returns-clause-inside c =
 pub returns-clause-left : goal.returns-clause-left
 returns-clause-left c =
     let at = (goal.at.returns-clause-left c).After-lets_deletions_go in
-    let format : ℕ = c.args.extents.now.format in
-    subst (λ (n : ℕ). length (drop n c.args.self.now.runs) < greatest_runs format) (sym (is_newest at))
-    (takes_left (shape c.args.extents.now) c.args.self.now (greatest_runs format) (fewest_runs format) (λ by. refl))
+    let format : Format = c.args.extents.now.format in
+    subst (λ (n : ℕ). length (drop n c.args.self.now.runs) < most_runs_in format) (sym (is_newest at))
+    (takes_left (shape c.args.extents.now) c.args.self.now (most_runs_in format) (fewest_runs format) (λ by. refl))
 
 pub returns-clause-alone : goal.returns-clause-alone
 returns-clause-alone c = λ go.

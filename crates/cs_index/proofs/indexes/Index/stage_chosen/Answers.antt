@@ -7,16 +7,15 @@ use Rattle.cs_extent.specs.Places.{GoesIn}
 use Rattle.cs_extent.specs.Purposes.{reason_of}
 use Rattle.cs_extent.specs.State.{shape}
 use Rattle.cs_frame.proofs.GeometryLaws.{bounds}
-use Rattle.cs_frame.proofs.RootLaws.{fewest_runs, most_runs}
+use Rattle.cs_index.proofs.OfFormat.{fewest_runs, most_runs}
 use Rattle.cs_frame.specs.declared.locators.Locator.{Locator}
 use Rattle.cs_frame.specs.Formats.{place_of}
-use Rattle.cs_frame.specs.Geometries.{IsKnown}
 use Rattle.cs_frame.specs.Locators.{KeepFormat}
-use Rattle.cs_frame.specs.Roots.{greatest_runs}
 use Rattle.cs_index.specs.contracts.indexes.Index.{the_view}
 use Rattle.cs_index.specs.declared.stored_runs.StoredRun.{StoredRun}
+use Rattle.law_machine.specs.Format.{Format}
 use Rattle.law_machine.specs.Element.{Entry, Run}
-use Rattle.law_machine.specs.Geometry.{pages_first_in, weigh_in}
+use Rattle.law_machine.specs.Geometry.{most_runs_in, pages_first_in, weigh_in}
 use Rattle.law_machine.specs.Index.{run_weight}
 use Rattle.cs_index.specs.Staged.{IsRootOver, IsRunStagedBy, WritesPart, run_frame}
 use Rattle.cs_index.specs.State.{KeepTo, RunsKeepTo, index_of, named_entry, newest_first, state_of}
@@ -43,9 +42,6 @@ goes c = goes_where_none c.args.chosen.portion.without_deletions c.args.self.now
 none_writes : (c : Then-is_empty) (es : List Entry) → WritesPart c.args.chosen.portion.without_deletions c.args.self.now c.args.chosen.portion.newest es → ⊥
 none_writes c es writes = part_none c.args.chosen.portion.without_deletions c.args.self.now c.args.chosen.portion.newest (map named_entry c.args.chosen.run.entries.items) es (none_left c) c.requires.run.merged writes
 
-pub stage_over-requires-clause-format : goal.stage_over-requires-clause-format
-stage_over-requires-clause-format c = subst (λ (f : ℕ). IsKnown f) (sym c.format-format.ensures.format) c.format-format.ensures.geometry.known
-
 pub stage_over-requires-clause-places : goal.stage_over-requires-clause-places
 stage_over-requires-clause-places c = omega (arith, ap length c.new.ensures.items, fewest_runs c.format-format.result)
 
@@ -62,7 +58,7 @@ returns-then-is_empty-clause-staged c =
     let at = (goal.at.returns-then-is_empty-clause-staged c).Then-is_empty in
     part_empty (shape c.args.extents.now).apart c.args.chosen.portion.without_deletions c.args.chosen.portion.newest c.args.self.now c.args.extents.now c.args.graph.now (reason_of c.args.chosen.purpose) c.in_ok-version.version c.args.commands c.become_empty.new.self c.args.extents.now c.stage_over.new.graph
     (map named_entry c.args.chosen.run.entries.items) c.requires.run.merged (none_left at) (c.requires.alone (goes at))
-    (subst (λ (f : ℕ). IsRootOver f (pages_first_in f) c.args.graph.now c.stage_over.new.graph c.in_ok-version.version c.args.commands []) (c.format-format.ensures.format ∙ c.geometry.ensures.format)
+    (subst (λ (f : Format). IsRootOver f (pages_first_in f) c.args.graph.now c.stage_over.new.graph c.in_ok-version.version c.args.commands []) (c.format-format.ensures.format ∙ c.geometry.ensures.format)
     (subst (λ (ls : List Locator). IsRootOver c.format-format.result (pages_first_in c.format-format.result) c.args.graph.now c.stage_over.new.graph c.in_ok-version.version c.args.commands ls) c.new.ensures.items c.in_ok-version.ensures.staged))
     c.become_empty.ensures
 
@@ -105,7 +101,7 @@ stage_run-requires-clause-run c =
     let format = rw (← c.self.view_is) at c.requires.format in
     let run = rw (← c.self.view_is) at c.requires.run.merged in
     is_run c.args.chosen.run c.args.extents.now.format c.args.extents.now.pages c.requires.run.ids c.requires.run.merged.0 c.requires.run.short (some_left (goal.at.stage_run-requires-clause-run c).Else-is_empty) (bounds _ _ _ _ c.geometry.ensures.whole.geometry).most_pages (light (goal.at.stage_run-requires-clause-run c).After-named_after-named)
-    (subst (λ (f : ℕ). AllByRecursion (λ x. KeepTo f x.locators) (map named_entry c.args.chosen.run.entries.items)) format
+    (subst (λ (f : Format). AllByRecursion (λ x. KeepTo f x.locators) (map named_entry c.args.chosen.run.entries.items)) format
     (part_keeps c.args.chosen.portion.without_deletions (the_view c.self.inside) c.args.chosen.portion.newest (map named_entry c.args.chosen.run.entries.items) c.self.invariant.whole run))
 
 pub stage_run-requires-clause-marks : goal.stage_run-requires-clause-marks
@@ -114,21 +110,21 @@ stage_run-requires-clause-marks c =
     let n : ℕ = c.len.result - c.args.chosen.portion.newest in
     subst (λ (rs : List StoredRun). KeepFormat c.args.extents.now.format (map (λ run. run.place) (take n rs))) (sym (c.deref.ensures.value ∙ c.in_ok-reserve.ensures.items))
     (left_places c.self.inside.runs.items n c.args.chosen.portion.newest (split (goal.at.stage_run-requires-clause-marks c).After-named_after-named) c.args.extents.now.format
-    (subst (λ (f : ℕ). RunsKeepTo f (newest_first c.self.inside.runs.items)) format c.self.invariant.whole.placed))
+    (subst (λ (f : Format). RunsKeepTo f (newest_first c.self.inside.runs.items)) format c.self.invariant.whole.placed))
 
 -- the run's place keeps to the format
 placed : (c : In-Ok) → KeepTo c.self.inside.format (place_of c.in-Ok.place ∷ [])
 placed c =
     let format = rw (← c.self.view_is) at c.requires.format in
-    subst (λ (f : ℕ). KeepTo f (place_of c.in-Ok.place ∷ [])) (sym format)
+    subst (λ (f : Format). KeepTo f (place_of c.in-Ok.place ∷ [])) (sym format)
     (run_placed (shape c.args.extents.now).apart c.args.extents.now c.args.graph.now (reason_of c.args.chosen.purpose) (map named_entry c.args.chosen.run.entries.items) (place_of c.in-Ok.place) c.stage_run.new.extents c.in-Ok.ensures.staged.0 c.in-Ok.ensures.staged.1)
 
 pub stage_run-requires-clause-few : goal.stage_run-requires-clause-few
 stage_run-requires-clause-few c =
     let left = rw (← c.self.view_is) at c.requires.left in
     let n : ℕ = c.len.result - c.args.chosen.portion.newest in
-    subst (λ (rs : List StoredRun). length (take n rs) < greatest_runs c.args.extents.now.format) (sym (c.deref.ensures.value ∙ c.in_ok-reserve.ensures.items))
-    (few_left c.self.inside.runs.items n c.args.chosen.portion.newest (split (goal.at.stage_run-requires-clause-few c).After-named_after-named) (greatest_runs c.args.extents.now.format) left)
+    subst (λ (rs : List StoredRun). length (take n rs) < most_runs_in c.args.extents.now.format) (sym (c.deref.ensures.value ∙ c.in_ok-reserve.ensures.items))
+    (few_left c.self.inside.runs.items n c.args.chosen.portion.newest (split (goal.at.stage_run-requires-clause-few c).After-named_after-named) (most_runs_in c.args.extents.now.format) left)
 
 pub invariant_of-self-in-Ok : goal.invariant_of-self-in-Ok
 invariant_of-self-in-Ok c =

@@ -1,7 +1,7 @@
 use Rattle.std.proofs.Common.{◌≡◌, arith, ap, drop, length}
 use Rattle.std.proofs.lemmas.Result.{IfOk-weaker}
 use Rattle.cs_extent.specs.Purposes.{reason_of}
-use Rattle.cs_frame.proofs.RootLaws.{fewest_runs}
+use Rattle.cs_index.proofs.OfFormat.{fewest_runs}
 use Rattle.cs_index.specs.Staged.{WritesMerged, WritesPart}
 use Rattle.std.specs.Prelude.{true}
 use Rattle.cs_index.proofs.Cases.{all_merged, all_writes, none_behind, writes_all}

@@ -1,14 +1,13 @@
-use Rattle.std.proofs.Common.{◌≡◌, ◌∙◌, List, ap, arith, inr, length, map, refl, subst, sym, ℕ}
+use Rattle.std.proofs.Common.{◌≡◌, ◌∙◌, List, ap, arith, inr, length, map, refl, subst, sym}
 use Rattle.std.proofs.lemmas.Bool.{false≢true}
 use Rattle.std.proofs.lemmas.List.{length-map}
 use Rattle.std.proofs.lemmas.Result.{IfOk-weaker}
 use Rattle.cs_extent.specs.Purposes.{reason_of}
 use Rattle.cs_extent.specs.State.{shape}
 use Rattle.cs_frame.specs.declared.locators.Locator.{Locator}
-use Rattle.cs_frame.specs.Geometries.{IsKnown}
 use Rattle.cs_frame.specs.Locators.{KeepFormat}
-use Rattle.cs_frame.specs.Roots.{greatest_runs}
-use Rattle.law_machine.specs.Geometry.{pages_first_in}
+use Rattle.law_machine.specs.Format.{Format}
+use Rattle.law_machine.specs.Geometry.{most_runs_in, pages_first_in}
 use Rattle.law_machine.specs.Index.{live_at, lookup}
 use Rattle.cs_index.specs.contracts.indexes.Index.{the_view}
 use Rattle.cs_index.specs.declared.stored_runs.StoredRun.{StoredRun}
@@ -68,13 +67,10 @@ returns-in-Err-clause-why c = refused_why c.in-Err.refusal _ _ c.in-Err.ensures.
 pub places_of-requires : goal.places_of-requires
 places_of-requires c = omega (arith, c.self.invariant.whole.few, ap (λ (rs : List StoredRun). length rs) c.deref.ensures.value, length-newest c.self.inside.runs.items)
 
-pub stage_over-requires-clause-format : goal.stage_over-requires-clause-format
-stage_over-requires-clause-format c = subst (λ (f : ℕ). IsKnown f) (sym c.format-format.ensures.format) c.format-format.ensures.geometry.known
-
 pub stage_over-requires-clause-places : goal.stage_over-requires-clause-places
 stage_over-requires-clause-places c =
     let runs = rw (← c.self.view_is) at c.requires.runs in
-    let same : greatest_runs c.format-format.result ≡ greatest_runs c.args.extents.now.format = ap greatest_runs (c.format-format.ensures.format ∙ c.geometry.ensures.format) in
+    let same : most_runs_in c.format-format.result ≡ most_runs_in c.args.extents.now.format = ap most_runs_in (c.format-format.ensures.format ∙ c.geometry.ensures.format) in
     omega (
       arith,
       same,
@@ -91,7 +87,7 @@ stage_over-requires-clause-marks c =
     subst (λ (ls : List Locator). KeepFormat c.format-format.result ls) (sym c.in_ok-places.ensures.places)
     (subst (λ (rs : List StoredRun). KeepFormat c.format-format.result (map (λ run. run.place) rs)) (sym c.deref.ensures.value)
     (places_keep c.format-format.result c.self.inside.runs.items
-    (subst (λ (f : ℕ). RunsKeepTo f (newest_first c.self.inside.runs.items)) (format ∙ sym (c.format-format.ensures.format ∙ c.geometry.ensures.format)) c.self.invariant.whole.placed)))
+    (subst (λ (f : Format). RunsKeepTo f (newest_first c.self.inside.runs.items)) (format ∙ sym (c.format-format.ensures.format ∙ c.geometry.ensures.format)) c.self.invariant.whole.placed)))
 
 pub returns-then-is_table_empty-clause-staged : goal.returns-then-is_table_empty-clause-staged
 returns-then-is_table_empty-clause-staged c =
@@ -103,7 +99,7 @@ returns-then-is_table_empty-clause-staged c =
     (same_part (deletions_go (shape c.args.extents.now) (the_view c.self.inside) 0) (the_view c.self.inside) c.args.extents.now c.args.graph.now v c.args.commands c.stage_over.new.graph none
     (root_same x.format (pages_first_in x.format) c.args.graph.now c.args.graph.now c.stage_over.new.graph v c.args.commands c.self.inside.runs.items (newest_first c.self.inside.runs.items) c.in_ok-places.places.items refl
     (c.in_ok-places.ensures.places ∙ ap (map (λ run. run.place)) c.deref.ensures.value) refl
-    (subst (λ (f : ℕ). IsRootOver f (pages_first_in f) c.args.graph.now c.stage_over.new.graph v c.args.commands c.in_ok-places.places.items) (c.format-format.ensures.format ∙ c.geometry.ensures.format) root))))
+    (subst (λ (f : Format). IsRootOver f (pages_first_in f) c.args.graph.now c.stage_over.new.graph v c.args.commands c.in_ok-places.places.items) (c.format-format.ensures.format ∙ c.geometry.ensures.format) root))))
     c.stage_over.ensures.staged)
 
 pub returns-then-is_table_empty-clause-why : goal.returns-then-is_table_empty-clause-why

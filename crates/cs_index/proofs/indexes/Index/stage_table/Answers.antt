@@ -2,15 +2,15 @@ use Rattle.std.proofs.Common.{Bool, ◌∙◌, ◌≡◌, ◌≢◌, ◌<◌, �
 use Rattle.std.specs.List.{AllByRecursion}
 use Rattle.std.specs.declared.alloc.Global.{Global}
 use Rattle.cs_frame.specs.declared.identifiers.ShardId.{ShardId}
+use Rattle.law_machine.specs.Format.{Format}
 use Rattle.law_machine.specs.Element.{Entry, Run}
 use Rattle.law_machine.specs.Extents.{ForRun}
-use Rattle.law_machine.specs.Geometry.{weigh_in}
+use Rattle.law_machine.specs.Geometry.{most_runs_in, weigh_in}
 use Rattle.law_machine.specs.Index.{named_weight, names, run_weight}
 use Rattle.cs_extent.specs.Places.{GoesIn}
 use Rattle.cs_extent.specs.State.{shape}
 use Rattle.cs_frame.proofs.GeometryLaws.{bounds}
-use Rattle.cs_frame.proofs.RootLaws.{most_runs}
-use Rattle.cs_frame.specs.Roots.{greatest_runs}
+use Rattle.cs_index.proofs.OfFormat.{most_runs}
 use Rattle.law_machine.specs.Tally.{shards}
 use Rattle.cs_index.specs.contracts.indexes.Index.{the_view}
 use Rattle.cs_index.specs.declared.stored_runs.StoredRun.{StoredRun}
@@ -29,7 +29,7 @@ use Rattle.cs_index.proofs.Whole.{length-newest, no_ids}
 use Rattle.cs_index.proofs.indexes.Index.stage_table.Goals as goal
 use Rattle.cs_index.proofs.indexes.Index.stage_table.Goals.{After-deref, After-push_reserved}
 
-few_runs : (c : After-deref) → length (newest_first c.self.inside.runs.items) < greatest_runs c.args.extents.now.format
+few_runs : (c : After-deref) → length (newest_first c.self.inside.runs.items) < most_runs_in c.args.extents.now.format
 few_runs c = rw (← c.self.view_is) at c.requires.few
 
 some_entries : (c : After-deref) → map named_entry c.self.inside.table.entries.items ≢ []
@@ -48,13 +48,13 @@ stage_run-requires-clause-run c =
     let i = c.self.inside in
     is_run (record { entries = c.self.inside.table.entries }) c.args.extents.now.format c.args.extents.now.pages c.self.invariant.ids c.self.invariant.whole.ascending c.self.invariant.whole.short (some_entries c)
     (bounds _ _ _ _ c.extent_count-extents.ensures.whole.geometry).most_pages (light c)
-    (subst (λ (f : ℕ). AllByRecursion (λ x. KeepTo f x.locators) (map named_entry i.table.entries.items)) format (table_keeps i.table.entries.items i.runs.items i.format i.limit i.room c.self.invariant.whole))
+    (subst (λ (f : Format). AllByRecursion (λ x. KeepTo f x.locators) (map named_entry i.table.entries.items)) format (table_keeps i.table.entries.items i.runs.items i.format i.limit i.room c.self.invariant.whole))
 
 pub stage_run-requires-clause-marks : goal.stage_run-requires-clause-marks
 stage_run-requires-clause-marks c =
     let format = rw (← c.self.view_is) at c.requires.format in
     subst (λ (rs : List StoredRun). KeepFormat c.args.extents.now.format (map (λ run. run.place) rs)) (sym (c.deref.ensures.value ∙ c.in_ok-reserve.ensures.items))
-    (places_keep c.args.extents.now.format c.self.inside.runs.items (subst (λ (f : ℕ). RunsKeepTo f (newest_first c.self.inside.runs.items)) format c.self.invariant.whole.placed))
+    (places_keep c.args.extents.now.format c.self.inside.runs.items (subst (λ (f : Format). RunsKeepTo f (newest_first c.self.inside.runs.items)) format c.self.invariant.whole.placed))
 
 pub run_fits-requires-clause-weight : goal.run_fits-requires-clause-weight
 run_fits-requires-clause-weight c =
@@ -114,7 +114,7 @@ invariant_of-self-in-Ok c =
     let at = (goal.at.invariant_of-self-in-Ok c).After-push_reserved in
     let some = rw (← c.self.view_is) at c.requires.some in
     let format = rw (← c.self.view_is) at c.requires.format in
-    let placed = subst (λ (f : ℕ). KeepTo f (place_of c.in-Ok.place ∷ [])) (sym format)
+    let placed = subst (λ (f : Format). KeepTo f (place_of c.in-Ok.place ∷ [])) (sym format)
     (run_placed (shape c.args.extents.now).apart c.args.extents.now c.args.graph.now ForRun (map named_entry c.self.inside.table.entries.items) (place_of c.in-Ok.place) c.stage_run.new.extents c.in-Ok.ensures.staged.0 c.in-Ok.ensures.staged.1) in
     let few : length (newest_first i.runs.items) < 24 = omega (arith, few_runs (goal.at.invariant_of-self-in-Ok c).After-deref, most_runs c.args.extents.now.format) in
     record {

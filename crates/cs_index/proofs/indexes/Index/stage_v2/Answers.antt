@@ -1,6 +1,6 @@
 use Rattle.std.proofs.Common.{◌≡◌, ◌<◌, ◌∙◌, false, inr, length, drop, rules, subst, sym, ℕ}
 use Rattle.cs_extent.specs.State.{shape}
-use Rattle.cs_frame.specs.Roots.{greatest_runs}
+use Rattle.law_machine.specs.Geometry.{most_runs_in}
 use Rattle.cs_index.specs.Merges.{deletions_go, stage_takes}
 use Rattle.cs_index.proofs.Exact.{exact_stage}
 use Rattle.cs_index.proofs.StagedV2.{as_newest, keeps_live, keeps_lookups}
@@ -8,7 +8,7 @@ use Rattle.cs_index.proofs.indexes.Index.stage_v2.Goals as goal
 use Rattle.cs_index.proofs.indexes.Index.stage_v2.Goals.{Then-not-portion}
 
 pub stage_table-requires-clause-few : goal.stage_table-requires-clause-few
-stage_table-requires-clause-few c = subst (λ (n : ℕ). length (drop n c.args.self.now.runs) < greatest_runs c.args.extents.now.format) c.if-portion-eq0.true c.newest_portion-portion.ensures.left
+stage_table-requires-clause-few c = subst (λ (n : ℕ). length (drop n c.args.self.now.runs) < most_runs_in c.args.extents.now.format) c.if-portion-eq0.true c.newest_portion-portion.ensures.left
 
 pub stage_newest-requires-clause-some : goal.stage_newest-requires-clause-some
 stage_newest-requires-clause-some c = inr c.requires.some

@@ -2,6 +2,7 @@ use Rattle.std.proofs.Common.{rules, ℕ, ◌≡◌, ◌↔◌, ◌∙◌, ◌�
 use Rattle.cs_core.specs.Started.{IsNewOn}
 use Rattle.cs_disk.specs.Disk.{Image, Leaves, Rises, State, flushed, page, seen}
 use Rattle.cs_disk.proofs.Images.{length-applied}
+use Rattle.cs_frame.proofs.GeometryLaws.{pages_on_device}
 use Rattle.cs_frame.specs.Geometries.{device_pages}
 use Rattle.cs_refusal.specs.declared.refusals.Refusal.TheVariants.{DeviceFault, Occupied, OutOfMemory}
 use Rattle.cs_twin.specs.declared.pairs.Pair.{Pair}
@@ -21,6 +22,12 @@ use Rattle.cs_core.specs.cs_extent.State.{shape}
 use Rattle.cs_frame.specs.Formats.{formats_of}
 use Rattle.cs_mount.proofs.mount_options.MountOptions.create.Goals as goal
 
+pub is_taken-requires-clause-some : goal.is_taken-requires-clause-some
+is_taken-requires-clause-some g c =
+    let d = c.args.geometry in
+    let counted : g.D.PageDisk.page_count c.args.disk ≡ device_pages d.format d.extents d.pages d.sections = search rules in
+    omega (arith, counted, pages_on_device d.format d.extents d.pages d.sections c.extents.ensures.geometry)
+
 pub make_once-requires-clause-fits : goal.make_once-requires-clause-fits
 make_once-requires-clause-fits g c = λ h.
     let D = g.D.PageDisk in
@@ -36,7 +43,7 @@ make_once-requires-clause-fits g c = λ h.
     let counted : n ≡ device_pages d.format d.extents d.pages d.sections = search rules in
     let size = length-applied (D.state disk).durable (D.state disk).volatile ∙ g.met.D.PageDisk.sized disk old in
     let fits : IsOfStore (Some d) pairs n (seen (D.state disk)) =
-    free_fits d pairs n (seen (D.state disk)) test.field-0 (omega (arith, counted)) size (c.in-Ok.ensures.are n (sym counted)) c.in-Ok.ensures.pairs (sym counted) test.field-0-test
+    free_fits d pairs n (seen (D.state disk)) test.field-0 (omega (arith, counted, pages_on_device d.format d.extents d.pages d.sections c.extents.ensures.geometry)) size c.in-Ok.ensures.pairs (sym counted) (search rules) test.field-0-test
     (subst (λ (l : List Pair). IsTrue test.field-0 ↔ IsTaken n (seen (D.state disk)) V l) c.deref.ensures.value (test.ensures.taken old)) in
     subst (λ m. IsOfStore (Some d) pairs m (seen (D.state mid))) (sym reads.pages) (subst (λ (s : State). IsOfStore (Some d) pairs n (seen s)) (sym (reads.same old)) fits)
 
@@ -136,7 +143,7 @@ returns-else-has_twins-clause-taken g c = λ h taken.
     absurd (free n image V c.deref.result.now test.field-0 test.field-0-test (test.ensures.taken h) (subst (λ (l : List Pair). IsTaken n image V l) (sym (c.deref.ensures.value ∙ c.in-Ok.ensures.pairs)) taken))
 
 pub returns-then-has_twins-clause-crash : goal.returns-then-has_twins-clause-crash
-returns-then-has_twins-clause-crash g c = λ h three.
+returns-then-has_twins-clause-crash g c = λ h twins.
     let D = g.D.PageDisk in
     let d = c.args.geometry in
     let reads = c.is_taken.ensures.disk in
@@ -145,7 +152,7 @@ returns-then-has_twins-clause-crash g c = λ h three.
     (c.make_twice.ensures.crash (reads.honesty.0 h)))
 
 pub returns-then-has_twins-clause-left : goal.returns-then-has_twins-clause-left
-returns-then-has_twins-clause-left g c = λ h three.
+returns-then-has_twins-clause-left g c = λ h twins.
     let D = g.D.PageDisk in
     let reads = c.is_taken.ensures.disk in
     subst (λ (s : State). IfErr c.make_twice.result (λ refused. Leaves (D.state refused.1) (LeavesLaying c.args.geometry s))) (reads.same h) (c.make_twice.ensures.left (reads.honesty.0 h))
@@ -159,13 +166,13 @@ returns-else-has_twins-clause-start g c =
     ok_if c.make_once.result (g.D.PageDisk.honest c.args.disk) (λ core. Recovers (shape core.store.extents) (formats_of (shape core.store.extents)) (page core.opened) 0 (λ id. None)) (λ h. c.make_once.ensures.start (c.is_taken.ensures.disk.honesty.0 h))
 
 pub returns-then-pages-device_pages-clause-left : goal.returns-then-pages-device_pages-clause-left
-returns-then-pages-device_pages-clause-left g c = λ h three. let s = g.D.PageDisk.state c.args.disk in not_laid c.args.geometry s s refl
+returns-then-pages-device_pages-clause-left g c = λ h twins. let s = g.D.PageDisk.state c.args.disk in not_laid c.args.geometry s s refl
 
 pub returns-in_default-clause-left : goal.returns-in_default-clause-left
-returns-in_default-clause-left g c = λ h three. let s = g.D.PageDisk.state c.args.disk in not_laid c.args.geometry s s refl
+returns-in_default-clause-left g c = λ h twins. let s = g.D.PageDisk.state c.args.disk in not_laid c.args.geometry s s refl
 
 pub returns-in-Ok-true-clause-left : goal.returns-in-Ok-true-clause-left
-returns-in-Ok-true-clause-left g c = λ h three. not_laid c.args.geometry (g.D.PageDisk.state c.args.disk) (g.D.PageDisk.state c.is_taken.new.disk) (c.is_taken.ensures.disk.same h)
+returns-in-Ok-true-clause-left g c = λ h twins. not_laid c.args.geometry (g.D.PageDisk.state c.args.disk) (g.D.PageDisk.state c.is_taken.new.disk) (c.is_taken.ensures.disk.same h)
 
 pub returns-in-Err-clause-left : goal.returns-in-Err-clause-left
-returns-in-Err-clause-left g c = λ h three. not_laid c.args.geometry (g.D.PageDisk.state c.args.disk) (g.D.PageDisk.state c.is_taken.new.disk) (c.is_taken.ensures.disk.same h)
+returns-in-Err-clause-left g c = λ h twins. not_laid c.args.geometry (g.D.PageDisk.state c.args.disk) (g.D.PageDisk.state c.is_taken.new.disk) (c.is_taken.ensures.disk.same h)

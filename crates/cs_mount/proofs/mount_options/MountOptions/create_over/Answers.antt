@@ -22,4 +22,4 @@ returns-then-has_twins-clause-start g c =
     ok_if c.make_twice.result (g.D.PageDisk.honest c.args.disk) (λ core. Recovers (shape core.store.extents) (formats_of (shape core.store.extents)) (page core.opened) 0 (λ id. None)) c.make_twice.ensures.start
 
 pub returns-then-pages-device_pages-clause-left : goal.returns-then-pages-device_pages-clause-left
-returns-then-pages-device_pages-clause-left g c = λ h three. let s = g.D.PageDisk.state c.args.disk in not_laid c.args.geometry s s refl
+returns-then-pages-device_pages-clause-left g c = λ h twins. let s = g.D.PageDisk.state c.args.disk in not_laid c.args.geometry s s refl

@@ -1,8 +1,9 @@
-use Rattle.std.proofs.Common.{ap, inr, le_trans, subst, sym, ⊎_elim, ◌∙◌, ◌≡◌, ◌⊎◌}
+use Rattle.std.proofs.Common.{ap, arith, inl, inr, le_trans, mul-le-mul_left, ◌*◌, ◌≤◌, subst, sym, ⊎_elim, ◌∙◌, ◌≡◌, ◌⊎◌}
 use Rattle.cs_core.specs.cs_chunk.Reads.{IsNoAnswer}
 use Rattle.cs_reader.specs.Openings.{IsWhyNotOpened}
 use Rattle.cs_disk.specs.Disk.{Image, flushed, page, seen}
 use Rattle.cs_frame.specs.Formats.{formats_of}
+use Rattle.cs_frame.proofs.GeometryLaws.{bounds, pages_on_device}
 use Rattle.cs_frame.specs.Geometries.{section_size}
 use Rattle.law_machine.specs.Geometry.{shape_of}
 use Rattle.law_machine.specs.Recovery.{Recovers}
@@ -24,7 +25,7 @@ returns-in-Ok-open-clause-store g c =
     opened_by (g.D.PageDisk.honest c.in-Ok.paired.disk) (g.D.PageDisk.honest c.args.disk) c.in-Ok-open.core.opened c.in-Ok-open.core.found c.in-Ok-open.core.store c.in-Ok.ensures.honest.0 c.in-Ok-open.ensures.store
 
 pub returns-in-Ok-open-clause-recovers : goal.returns-in-Ok-open-clause-recovers
-returns-in-Ok-open-clause-recovers g c = λ h format extents pages sections geometry sized n m recovers.
+returns-in-Ok-open-clause-recovers g c = λ h one format extents pages sections geometry sized n m recovers.
     let S = shape_of extents pages sections (section_size extents sections) format in
     c.in-Ok-open.ensures.recovers (c.in-Ok.ensures.honest.0 h) format extents pages sections geometry (c.in-Ok.ensures.pages ∙ sized) n m
     (subst (λ (image : Image). Recovers S (formats_of S) (page image) n m) (sym (ap seen (c.in-Ok.ensures.shown h))) recovers)
@@ -38,18 +39,40 @@ returns-in-Ok-open-clause-crash g c = λ h left past.
     (c.in-Ok.ensures.shown h) (c.in-Ok.ensures.crash h).later (c.in-Ok.ensures.left h) (c.in-Ok-open.ensures.crash (c.in-Ok.ensures.honest.0 h)) past
 
 pub returns-in-Err-open-clause-recovers : goal.returns-in-Err-open-clause-recovers
-returns-in-Err-open-clause-recovers g c = λ h format extents pages sections geometry sized n m recovers.
+returns-in-Err-open-clause-recovers g c = λ h one format extents pages sections geometry sized n m recovers.
     let S = shape_of extents pages sections (section_size extents sections) format in
     c.in-Err-open.ensures.recovers (c.in-Ok.ensures.honest.0 h) format extents pages sections geometry (c.in-Ok.ensures.pages ∙ sized) n m
     (subst (λ (image : Image). Recovers S (formats_of S) (page image) n m) (sym (ap seen (c.in-Ok.ensures.shown h))) recovers)
+
+pub returns-in-Err-clause-recovers : goal.returns-in-Err-clause-recovers
+returns-in-Err-clause-recovers g c = λ h one format extents pages sections geometry sized n m recovers. ⊎_elim (λ none. none) (λ two. absurd (two.1 one)) (c.in-Err.ensures.why h)
+
+pub returns-in-Err-clause-refusals : goal.returns-in-Err-clause-refusals
+returns-in-Err-clause-refusals g c = λ h. ⊎_elim (λ none. inl none) (λ two. inr (inl two)) (c.in-Err.ensures.why h)
 
 pub returns-in-Err-open-clause-refusals : goal.returns-in-Err-open-clause-refusals
 returns-in-Err-open-clause-refusals g c = λ h.
     let D = g.D.PageDisk in
     let disk = c.args.disk in
     let r = c.in-Err-open.refusal in
-    subst (λ n. IsNoAnswer r ⊎ IsWhyNotOpened n (page (shown_on (D.page_count disk) (seen (D.state disk)))) r) c.in-Ok.ensures.pages
-    (subst (λ (image : Image). IsNoAnswer r ⊎ IsWhyNotOpened (D.page_count c.in-Ok.paired.disk) (page image) r) (ap seen (c.in-Ok.ensures.shown h)) (c.in-Err-open.ensures.refusals (c.in-Ok.ensures.honest.0 h)))
+    ⊎_elim (λ none. inl none) (λ why. inr (inr why))
+    (subst (λ n. IsNoAnswer r ⊎ IsWhyNotOpened n (page (shown_on (D.page_count disk) (seen (D.state disk)))) r) c.in-Ok.ensures.pages
+    (subst (λ (image : Image). IsNoAnswer r ⊎ IsWhyNotOpened (D.page_count c.in-Ok.paired.disk) (page image) r) (ap seen (c.in-Ok.ensures.shown h)) (c.in-Err-open.ensures.refusals (c.in-Ok.ensures.honest.0 h))))
+
+pub returns-then-pages-lt10-clause-recovers : goal.returns-then-pages-lt10-clause-recovers
+returns-then-pages-lt10-clause-recovers g c = λ h one format extents pages sections geometry sized n m recovers.
+    let many : extents * 2 ≤ extents * pages = mul-le-mul_left extents geometry.fewest_pages in
+    let four = (bounds format extents pages sections geometry).fewest_extents in
+    absurd (omega (arith, many, four, geometry.fewest_sections, pages_on_device format extents pages sections geometry, c.if-pages-lt10.true, c.pages.ensures, sized))
+
+pub returns-in-Err-clause-two : goal.returns-in-Err-clause-two
+returns-in-Err-clause-two g c = λ h two. (c.in-Err.ensures.number, c.in-Err.ensures.two h two)
+
+pub returns-in-Ok-open-clause-two : goal.returns-in-Ok-open-clause-two
+returns-in-Ok-open-clause-two g c = λ h two. two (c.in-Ok.ensures.one h)
+
+pub returns-in-Err-open-clause-two : goal.returns-in-Err-open-clause-two
+returns-in-Err-open-clause-two g c = λ h two. absurd (two (c.in-Ok.ensures.one h))
 
 pub returns-in-Ok-open-clause-unwritten : goal.returns-in-Ok-open-clause-unwritten
 returns-in-Ok-open-clause-unwritten g c = λ h. c.in-Ok-open.ensures.unwritten (c.in-Ok.ensures.honest.0 h) ∙ ap flushed (c.in-Ok.ensures.state h)

@@ -1,10 +1,11 @@
 use Rattle.std.proofs.Common.{ap, arith, inl, inr, subst, sym, ⊎_elim, ◌∙◌, ◌≡◌, ◌⊎◌}
 use Rattle.cs_reader.specs.Openings.{IsWhyNotOpened}
-use Rattle.cs_disk.specs.Disk.{Image, flushed, page, seen}
+use Rattle.cs_disk.specs.Disk.{Image, Rises, flushed, page, seen}
 use Rattle.cs_mount.specs.Older.{older_on}
 use Rattle.cs_mount.specs.OlderDisks.{shown_below}
 use Rattle.cs_twin.specs.Paired.{disk_below}
-use Rattle.cs_mount.proofs.Aged.{aged_by, dimensions_by, findings_by, some_there}
+use Rattle.cs_mount.proofs.Aged.{aged_by, dimensions_by, findings_by, some_there, two_by}
+use Rattle.cs_mount.proofs.Ones.{two_none}
 use Rattle.cs_mount.proofs.Opened.{opened_by}
 use Rattle.cs_mount.proofs.mount_options.MountOptions.open_older.Goals as goal
 
@@ -78,7 +79,14 @@ pub returns-in-Err-clause-refusals : goal.returns-in-Err-clause-refusals
 returns-in-Err-clause-refusals g c = λ h. ⊎_elim (λ none. inl none) (λ not. inr (inl not)) (c.in-Err.ensures.none h)
 
 pub returns-in-Err-show_older-clause-refusals : goal.returns-in-Err-show_older-clause-refusals
-returns-in-Err-show_older-clause-refusals g c = λ h. inl c.in-Err-show_older.ensures.refusals
+returns-in-Err-show_older-clause-refusals g c = λ h.
+    let D = g.D.PageDisk in
+    let reads = c.in-Ok.ensures.disk in
+    let n = D.page_count c.args.disk in
+    let s = D.state c.args.disk in
+    ⊎_elim (λ none. inl none)
+    (λ two. inr (inl (two.0, two_none n (seen s) (two_by (D.page_count c.find_older.new.disk) n (D.state c.find_older.new.disk) s reads.pages (reads.same h) two.1))))
+    (c.in-Err-show_older.ensures.none (reads.honesty.0 h))
 
 pub returns-in-Err-open-clause-refusals : goal.returns-in-Err-open-clause-refusals
 returns-in-Err-open-clause-refusals g c = λ h.
@@ -95,3 +103,15 @@ returns-in-Err-open-clause-refusals g c = λ h.
     ⊎_elim (λ none. inl none)
     (λ why. inr (inr (subst (λ m. IsWhyNotOpened m (page image) r) (c.in-Ok-show_older.ensures.pages ∙ reads.pages) (subst (λ (i : Image). IsWhyNotOpened (D.page_count below) (page i) r) (ap seen shows) why))))
     (c.in-Err-open.ensures.refusals (c.in-Ok-show_older.ensures.honest.0 later))
+
+pub returns-in-Err-show_older-clause-number : goal.returns-in-Err-show_older-clause-number
+returns-in-Err-show_older-clause-number g c = ⊎_elim (λ none. inl none) (λ not. inr (inr not)) c.in-Err-show_older.ensures.refusals
+
+pub returns-in-Err-open-clause-cause : goal.returns-in-Err-open-clause-cause
+returns-in-Err-open-clause-cause g c = λ is.
+    let D = g.D.PageDisk in
+    let rises = c.in-Err-open.ensures.cause is in
+    let none = c.in-Ok-show_older.ensures.unrefused in
+    let still = (c.in-Err-open.ensures.sound c.in-Ok-show_older.ensures.sound).1 in
+    subst (λ (below : _). Rises (D.failure_count c.args.disk) (D.failure_count below)) (sym (c.into_disk-in-Err-open.ensures ∙ ap (λ p. disk_below p) c.into_disk.ensures))
+    (omega (arith, rises, none.0, none.1, still, c.in-Ok-show_older.ensures.failures, c.in-Ok.ensures.disk.failures))

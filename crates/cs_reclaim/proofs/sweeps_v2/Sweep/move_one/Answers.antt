@@ -13,6 +13,7 @@ use Rattle.cs_frame.specs.Locators.{KeepFormat}
 use Rattle.cs_index.proofs.Living.{nth_in, nth_inside}
 use Rattle.cs_index.proofs.Marks.{placed_keeps}
 use Rattle.cs_index.specs.State.{State, id_number, index_of}
+use Rattle.law_machine.specs.Format.{Format}
 use Rattle.law_machine.specs.Element.{Locator as Place}
 use Rattle.law_machine.specs.Extents.{ForMove}
 use Rattle.law_machine.specs.Formats.{ChunkFrame}
@@ -75,10 +76,10 @@ pub point_at-requires-clause-marks : goal.point_at-requires-clause-marks
 point_at-requires-clause-marks g c =
     let to = c.in-Ok-append_again.to in
     let format = c.args.index.now.format in
-    let here = subst (λ (f : ℕ). KeepFormat f (c.in-Ok-append_again.to ∷ [])) (sym c.requires.format)
+    let here = subst (λ (f : Format). KeepFormat f (c.in-Ok-append_again.to ∷ [])) (sym c.requires.format)
     (placed_keeps c.args.extents.now (chunk_frame c.args.extents.now c.in-Ok-append_again.ensures.appended.0) c.in-Ok-append_again.to c.in-Ok-append_again.ensures.appended.1.place) in
     let old = subst (λ (s : State). KeepFormat s.format c.in-Ok.places.items) c.first_live.ensures.same c.in-Ok.ensures.marks in
-    subst (λ (f : ℕ). KeepFormat f c.set.new.self.items) (sym (ap (λ (s : State). s.format) c.places_with_room.ensures.rest ∙ ap (λ (s : State). s.format) c.first_live.ensures.same))
+    subst (λ (f : Format). KeepFormat f c.set.new.self.items) (sym (ap (λ (s : State). s.format) c.places_with_room.ensures.rest ∙ ap (λ (s : State). s.format) c.first_live.ensures.same))
     (subst (λ (ls : List Locator). KeepFormat c.args.index.now.format ls) (sym c.set.ensures) (replaced_keeps format c.in-Ok.places.items c.in-Some.live.chunk to old here))
 
 pub point_at-requires-clause-as_many : goal.point_at-requires-clause-as_many
@@ -94,7 +95,7 @@ returns-in-Ok-append_again-clause-none g c = (
   (λ none. absurd (some_live g (goal.at.returns-in-Ok-append_again-clause-none g c).In-Some none)),
 )
 
--- what was appended, by the rule of the older formats
+-- what was appended, by the rule of format 2
 appended : (g : Over) (c : In-Ok-append_again g) → IsAppendedBy false c.args.extents.now c.args.graph.now ForMove (chunk_frame c.args.extents.now c.in-Ok-append_again.ensures.appended.0) c.in-Ok-append_again.to c.append_again.new.extents c.append_again.new.graph
 appended g c =
     let a = c.in-Ok-append_again.ensures.appended in

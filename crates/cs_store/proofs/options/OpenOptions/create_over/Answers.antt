@@ -1,4 +1,4 @@
-use Rattle.std.proofs.Common.{None, Some, ap, subst, ◌≡◌}
+use Rattle.std.proofs.Common.{None, Some, ap, subst, true, ◌≡◌}
 use Rattle.cs_core.specs.Started.{IsNewOn, new_stored}
 use Rattle.cs_disk.specs.Disk.{Image, Leaves, flushed}
 use Rattle.cs_frame.specs.Geometries.{Dimensions}
@@ -6,6 +6,7 @@ use Rattle.cs_mount.specs.Makings.{HoldsBoth, LeavesLaying}
 use Rattle.cs_mount.specs.StorePairs.{store_pairs, store_version}
 use Rattle.cs_twin.specs.Paired.{disk_below, left_as_shown, state_shown}
 use Rattle.cs_twin.specs.Pairs.{Shows, shown_state}
+use Rattle.law_machine.specs.Geometry.{twins_in}
 use Rattle.cs_store.specs.Opening.{Opening}
 use Rattle.cs_store.proofs.Maps.{made_map}
 use Rattle.cs_store.proofs.options.OpenOptions.create_over.Goals as goal
@@ -23,20 +24,20 @@ returns-in-Ok-clause-written g c = λ honest.
 pub returns-in-Ok-clause-both : goal.returns-in-Ok-clause-both
 returns-in-Ok-clause-both g c =
     let D = g.D.PageDisk in
-    subst (λ (d : Dimensions). D.honest c.args.disk → d.format ≡ 3 → HoldsBoth d (D.state (disk_below c.in-Ok.core.disk))) (ap (λ (o : Opening). o.geometry) c.self.view_is) c.in-Ok.ensures.both
+    subst (λ (d : Dimensions). D.honest c.args.disk → twins_in d.format ≡ true → HoldsBoth d (D.state (disk_below c.in-Ok.core.disk))) (ap (λ (o : Opening). o.geometry) c.self.view_is) c.in-Ok.ensures.both
 
 pub returns-in-Ok-clause-crash : goal.returns-in-Ok-clause-crash
 returns-in-Ok-clause-crash g c =
     let D = g.D.PageDisk in
     let s = D.state c.args.disk in
     subst
-    (λ (d : Dimensions). D.honest c.args.disk → d.format ≡ 3 → (left : Image) → left_as_shown c.in-Ok.core.disk (D.moment c.args.disk) left → Shows (store_version (Some d)) (store_pairs d) (LeavesLaying d s) left)
+    (λ (d : Dimensions). D.honest c.args.disk → twins_in d.format ≡ true → (left : Image) → left_as_shown c.in-Ok.core.disk (D.moment c.args.disk) left → Shows (store_version (Some d)) (store_pairs d) (LeavesLaying d s) left)
     (ap (λ (o : Opening). o.geometry) c.self.view_is) c.in-Ok.ensures.crash
 
 pub returns-in-Err-clause-left : goal.returns-in-Err-clause-left
 returns-in-Err-clause-left g c =
     let D = g.D.PageDisk in
-    subst (λ (d : Dimensions). D.honest c.args.disk → d.format ≡ 3 → Leaves (D.state c.in-Err.refused.1) (LeavesLaying d (D.state c.args.disk))) (ap (λ (o : Opening). o.geometry) c.self.view_is) c.in-Err.ensures.left
+    subst (λ (d : Dimensions). D.honest c.args.disk → twins_in d.format ≡ true → Leaves (D.state c.in-Err.refused.1) (LeavesLaying d (D.state c.args.disk))) (ap (λ (o : Opening). o.geometry) c.self.view_is) c.in-Err.ensures.left
 
 pub returns-in-Ok-clause-store : goal.returns-in-Ok-clause-store
 returns-in-Ok-clause-store g c =

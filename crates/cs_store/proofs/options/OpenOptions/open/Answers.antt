@@ -6,10 +6,10 @@ use Rattle.cs_store.proofs.Maps.{opened_map}
 use Rattle.cs_store.proofs.options.OpenOptions.open.Goals as goal
 
 pub returns-in-Ok-clause-recovers : goal.returns-in-Ok-clause-recovers
-returns-in-Ok-clause-recovers g c = λ honest format extents pages sections geometry size n m recovers.
+returns-in-Ok-clause-recovers g c = λ honest one format extents pages sections geometry size n m recovers.
     let D = g.D.PageDisk in
     let e = c.in-Ok.ensures in
-    let read = e.recovers honest format extents pages sections geometry size n m recovers in (
+    let read = e.recovers honest one format extents pages sections geometry size n m recovers in (
       read.0,
       read.1,
       read.2,

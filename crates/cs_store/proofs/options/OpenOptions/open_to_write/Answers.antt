@@ -1,7 +1,7 @@
-use Rattle.std.proofs.Common.{None, [], ap, arith, false, length, subst, sym, true, ⊎_elim, ◌∙◌, ◌≡◌, ◌≢◌, ◌⊎◌}
+use Rattle.std.proofs.Common.{None, [], ap, arith, false, inl, inr, length, subst, sym, true, ⊎_elim, ◌∙◌, ◌≡◌, ◌≢◌, ◌⊎◌}
 use Rattle.std.specs.List.{list_any}
 use Rattle.cs_chunk.specs.Reads.{IsNoAnswer}
-use Rattle.cs_disk.specs.Disk.{Image, State, flushed, page, seen}
+use Rattle.cs_disk.specs.Disk.{Image, flushed, page, seen}
 use Rattle.cs_frame.specs.Formats.{formats_of}
 use Rattle.cs_frame.specs.Geometries.{section_size}
 use Rattle.cs_mount.proofs.Mounting.{shows_later}
@@ -13,15 +13,15 @@ use Rattle.cs_twin.specs.Findings.{is_halved}
 use Rattle.cs_twin.specs.Paired.{left_as_shown, moment_of, state_shown}
 use Rattle.law_machine.specs.Geometry.{shape_of}
 use Rattle.law_machine.specs.Recovery.{Recovers}
-use Rattle.cs_store.proofs.Fenced.{guarded_again, guarded_still, long_seen, none_halved, not_passed}
+use Rattle.cs_store.proofs.Fenced.{guarded_again, guarded_still, long_seen, none_halved, not_passed, still_shown}
 use Rattle.cs_store.proofs.Maps.{opened_map}
 use Rattle.cs_store.proofs.options.OpenOptions.open_to_write.Goals as goal
 
 pub returns-then-not-are_passed_over-clause-recovers : goal.returns-then-not-are_passed_over-clause-recovers
-returns-then-not-are_passed_over-clause-recovers g c = λ h format extents pages sections geometry size n m recovers.
+returns-then-not-are_passed_over-clause-recovers g c = λ h one format extents pages sections geometry size n m recovers.
     let D = g.D.PageDisk in
     let e = c.in-Ok.ensures in
-    let read = e.recovers h format extents pages sections geometry size n m recovers in (
+    let read = e.recovers h one format extents pages sections geometry size n m recovers in (
       read.0,
       read.1,
       read.2,
@@ -47,7 +47,7 @@ returns-in-Ok-open_fenced-clause-store g c =
     opened_by (g.D.PageDisk.honest c.in-Ok.core.disk.disk) (g.D.PageDisk.honest c.args.disk) again.opened again.found again.store c.in-Ok.ensures.honest.0 c.in-Ok-open_fenced.ensures.store
 
 pub returns-in-Ok-open_fenced-clause-recovers : goal.returns-in-Ok-open_fenced-clause-recovers
-returns-in-Ok-open_fenced-clause-recovers g c = λ h format extents pages sections geometry size n m recovers.
+returns-in-Ok-open_fenced-clause-recovers g c = λ h one format extents pages sections geometry size n m recovers.
     let D = g.D.PageDisk in
     let e = c.in-Ok-open_fenced.ensures in
     let below = c.in-Ok.ensures.honest.0 h in
@@ -96,7 +96,7 @@ pub returns-in-Ok-open_fenced-clause-honest : goal.returns-in-Ok-open_fenced-cla
 returns-in-Ok-open_fenced-clause-honest g c = ((λ h. c.in-Ok-open_fenced.ensures.honest.0 (c.in-Ok.ensures.honest.0 h)), (λ h. c.in-Ok.ensures.honest.1 (c.in-Ok-open_fenced.ensures.honest.1 h)))
 
 pub returns-in-Err-open_fenced-clause-recovers : goal.returns-in-Err-open_fenced-clause-recovers
-returns-in-Err-open_fenced-clause-recovers g c = λ h format extents pages sections geometry size n m recovers.
+returns-in-Err-open_fenced-clause-recovers g c = λ h one format extents pages sections geometry size n m recovers.
     let S = shape_of extents pages sections (section_size extents sections) format in
     c.in-Err-open_fenced.ensures.recovers (c.in-Ok.ensures.honest.0 h) format extents pages sections geometry (c.in-Ok.ensures.pages ∙ size) n m
     (subst (λ (image : Image). Recovers S (formats_of S) (page image) n m) (sym (ap seen (c.in-Ok.ensures.image h).1)) recovers)
@@ -118,8 +118,13 @@ returns-in-Err-open_fenced-clause-refusals g c = λ h.
     let D = g.D.PageDisk in
     let disk = c.args.disk in
     let r = c.in-Err-open_fenced.refused.0 in
+    let why : IsNoAnswer r ⊎ IsWhyNotOpened (D.page_count disk) (page (shown_on (D.page_count disk) (seen (D.state disk)))) r =
     subst (λ n. IsNoAnswer r ⊎ IsWhyNotOpened n (page (shown_on (D.page_count disk) (seen (D.state disk)))) r) c.in-Ok.ensures.pages
-    (subst (λ (image : Image). IsNoAnswer r ⊎ IsWhyNotOpened (D.page_count c.in-Ok.core.disk.disk) (page image) r) (ap seen (c.in-Ok.ensures.image h).1) (c.in-Err-open_fenced.ensures.refusals (c.in-Ok.ensures.honest.0 h)))
+    (subst (λ (image : Image). IsNoAnswer r ⊎ IsWhyNotOpened (D.page_count c.in-Ok.core.disk.disk) (page image) r) (ap seen (c.in-Ok.ensures.image h).1) (c.in-Err-open_fenced.ensures.refusals (c.in-Ok.ensures.honest.0 h))) in
+    ⊎_elim (λ no. inl no) (λ is. inr (inr is)) why
+
+pub returns-in-Err-open_fenced-clause-two : goal.returns-in-Err-open_fenced-clause-two
+returns-in-Err-open_fenced-clause-two g c = λ h two. absurd (c.in-Ok.ensures.two h two)
 
 pub returns-in-Err-open_fenced-clause-cause : goal.returns-in-Err-open_fenced-clause-cause
 returns-in-Err-open_fenced-clause-cause g c = λ h none.
@@ -135,8 +140,12 @@ returns-in-Err-open_fenced-clause-unwritten g c = λ h none.
 
 pub returns-in-Err-clause-shown : goal.returns-in-Err-clause-shown
 returns-in-Err-clause-shown g c = λ h.
-    let n = g.D.PageDisk.page_count c.args.disk in
-    ⊎_elim (λ same. ap (λ (s : State). shown_on n (seen s)) same) (λ flush. ap (λ (s : State). shown_on n (seen s)) flush) (c.in-Err.ensures.unwritten h)
+    let D = g.D.PageDisk in
+    let n = D.page_count c.args.disk in
+    let now = D.state c.in-Err.refused.1 in
+    let before = D.state c.args.disk in
+    let either : (now ≡ before) ⊎ (now ≡ flushed before) = c.in-Err.ensures.unwritten h in
+    still_shown n now before either
 
 pub returns-in-Err-clause-unwritten : goal.returns-in-Err-clause-unwritten
 returns-in-Err-clause-unwritten g c = λ h none. c.in-Err.ensures.unwritten h

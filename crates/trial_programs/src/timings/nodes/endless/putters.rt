@@ -13,7 +13,8 @@ use std::thread;
 /// How many identifiers there are.
 const IDENTIFIERS: u64 = 1000;
 
-/// After so many puts acks are handed in, calls forgotten, and a sweep is asked for: that makes about the room that the puts take.
+/// After so many puts acks are handed in, calls forgotten, and a sweep is asked for: that makes about the room that the
+/// puts take.
 const TIDY: u64 = 16;
 
 /// How often a thread puts, where it begins among the identifiers, and whether it drops its first ticket.
@@ -64,8 +65,8 @@ impl<K: Naming> Putter<K> {
     }
 }
 
-/// Puts the bytes of a number under its identifier, again and again while there is no room or the history is full. None where it is refused for
-/// another reason.
+/// Puts the bytes of a number under its identifier, again and again while there is no room or the history is full. None
+/// where it is refused for another reason.
 fn put<K: Naming, R: Wait>(
     rt: &R,
     alloc: Global,

@@ -58,8 +58,9 @@ pub fn new_stream<K: Naming, R: Wait>(
     }
 }
 
-/// Writes back while threads put, and takes a checkpoint wherever all is persistent and the history is half full. While sweeps are asked for it
-/// waits: each chunk that is moved would be staged in a run of its own, which takes more room than a sweep makes.
+/// Writes back while threads put, and takes a checkpoint wherever all is persistent and the history is half full. While
+/// sweeps are asked for it waits: each chunk that is moved would be staged in a run of its own, which takes more room
+/// than a sweep makes.
 fn write_back<K: Naming, R: Wait>(
     rt: &R,
     node: &Node<MemoryDisk, K>,

@@ -1,0 +1,28 @@
+use Rattle.std.proofs.Common.{◌∙◌, [], ◌∷◌, ap}
+use Rattle.std.proofs.lemmas.Result.{on_ok_weaker}
+use Rattle.std.specs.Prelude.{codes}
+use Rattle.cs_frame.specs.FormatNumbers.{counted_as, number_in}
+use Rattle.cs_tools.specs.Stats.{dimensions_text, number_text}
+use Rattle.cs_tools.specs.declared.outputs.Style.TheVariants.{Text}
+use Rattle.cs_tools.proofs.Appended.{appends_same}
+use Rattle.cs_tools.proofs.Continued.{five_then, same_dimensions}
+use Rattle.cs_tools.proofs.stats.print_dimensions.Goals as goal
+
+pub returns : goal.returns
+returns g c =
+    let contents = g.W.Write.contents in
+    let start = contents c.args.writer.now in
+    let last = contents c.writeln.new.self in
+    let extents = c.from-extents.result in
+    let pages = c.from-pages.result in
+    let sections = c.from-sections.result in
+    let format = c.from-format.result in
+    let asked = c.args.geometry in
+    on_ok_weaker c.writeln.result
+    (λ ended. appends_same start last (dimensions_text Text extents pages sections format) (dimensions_text Text asked.extents asked.pages asked.sections (counted_as (number_in asked.format)))
+    (same_dimensions Text extents pages sections format asked.extents asked.pages asked.sections (counted_as (number_in asked.format))
+    (c.from-extents.ensures ∙ c.extents.ensures.extents) (c.from-pages.ensures ∙ c.pages.ensures.pages) (c.from-sections.ensures ∙ c.sections.ensures.sections) (c.from-format.ensures ∙ c.value.ensures ∙ ap counted_as (c.number.ensures.number ∙ ap number_in c.format.ensures.format)))
+    (five_then start (contents c.print_number.new.writer) (contents c.print_number-2.new.writer) (contents c.print_number-3.new.writer) (contents c.print_number-4.new.writer) last
+    (number_text (codes "geometry extents ") extents) (number_text (codes " pages ") pages) (number_text (codes " sections ") sections) (number_text (codes " format ") format) (10 ∷ [])
+    c.in_ok-print_number.ensures c.in_ok-print_number-2.ensures c.in_ok-print_number-3.ensures c.in_ok-print_number-4.ensures ended))
+    c.writeln.ensures.bytes
