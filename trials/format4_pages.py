@@ -17,11 +17,11 @@ a=bytes(15)+b"\x0a"; b=bytes(15)+b"\x0b"
 ca=frame(0,b"a"+head(a,0,1,1)); cb=frame(0,b"b"+head(b,0,1,2))
 run=FRONT+struct.pack(">I",2)+b"".join(i+b"\x01"+struct.pack(">HHI",0,k,0)+c[1][:8] for k,(i,c) in enumerate(((a,ca),(b,cb))))
 fr=frame(1,run)
-r2=root(2,2,[(1,0,0,fr[1][:8])]); r1=root(1,0,[])
+second_root=root(2,2,[(1,0,0,fr[1][:8])]); first_root=root(1,0,[])
 s1=section(1,6,2,1,0,16,0,[(0,0)]*6)
 s4=section(4,6,2,1,0,16,1,[(2,0),(1,0)]+[(0,0)]*4)
 s3=section(7,6,300,3,1,1808,5,[(299,0),(0,1)])
-for name,(t,d) in (("new section",s1),("section 4",s4),("second of three",s3),("root 1",r1),("root 2",r2)):
+for name,(t,d) in (("new section",s1),("section 4",s4),("second of three",s3),("root 1",first_root),("root 2",second_root)):
     print(name,len(t)+32,4096-len(t)-32); print(h(t)); print(words(d))
 for name,(hd,d,p) in (("chunk a",ca),("chunk b",cb),("run",fr)):
     print(name,len(p),4096-41-len(p)); print(h(hd)); print(h(d)); print(h(p)); print("mark",h(d[:8]))
