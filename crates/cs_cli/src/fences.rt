@@ -1,6 +1,6 @@
 //! Stores over files that are opened to be written. What the opening passed over is kept beside the store, and fenced.
 
-use crate::files::{OverFile, Place, Written, disk_to_write};
+use crate::files::{OverFile, Place, Written, disk_without_loss};
 use crate::kept_pages::keep_pages;
 use crate::openings::{Opened, Shown, Unopened, open_core, open_typed};
 use crate::warnings::warn_of;
@@ -14,13 +14,14 @@ use std::rt::Files;
 use std::time::Clock;
 
 /// Opens the store in a file to write it, and warns of its damaged pages. If it has some they are fenced first: each is
-/// kept beside the store, and filled with bytes of 255. So what was lost there can't be completed by a later write.
+/// kept beside the store, and filled with bytes of 255. So what was lost there can't be completed by a later write. A page
+/// that can't be read is dealt with as `disk_without_loss` says.
 pub fn open_core_to_write<R: AllocGlobal + Clock + Files<File = File> + Eprint>(
     rt: &R,
     place: Place,
     style: Style,
 ) -> Result<Core<Mounted<Written>>, Unopened> {
-    let opened = open_core::<Mounted<Written>, R>(rt, disk_to_write(rt, place, style))?;
+    let opened = open_core::<Mounted<Written>, R>(rt, disk_without_loss(rt, place, style))?;
     let (commands, _) = opened.store.opened();
     warn_of(rt, &opened, commands, style);
     if !are_passed_over(&opened.findings) {
@@ -42,7 +43,7 @@ pub fn open_typed_to_write<R: AllocGlobal + Clock + Files<File = File> + Eprint>
     place: Place,
     style: Style,
 ) -> Result<Store<Mounted<Written>>, Unopened> {
-    let opened = open_typed::<Mounted<Written>, R>(rt, disk_to_write(rt, place, style))?;
+    let opened = open_typed::<Mounted<Written>, R>(rt, disk_without_loss(rt, place, style))?;
     let (commands, _) = opened.store.found();
     warn_of(rt, &opened, commands, style);
     if !are_passed_over(&opened.findings) {

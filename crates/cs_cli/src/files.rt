@@ -1,19 +1,24 @@
-//! Files as disks: the only place that names their type.
+//! The files of stores as the commands ask for them. They are opened and made by `file_openers` of cs_store.
 
 use crate::openings::Unopened;
-use crate::warnings::{warn_of_length, warn_of_other};
-use cs_disk::{Access, FileDisk, FileFault, PageDisk, ReadOnly, SystemFault, refusal_of_disk};
+use crate::warnings::{warn_of_length, warn_of_other, warn_of_unreadable};
+use clap::ArgMatches;
+use cs_disk::{Access, FileFault, PageDisk, ReadOnly, refusal_of_disk};
 use cs_frame::{Geometry, StoreId};
-use cs_mount::{Chosen, find_geometry, two_stores};
+use cs_mount::{Chosen, find_geometry, two_stores, unreadable_halves};
 use cs_refusal::Refusal;
-use cs_tools::store::pages_said;
+use cs_tools::store::file_openers::{
+    create_emptied, create_new, first_pages, open_device, open_waiting,
+};
+pub use cs_tools::store::file_openers::{
+    FileToRead as Read, FileToWrite as Written, OverFile, is_block_device, is_special, sync_folder,
+};
+use cs_tools::store::{Loss, pages_said, ready_to_write};
 use cs_tools::{Content, Outcome, Style};
 use std::alloc::Global;
 use std::fs::File;
-use std::os::unix::fs::FileTypeExt;
 use std::rt::Files;
-use std::time::{Clock, Duration};
-use std::{fs, io, thread};
+use std::time::Clock;
 
 /// A file of a store, or a device, what it is opened for, and for how many seconds at most it is waited for.
 #[derive(Clone, Copy)]
@@ -25,66 +30,28 @@ pub struct Place<'a> {
     pub id: Option<StoreId>,
     /// How many pages the device of the store is said to have.
     pub device_pages: Option<u64>,
+    /// Whether a page that can't be read, and may hold the newest root, is given up so that the store can be written.
+    pub loss: Loss,
 }
 
-/// A disk over a file that is read and written.
-pub type Written = FileDisk;
-
-/// A disk over a file that is only read, of which one of two stores may be hidden.
-pub type Read = Chosen<ReadOnly<FileDisk>>;
-
-/// A disk over a file.
-pub trait OverFile: PageDisk {
-    /// What the operating system said as it refused a call last.
-    fn fault(&self) -> Option<SystemFault>;
-}
-
-impl OverFile for FileDisk {
-    fn fault(&self) -> Option<SystemFault> {
-        self.last_fault()
+/// Whether the options accept that a page that can't be read is given up.
+pub fn loss_of(options: &ArgMatches) -> Loss {
+    if options.get_flag("accept-loss") {
+        Loss::Accepted
+    } else {
+        Loss::Refused
     }
 }
 
-impl OverFile for Chosen<ReadOnly<FileDisk>> {
-    fn fault(&self) -> Option<SystemFault> {
-        self.below().below().last_fault()
-    }
-}
-
-/// Whether what is under a name is a pipe or a character device, which no store lies in, and whose opening may wait for
-/// ever: no regular file, folder or block device.
-pub fn is_special<R: Files<File = File>>(rt: &R, path: &str) -> bool {
-    match fs::metadata(rt, path) {
-        Ok(about) => { !about.is_file() && !about.is_dir() && !about.file_type().is_block_device() }
-        Err(_) => false,
-    }
-}
-
-/// Whether a block device is under a name.
-pub fn is_block_device<R: Files<File = File>>(rt: &R, path: &str) -> bool {
-    match fs::metadata(rt, path) {
-        Ok(about) => about.file_type().is_block_device(),
-        Err(_) => false,
-    }
-}
-
-/// How often a second a file that is in use is tried again.
-const TRIES: u64 = 20;
+/// The least number of pages that a device of a store has.
+const LEAST_PAGES: u64 = 10;
 
 /// The file at a place, all of it. While another process has it open it is tried again, up to the end of the time.
 pub fn whole_disk<R: AllocGlobal + Clock + Files<File = File>>(
     rt: &R,
     place: Place,
 ) -> Result<Written, FileFault> {
-    for _ in 0..place.wait.saturating_mul(TRIES) {
-        match FileDisk::open_for(rt, rt.alloc(), place.path, place.access) {
-            Err(FileFault::System(SystemFault::InUse)) => {
-                thread::sleep(rt, Duration::from_millis(1_000 / TRIES));
-            }
-            opened => return opened,
-        }
-    }
-    FileDisk::open_for(rt, rt.alloc(), place.path, place.access)
+    open_waiting(rt, rt.alloc(), place.path, place.access, place.wait)
 }
 
 /// How many pages the device had when its store was made, as page 0 says; none if it doesn't, or if the last page is of
@@ -102,15 +69,15 @@ fn pages_made<D: PageDisk>(alloc: Global, disk: &mut D) -> Option<u64> {
 /// The first pages of a file, as many as the device of its store had; that is reported if the file has more.
 fn first_of<R: AllocGlobal + Eprint>(
     rt: &R,
-    disk: FileDisk,
+    disk: Written,
     pages: Option<u64>,
     style: Style,
-) -> FileDisk {
+) -> Written {
     let all = disk.pages();
     match pages {
         Some(pages) if pages < all => {
             warn_of_length(rt, all, pages, style);
-            disk.first_pages(pages)
+            first_pages(disk, pages)
         }
         _ => disk,
     }
@@ -145,9 +112,54 @@ pub fn disk_to_read<R: AllocGlobal + Clock + Files<File = File> + Eprint>(
         Some(id) => disk_of_store(rt, place, id, style),
         None => {
             let disk = disk_to_write(rt, place, style)?;
-            Ok(Chosen::all(ReadOnly::new(disk)))
+            readable_of(rt, disk, None, style)
         }
     }
+}
+
+/// The file at a place, to be written, each page of which can be read of which the store has two. If one can't be, it
+/// isn't opened, unless the loss is accepted: then the page is filled with bytes of 255, and the other one counts.
+pub fn disk_without_loss<R: AllocGlobal + Clock + Files<File = File> + Eprint>(
+    rt: &R,
+    place: Place,
+    style: Style,
+) -> Result<Written, Unopened> {
+    let mut disk = disk_to_write(rt, place, style)?;
+    match ready_to_write(rt.alloc(), &mut disk, place.loss) {
+        Ok(lost) => {
+            warn_of_unreadable(rt, &lost, style);
+            Ok(disk)
+        }
+        Err(refusal) => {
+            if refusal == Refusal::Unreadable {
+                name_unreadable(rt, &mut disk, style);
+            }
+            Err(Unopened::of_disk(rt.alloc(), refusal, &mut disk))
+        }
+    }
+}
+
+/// Reports the pages of which the store has two and that can't be read.
+fn name_unreadable<R: AllocGlobal + Eprint>(rt: &R, disk: &mut Written, style: Style) {
+    if disk.pages() < LEAST_PAGES {
+        return;
+    }
+    if let Ok(unread) = unreadable_halves(rt.alloc(), disk) {
+        warn_of_unreadable(rt, &unread, style);
+    }
+}
+
+/// What can be read of a file, and of two stores the one with this identity. A page of which the store has two is hidden
+/// if it can't be read, and that is reported.
+fn readable_of<R: AllocGlobal + Eprint>(
+    rt: &R,
+    disk: Written,
+    id: Option<StoreId>,
+    style: Style,
+) -> Result<Read, Unopened> {
+    let (shown, unread) = shown_of(rt, disk, id)?;
+    warn_of_unreadable(rt, &unread, style);
+    Ok(shown)
 }
 
 /// The same, of which only the store with this identity shows. If it isn't there, no store is.
@@ -165,29 +177,34 @@ fn disk_of_store<R: AllocGlobal + Clock + Files<File = File> + Eprint>(
         Some(pages) => (disk, Some(pages)),
         None => {
             // What page 0 says counts only if it is of this store.
-            let mut shown = shown_of(rt, disk, id)?;
+            let (mut shown, _) = shown_of(rt, disk, Some(id))?;
             let pages = pages_made(rt.alloc(), &mut shown);
             (shown.into_disk().into_disk(), pages)
         }
     };
-    let mut shown = shown_of(rt, first_of(rt, disk, pages, style), id)?;
+    let mut shown = readable_of(rt, first_of(rt, disk, pages, style), Some(id), style)?;
     match identity_on(rt, &mut shown) {
         Some(found) if found == id => Ok(shown),
         found => Err(another(rt, shown.into_disk(), id, found, style)),
     }
 }
 
-/// A file of which only the store with this identity shows.
-fn shown_of<R: AllocGlobal>(rt: &R, disk: FileDisk, id: StoreId) -> Result<Read, Unopened> {
-    if disk.pages() == 0 {
-        let refused = Outcome::NoStore(Refusal::NotAStore);
-        return Err(Unopened::of_outcome(rt.alloc(), refused, None));
+/// What can be read of a file, and of two stores the one with this identity; and the pages of the store's pairs that are
+/// hidden, as they can't be read. A file of fewer pages than a store has is shown as it is.
+fn shown_of<R: AllocGlobal>(
+    rt: &R,
+    disk: Written,
+    id: Option<StoreId>,
+) -> Result<(Read, Vec<u64>), Unopened> {
+    if disk.pages() < LEAST_PAGES {
+        let shown = Chosen::all(rt.alloc(), ReadOnly::new(disk));
+        return Ok((shown, Vec::new(rt.alloc())));
     }
-    match Chosen::of_store(rt.alloc(), ReadOnly::new(disk), id) {
-        Ok(shown) => Ok(shown),
+    match Chosen::readable(rt.alloc(), ReadOnly::new(disk), id) {
+        Ok(readable) => Ok(readable),
         Err((fault, disk)) => {
             let refused = Outcome::NoStore(refusal_of_disk(fault));
-            let system = disk.below().last_fault();
+            let system = disk.below().fault();
             Err(Unopened::of_outcome(rt.alloc(), refused, system))
         }
     }
@@ -207,12 +224,12 @@ fn identity_on<R: AllocGlobal>(rt: &R, shown: &mut Read) -> Option<StoreId> {
 /// Why the store with this identity isn't read: another one was found, which is reported if it could be opened, or none.
 fn another<R: AllocGlobal + Eprint>(
     rt: &R,
-    disk: ReadOnly<FileDisk>,
+    disk: ReadOnly<Written>,
     id: StoreId,
     found: Option<StoreId>,
     style: Style,
 ) -> Unopened {
-    let mut disk = Chosen::all(disk);
+    let mut disk = Chosen::all(rt.alloc(), disk);
     let unopened = Unopened::of_disk(rt.alloc(), Refusal::NotAStore, &mut disk);
     match unopened.known.content {
         Content::Store { .. } => {
@@ -232,7 +249,7 @@ pub fn new_disk<R: AllocGlobal + Files<File = File>>(
     geometry: Geometry,
     mode: u32,
 ) -> Result<Written, FileFault> {
-    FileDisk::create_new(rt, rt.alloc(), path, geometry.device_pages(), mode)
+    create_new(rt, rt.alloc(), path, geometry.device_pages(), mode)
 }
 
 /// A block device, or a file that plays one, with all of its pages, on which a store is made.
@@ -240,11 +257,7 @@ pub fn device_disk<R: AllocGlobal + Files<File = File>>(
     rt: &R,
     path: &str,
 ) -> Result<Written, FileFault> {
-    // A file that isn't whole pages would be refused by each later command.
-    match fs::metadata(rt, path) {
-        Ok(about) if about.is_file() && about.len() % 4096 != 0 => Err(FileFault::OddLength),
-        _ => FileDisk::open_device(rt, rt.alloc(), path),
-    }
+    open_device(rt, rt.alloc(), path)
 }
 
 /// A file for a store of this geometry, in place of what is there. Refused 1 DeviceFault alone.
@@ -253,18 +266,8 @@ pub fn emptied_disk<R: AllocGlobal + Files<File = File>>(
     path: &str,
     geometry: Geometry,
 ) -> Result<Written, Refusal> {
-    match FileDisk::create(rt, rt.alloc(), path, geometry.device_pages()) {
+    match create_emptied(rt, rt.alloc(), path, geometry.device_pages()) {
         Ok(disk) => Ok(disk),
         Err(_) => Err(Refusal::DeviceFault),
     }
-}
-
-/// Syncs the folder of a file, so that a crash leaves the file's name.
-pub fn sync_folder<R: Files<File = File>>(rt: &R, path: &str) -> io::Result<()> {
-    let folder = match path.rsplit_once('/') {
-        None => File::open(rt, ".")?,
-        Some(("", _)) => File::open(rt, "/")?,
-        Some((folder, _)) => File::open(rt, folder)?,
-    };
-    folder.sync_all()
 }

@@ -1,4 +1,4 @@
-//! How a command reports what it does.
+//! How a command reports what it does, and how it ends.
 
 use clap::ArgMatches;
 use cs_tools::Style;
@@ -27,5 +27,25 @@ fn style_of(options: &ArgMatches) -> Style {
         Style::Json
     } else {
         Style::Text
+    }
+}
+
+/// How a command that wrote to a store closes it.
+#[derive(Clone, Copy, PartialEq, Eq)]
+pub enum End {
+    /// With its newest root on record.
+    Sealed,
+    /// As it is.
+    Unsealed,
+}
+
+impl End {
+    /// As the options of a command ask for.
+    pub fn of(options: &ArgMatches) -> Self {
+        if options.get_flag("no-seal") {
+            End::Unsealed
+        } else {
+            End::Sealed
+        }
     }
 }

@@ -12,6 +12,7 @@ use clap::ArgMatches;
 use cs_disk::{Access, FileFault, SystemFault};
 use cs_frame::Geometry;
 use cs_tools::Outcome;
+use cs_tools::store::Loss;
 use std::fs;
 use std::fs::File;
 use std::random::RandomSource;
@@ -65,6 +66,7 @@ fn make_over<R: AllocGlobal + Clock + Files<File = File> + Eprint>(
         wait: 0,
         id: None,
         device_pages: None,
+        loss: Loss::Refused,
     };
     let left = left_in(rt, place);
     if let Left::Refused(fault) = left {

@@ -2,16 +2,16 @@
 ghost use Rattle.std.specs.Prelude.{◌≤◌};
 
 use crate::fences::open_core_to_write;
-use crate::files::{OverFile, Place, Read, disk_to_read};
-use crate::manners::Manner;
+use crate::files::{OverFile, Place, Read, Written, disk_to_read};
+use crate::manners::{End, Manner};
 use crate::openings::{Opened, Shown, Unopened, open_core};
 use crate::progress::Told;
-use crate::warnings::{explain_unopened, warn_of, warn_of_older};
+use crate::warnings::{explain_unopened, warn_of, warn_of_older, warn_of_unsealed};
 use clap::ArgMatches;
 use cs_disk::PageDisk;
 use cs_frame::ShardId;
 use cs_mount::the_core::Core;
-use cs_mount::{AsOf, Finding, Mounted};
+use cs_mount::{AsOf, Finding, Mounted, seal};
 use cs_options::{Listing, from_of, listing_of};
 use cs_tools::{
     FoundPages, Known, Outcome, Progress, Style, explain, export, list, reclaim, scrub, stat,
@@ -23,13 +23,12 @@ use std::io::{BufWriter, Write};
 use std::rt::Files;
 use std::time::Clock;
 
-/// What is asked of a store, or done with the whole of it.
+/// What is asked of the whole of a store.
 #[derive(Clone, Copy)]
 pub enum Query {
     List(Listing),
     Stat(Style),
     Scrub(Style),
-    Reclaim(Style),
     /// From this identifier on.
     Export(ShardId),
 }
@@ -40,12 +39,11 @@ pub fn query_of(name: &str, options: &ArgMatches, style: Style) -> Option<Query>
         "list" => listing_of(options).map(Query::List),
         "export" => from_of(options).map(Query::Export),
         "stat" => Some(Query::Stat(style)),
-        "scrub" => Some(Query::Scrub(style)),
-        _ => Some(Query::Reclaim(style)),
+        _ => Some(Query::Scrub(style)),
     }
 }
 
-/// Asks the store in a file, or does what is asked with it, and gives the exit status.
+/// Asks the store in a file, and gives the exit status.
 pub fn ask_file<R: AllocGlobal + Clock + Files<File = File> + Print + Eprint>(
     rt: &R,
     place: Place,
@@ -58,12 +56,6 @@ pub fn ask_file<R: AllocGlobal + Clock + Files<File = File> + Print + Eprint>(
     let Ok(mut writer) = BufWriter::new(rt.alloc(), io::writer(rt)) else {
         return explain(rt, Outcome::Failed, &Known::nothing(), manner.style);
     };
-    if let Query::Reclaim(_) = query {
-        return match open_core_to_write(rt, place, manner.style) {
-            Ok(core) => ask_core(rt, core, &[], query, manner, &mut writer),
-            Err(unopened) => explain_unopened(rt, &unopened, manner.style),
-        };
-    }
     if older {
         let opened = open_core::<AsOf<Mounted<Read>>, R>(rt, disk_to_read(rt, place, manner.style));
         if opened.is_ok() {
@@ -73,6 +65,47 @@ pub fn ask_file<R: AllocGlobal + Clock + Files<File = File> + Print + Eprint>(
     }
     let opened = open_core::<Mounted<Read>, R>(rt, disk_to_read(rt, place, manner.style));
     ask_opened(rt, opened, query, manner, &mut writer)
+}
+
+/// Reclaims the extents with the most garbage of the store in a file, and gives the exit status.
+pub fn reclaim_file<R: AllocGlobal + Clock + Files<File = File> + Print + Eprint>(
+    rt: &R,
+    place: Place,
+    end: End,
+    manner: Manner,
+) -> u8
+    ensures { result ≤ 7 }
+{
+    let Ok(mut writer) = BufWriter::new(rt.alloc(), io::writer(rt)) else {
+        return explain(rt, Outcome::Failed, &Known::nothing(), manner.style);
+    };
+    let mut core = match open_core_to_write(rt, place, manner.style) {
+        Ok(core) => core,
+        Err(unopened) => return explain_unopened(rt, &unopened, manner.style),
+    };
+    let outcome = reclaim(rt.alloc(), &mut core, manner.style, &mut writer);
+    let known = Known::of_system(ended(rt, core, end, manner).into_below().fault());
+    explain(rt, outcome, &known, manner.style)
+}
+
+/// The disk of a store that was written to, after the store was sealed, unless that isn't wanted. If it can't be sealed
+/// that is reported.
+fn ended<R: AllocGlobal + Eprint>(
+    rt: &R,
+    core: Core<Mounted<Written>>,
+    end: End,
+    manner: Manner,
+) -> Mounted<Written> {
+    if end == End::Unsealed {
+        return core.into_disk();
+    }
+    match seal(rt.alloc(), core) {
+        Ok(disk) => disk,
+        Err((refusal, disk)) => {
+            warn_of_unsealed(rt, refusal, manner.style);
+            disk
+        }
+    }
 }
 
 /// Asks the store that was opened, if it was, and gives the exit status.
@@ -135,7 +168,6 @@ fn ask<D: PageDisk, P: Progress, W: Write>(
             };
             scrub(alloc, core, &pages, progress, style, writer)
         }
-        Query::Reclaim(style) => reclaim(alloc, core, style, writer),
         Query::Export(from) => export(alloc, core, from, progress, writer),
     }
 }

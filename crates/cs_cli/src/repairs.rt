@@ -2,7 +2,7 @@
 ghost use Rattle.std.specs.Prelude.{◌≤◌};
 
 use crate::fences::open_kept;
-use crate::files::{OverFile, Place, Written, disk_to_write};
+use crate::files::{OverFile, Place, Written, disk_without_loss};
 use crate::manners::Manner;
 use crate::openings::{Opened, Shown, Unopened, open_core};
 use crate::progress::Told;
@@ -10,19 +10,13 @@ use crate::warnings::{explain_unopened, warn_of};
 use cs_mount::the_core::Core;
 use cs_mount::{Finding, LIMITS, Mounted, mend};
 use cs_refusal::Refusal;
+use cs_tools::store::Loss;
 use cs_tools::{FoundPages, Known, Outcome, explain, may_be_lost, scrub, stop_repair};
 use std::fs::File;
 use std::io;
 use std::io::BufWriter;
 use std::rt::Files;
 use std::time::Clock;
-
-/// Whether a repair goes on by which commands may be lost for good.
-#[derive(Clone, Copy, PartialEq, Eq)]
-pub enum Loss {
-    Stops,
-    Accepted,
-}
 
 /// What is scrubbed: a store of whose pages this was found before they were written anew.
 type Mended = (Core<Mounted<Written>>, Vec<Finding>);
@@ -32,25 +26,24 @@ type Mended = (Core<Mounted<Written>>, Vec<Finding>);
 pub fn repair_file<R: AllocGlobal + Clock + Files<File = File> + Print + Eprint>(
     rt: &R,
     place: Place,
-    loss: Loss,
     manner: Manner,
 ) -> u8
     ensures { result ≤ 7 }
 {
     let opened = match open_core::<Mounted<Written>, R>(
         rt,
-        disk_to_write(rt, place, manner.style),
+        disk_without_loss(rt, place, manner.style),
     ) {
         Ok(opened) => opened,
         Err(unopened) => return explain_unopened(rt, &unopened, manner.style),
     };
     let (commands, _) = opened.store.opened();
     warn_of(rt, &opened, commands, manner.style);
-    if loss == Loss::Stops && may_be_lost(&opened.findings) {
+    if place.loss == Loss::Refused && may_be_lost(&opened.findings) {
         let outcome = stop(rt, &opened, manner);
         return explain(rt, outcome, &Known::nothing(), manner.style);
     }
-    match mended(rt, place, opened, loss, manner) {
+    match mended(rt, place, opened, manner) {
         Ok(mended) => scrub_mended(rt, mended, manner),
         Err(unopened) => explain_unopened(rt, &unopened, manner.style),
     }
@@ -74,7 +67,6 @@ fn mended<R: AllocGlobal + Files<File = File> + Eprint>(
     rt: &R,
     place: Place,
     opened: Opened<Core<Mounted<Written>>>,
-    loss: Loss,
     manner: Manner,
 ) -> Result<Mended, Unopened> {
     let Opened {
@@ -82,8 +74,8 @@ fn mended<R: AllocGlobal + Files<File = File> + Eprint>(
         findings,
         ..
     } = opened;
-    let core = match loss {
-        Loss::Stops => store,
+    let core = match place.loss {
+        Loss::Refused => store,
         Loss::Accepted => {
             let disk = store.into_disk().into_below();
             open_kept(rt, place.path, disk, &findings, manner.style)?

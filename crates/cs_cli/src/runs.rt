@@ -3,7 +3,7 @@ ghost use Rattle.std.specs.Prelude.{◌≤◌};
 
 use crate::creates::NO_RANDOM;
 use crate::fences::open_core_to_write;
-use crate::files::{Place, Written, disk_to_write, emptied_disk};
+use crate::files::{Place, Written, disk_to_write, emptied_disk, loss_of};
 use crate::lefts::{Left, left_in, tell_left};
 use crate::manners::Manner;
 use crate::openings::{Opened, Shown, Unopened, open_core};
@@ -83,6 +83,7 @@ fn place_of<'a>(path: &'a str, access: Access, options: &ArgMatches) -> Place<'a
         wait: wait_of(options),
         id: None,
         device_pages: device_pages_of(options),
+        loss: loss_of(options),
     }
 }
 

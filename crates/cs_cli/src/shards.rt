@@ -4,11 +4,11 @@ ghost use Rattle.std.specs.Prelude.{◌≤◌, IfErr};
 use crate::fences::open_typed_to_write;
 use crate::files::{OverFile, Place, Read, Written, disk_to_read};
 use crate::inputs::bytes_left;
-use crate::manners::Manner;
+use crate::manners::{End, Manner};
 use crate::openings::{Opened, Shown, Unopened, open_typed};
-use crate::warnings::{explain_unopened, warn_of, warn_of_older};
+use crate::warnings::{explain_unopened, warn_of, warn_of_older, warn_of_unsealed};
 use cs_frame::ShardId;
-use cs_mount::{AsOf, Mounted};
+use cs_mount::{AsOf, Mounted, seal};
 use cs_refusal::Refusal;
 use cs_tools::store::Store;
 use cs_tools::{Known, Outcome, delete, explain, get, most_bytes, put};
@@ -108,11 +108,41 @@ fn explain_over<E: Shown + Drop, R: Eprint>(
     explain(rt, outcome, &known, manner.style)
 }
 
+/// Ends a command that wrote to a store: seals the store, unless that isn't wanted, and prints how the command ended, as
+/// `explain_over`. If the store can't be sealed that is reported, and what was made persistent stays so.
+fn end_written<R: AllocGlobal + Eprint>(
+    rt: &R,
+    store: Store<Mounted<Written>>,
+    outcome: Outcome,
+    end: End,
+    manner: Manner,
+) -> u8
+    ensures { result ≤ 7 }
+{
+    if end == End::Unsealed {
+        return explain_over(rt, store, outcome, manner);
+    }
+    let disk = match seal(rt.alloc(), store.into_core()) {
+        Ok(disk) => disk,
+        Err((refusal, disk)) => {
+            warn_of_unsealed(rt, refusal, manner.style);
+            disk
+        }
+    };
+    explain(
+        rt,
+        outcome,
+        &Known::of_system(disk.into_below().fault()),
+        manner.style,
+    )
+}
+
 /// Puts standard input as a shard of the store in a file, and gives the exit status.
 pub fn put_into_file<R: AllocGlobal + Clock + Files<File = File> + Input + Eprint>(
     rt: &R,
     place: Place,
     id: ShardId,
+    end: End,
     manner: Manner,
 ) -> u8
 where
@@ -128,7 +158,7 @@ where
     } else {
         put(rt.alloc(), &mut store, id, rt.reader())
     };
-    explain_over(rt, store, outcome, manner)
+    end_written(rt, store, outcome, end, manner)
 }
 
 /// Whether standard input is a file with more bytes left than this.
@@ -144,6 +174,7 @@ pub fn delete_from_file<R: AllocGlobal + Clock + Files<File = File> + Eprint>(
     rt: &R,
     place: Place,
     id: ShardId,
+    end: End,
     manner: Manner,
 ) -> u8
     ensures { result ≤ 7 }
@@ -153,5 +184,5 @@ pub fn delete_from_file<R: AllocGlobal + Clock + Files<File = File> + Eprint>(
         Err(status) => return status,
     };
     let outcome = delete(&mut store, id);
-    explain_over(rt, store, outcome, manner)
+    end_written(rt, store, outcome, end, manner)
 }

@@ -5,11 +5,11 @@ use crate::benches::bench_in_file;
 use crate::copies::copy_file;
 use crate::creates::create_in_file;
 use crate::devices::create_on_device;
-use crate::files::{Place, is_special};
-use crate::manners::Manner;
+use crate::files::{Place, is_special, loss_of};
+use crate::manners::{End, Manner};
 use crate::overs::create_over_file;
-use crate::queries::{ask_file, query_of};
-use crate::repairs::{Loss, repair_file};
+use crate::queries::{ask_file, query_of, reclaim_file};
+use crate::repairs::repair_file;
 use crate::salvages::{export_frames, get_rest, list_rest};
 use crate::shards::{delete_from_file, get_from_file, put_into_file};
 use clap::ArgMatches;
@@ -17,6 +17,7 @@ use cs_disk::Access;
 use cs_frame::ShardId;
 use cs_options::{NoFile, device_pages_of, file_of, id_of, identity_of, listing_of, wait_of};
 use cs_tools::rescue::Whose;
+use cs_tools::store::Loss;
 use cs_tools::{Known, Outcome, explain, graph};
 use std::fs::File;
 use std::io;
@@ -115,6 +116,7 @@ fn place_to_read<'a, R: Eprint>(
         wait: wait_of(options),
         id,
         device_pages: device_pages_of(options),
+        loss: Loss::Refused,
     })
 }
 
@@ -126,6 +128,7 @@ fn place_to_write<'a>(path: &'a str, options: &ArgMatches) -> Place<'a> {
         wait: wait_of(options),
         id: None,
         device_pages: device_pages_of(options),
+        loss: loss_of(options),
     }
 }
 
@@ -189,8 +192,20 @@ where
         return tell_no_id(rt);
     };
     match name {
-        "put" => put_into_file(rt, place_to_write(path, options), id, manner),
-        "del" => delete_from_file(rt, place_to_write(path, options), id, manner),
+        "put" => put_into_file(
+            rt,
+            place_to_write(path, options),
+            id,
+            End::of(options),
+            manner,
+        ),
+        "del" => delete_from_file(
+            rt,
+            place_to_write(path, options),
+            id,
+            End::of(options),
+            manner,
+        ),
         _ => get_shard(rt, options, path, id, manner),
     }
 }
@@ -267,15 +282,10 @@ fn run_repair<R: AllocGlobal + Clock + Files<File = File> + Print + Eprint>(
         );
         return cs_words::COMMAND_LINE;
     }
-    let loss = if options.get_flag("accept-loss") {
-        Loss::Accepted
-    } else {
-        Loss::Stops
-    };
-    repair_file(rt, place_to_write(path, options), loss, manner)
+    repair_file(rt, place_to_write(path, options), manner)
 }
 
-/// Asks the store in a file, or does what the command of this name does with the whole of it.
+/// Asks the store in a file, or reclaims it.
 fn run_query<R: AllocGlobal + Clock + Files<File = File> + Print + Eprint>(
     rt: &R,
     name: &str,
@@ -289,13 +299,12 @@ fn run_query<R: AllocGlobal + Clock + Files<File = File> + Print + Eprint>(
         let _ = eprintln!(rt; "error: --any-store is for --salvage");
         return cs_words::COMMAND_LINE;
     }
-    let place = if name == "reclaim" {
-        place_to_write(path, options)
-    } else {
-        match place_to_read(rt, path, options) {
-            Ok(place) => place,
-            Err(status) => return status,
-        }
+    if name == "reclaim" {
+        return reclaim_file(rt, place_to_write(path, options), End::of(options), manner);
+    }
+    let place = match place_to_read(rt, path, options) {
+        Ok(place) => place,
+        Err(status) => return status,
     };
     match query_of(name, options, manner.style) {
         Some(query) => ask_file(rt, place, options.get_flag("as-of"), query, manner),

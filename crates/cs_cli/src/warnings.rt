@@ -4,6 +4,7 @@ ghost use Rattle.std.specs.Prelude.{◌≤◌};
 use crate::openings::{Opened, Unopened};
 use cs_frame::{Locator, StoreId};
 use cs_mount::Finding;
+use cs_refusal::Refusal;
 use cs_tools::rescue::DamagedRun;
 use cs_tools::{Salvaged, Scanned, Style, explain, may_be_lost, tell, warn};
 use std::alloc::AllocError;
@@ -24,6 +25,28 @@ pub fn warn_text<R: Eprint>(rt: &R, text: Result<String, AllocError>, style: Sty
 pub fn warn_of_length<R: AllocGlobal + Eprint>(rt: &R, all: u64, pages: u64, style: Style) {
     let text = format!(in rt.alloc();
         "the device has {all} pages, and the store {pages}: it is read as of its first {pages}"
+    );
+    warn_text(rt, text, style);
+}
+
+/// Warns of each page of superblock and root that can't be read.
+pub fn warn_of_unreadable<R: AllocGlobal + Eprint>(rt: &R, unread: &[u64], style: Style) {
+    for page in unread {
+        let text = format!(in rt.alloc(); "page {page} cannot be read; its other copy is used");
+        warn_text(rt, text, style);
+    }
+}
+
+/// Warns that the newest root couldn't be put on record, and why. That something waits still is no news: the command was
+/// refused, and says so.
+pub fn warn_of_unsealed<R: AllocGlobal + Eprint>(rt: &R, refusal: Refusal, style: Style) {
+    if refusal == Refusal::Unsettled {
+        return;
+    }
+    let number = refusal.number();
+    let name = refusal.name();
+    let text = format!(in rt.alloc();
+        "the newest root is not on record ({number} {name}): if its page is lost later that is not noticed"
     );
     warn_text(rt, text, style);
 }

@@ -90,7 +90,7 @@ says_none n = by_fault (superblock_fault of_number.Four zeros) refl
 no_number : number 4 12 zeros ≡ 0
 no_number = refl
 
-no_version : (d : Dimensions) (p : ℕ) → store_version (Some d) p zeros ≡ 0
+pub no_version : (d : Dimensions) (p : ℕ) → store_version (Some d) p zeros ≡ 0
 no_version d p = either (p == 1) (root_version d.format zeros) (section_version d (section_at d p) zeros) (either (is_root d.format zeros) _ 0 (without (root_fault (number_in d.format) zeros)) refl) (either (is_section d (section_at d p) zeros) _ 0 (without (superblock_fault (number_in d.format) zeros)) refl)
   where
     either : (t : Bool) (a b : ℕ) → a ≡ 0 → b ≡ 0 → (if t then a else b) ≡ 0

@@ -33,3 +33,13 @@ pub mod NewMade
 pub mod Sectored
 pub mod Hiding
 pub mod Ending
+pub mod Unread
+pub mod EndsFound
+pub mod Fenced
+pub mod OtherHalf
+pub mod Resectioning
+pub mod Respelling
+pub mod SealedImages
+pub mod Sealings
+pub mod Closing
+pub mod SealedRoots

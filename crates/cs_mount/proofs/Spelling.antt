@@ -169,7 +169,7 @@ zero_reads pages bytes last it (inr first) =
     (none, other ∙ sym (ap (λ (b : Bool). if b then named_by pages bytes else None) (ne_eqb (slice_index bytes 3) 52 (λ e. omega (arith, e, fourth)))) ∙ sym (zero_without pages bytes last none))
 
 -- and where it spells none
-zero_damaged : (pages : ℕ) (bytes : List ℕ) (last : Option Dimensions) → page_zero_fault bytes ≢ None → last ≡ zero_or_last pages (page_zero_fault bytes) bytes last
+pub zero_damaged : (pages : ℕ) (bytes : List ℕ) (last : Option Dimensions) → page_zero_fault bytes ≢ None → last ≡ zero_or_last pages (page_zero_fault bytes) bytes last
 zero_damaged pages bytes last damaged = by_fault (page_zero_fault bytes) damaged
   where
     by_fault : (o : Option FormatFault) → o ≢ None → last ≡ zero_or_last pages o bytes last

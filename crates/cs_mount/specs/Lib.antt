@@ -15,3 +15,6 @@ pub mod Sectors
 pub mod Hidden
 pub mod ChosenDisks
 pub mod Ends
+pub mod Unreadable
+pub mod Resectioned
+pub mod Seals

@@ -2,6 +2,7 @@
 ghost use Rattle.std.specs.Prelude.{◌≡◌, ◌≢◌, ◌<◌, IfErr, IfOk, Some, option_map};
 ghost use Rattle.cs_disk.specs.Disk.{HasCause, page, seen};
 ghost use Rattle.cs_disk.specs.Reads.{OnlyReads};
+ghost use Rattle.cs_mount.specs.Hidden.{is_another};
 ghost use Rattle.cs_mount.specs.Identities.{both_said, identity_said, stores_on};
 
 use cs_disk::{DiskFault, PageDisk};
@@ -26,8 +27,18 @@ pub fn unless_memory<T: Drop>(fault: FormatFault, none: T) -> Result<T, DiskFaul
     }
 }
 
+/// Whether a page says the identity of another store than this one.
+pub(crate) fn says_another(id: StoreId, said: Option<StoreId>) -> bool
+    ensures { result ≡ is_another id.0 (option_map (λ it. it.0) said) }
+{
+    match said {
+        Some(said) => said != id,
+        None => false,
+    }
+}
+
 /// The identity of the store of which these bytes are a section, if they are whole in format 4.
-fn store_said(alloc: Global, bytes: &[u8; 4096]) -> Result<Option<StoreId>, DiskFault>
+pub(crate) fn store_said(alloc: Global, bytes: &[u8; 4096]) -> Result<Option<StoreId>, DiskFault>
     ensures store { IfOk result (λ found. option_map (λ id. id.0) found ≡ identity_said bytes.now) }
     ensures memory { IfErr result (λ fault. fault ≡ DiskFault.OutOfMemory) }
 {
@@ -56,7 +67,7 @@ pub fn read_store<D: PageDisk>(
 }
 
 /// Two identities, if the last one is there and they differ.
-fn if_two(first: StoreId, last: Option<StoreId>) -> Option<(StoreId, StoreId)>
+pub(crate) fn if_two(first: StoreId, last: Option<StoreId>) -> Option<(StoreId, StoreId)>
     ensures { option_map (λ both. (both.0.0, both.1.0)) result ≡ both_said (Some first.0) (option_map (λ id. id.0) last) }
 {
     match last {

@@ -13,7 +13,12 @@ mod makings;
 mod mount_laws;
 mod mount_options;
 mod older;
+mod page_fences;
+mod seals;
+mod section_laws;
+mod section_pages;
 mod store_pairs;
+mod unreadable;
 
 pub use as_of::AsOf;
 pub use chosen::Chosen;
@@ -31,6 +36,10 @@ pub use mount_laws::{
     torn_disks_show_a_crash, torn_stores_are_found_again, torn_stores_show_a_crash,
 };
 pub use mount_options::{LIMITS, MountOptions, Mounted, mend};
+pub use page_fences::{a_crash_of_fences, fence_pages, pages_are_fenced, the_other_half_shows};
+pub use seals::seal;
+pub use section_laws::{a_seal_keeps_the_map, a_sealed_store_misses_its_root, sections_may_change};
 pub use store_pairs::{
     StoreRules, find_geometry, find_last, holds_superblock, open_pairs, pairs_of_store,
 };
+pub use unreadable::unreadable_halves;

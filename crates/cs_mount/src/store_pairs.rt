@@ -59,7 +59,7 @@ fn root_version(alloc: Global, bytes: &[u8; 4096], format: Format) -> Result<u64
 
 /// Whether a section is this one of the store of this geometry. The format has the store's identity, and the pages of
 /// the device.
-fn is_of(superblock: &Superblock, geometry: Geometry, section: u64) -> bool
+pub fn is_of(superblock: &Superblock, geometry: Geometry, section: u64) -> bool
     ensures { MatchBool result (HasNumbers geometry.format geometry.extents geometry.pages geometry.sections section superblock.now) (¬ HasNumbers geometry.format geometry.extents geometry.pages geometry.sections section superblock.now) }
 {
     superblock.format == geometry.format()
@@ -178,7 +178,7 @@ pub fn pairs_of_store(alloc: Global, geometry: Geometry) -> Result<Vec<Pair>, Al
 
 /// The geometry of the store whose first section this is, if the device has so many pages as that store: none in format
 /// 2.
-fn geometry_of_first(pages: u64, superblock: &Superblock) -> Option<Geometry>
+pub(crate) fn geometry_of_first(pages: u64, superblock: &Superblock) -> Option<Geometry>
     requires { IsGeometry superblock.now.format superblock.now.extent_count superblock.now.pages superblock.now.sections }
     ensures geometry { result ≡ geometry_of_first pages superblock.now.format superblock.now.extent_count superblock.now.pages superblock.now.sections superblock.now.section }
     ensures pages { IfSome result (λ d. pages_of d ≡ pages) }
@@ -202,7 +202,7 @@ fn geometry_of_first(pages: u64, superblock: &Superblock) -> Option<Geometry>
 }
 
 /// The section of a superblock that these bytes of page 0 spell, of whatever format; none if they aren't whole.
-fn first_on(alloc: Global, bytes: &[u8; 4096]) -> Result<Option<Superblock>, DiskFault>
+pub(crate) fn first_on(alloc: Global, bytes: &[u8; 4096]) -> Result<Option<Superblock>, DiskFault>
     ensures first { IfOk result (IsOnPageZero bytes.now) }
     ensures geometry { IfOk result (λ first. IfSome first (λ it. IsGeometry it.format it.extent_count it.pages it.sections)) }
     ensures memory { IfErr result (λ fault. fault ≡ DiskFault.OutOfMemory) }
@@ -214,7 +214,7 @@ fn first_on(alloc: Global, bytes: &[u8; 4096]) -> Result<Option<Superblock>, Dis
 }
 
 /// The geometry that these bytes of the last page spell; none if they aren't whole in format 4.
-fn geometry_on_last(
+pub(crate) fn geometry_on_last(
     alloc: Global,
     pages: u64,
     bytes: &[u8; 4096],

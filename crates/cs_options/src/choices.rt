@@ -100,11 +100,18 @@ pub const REPAIR: Choice = Choice {
     help: "First writes each page of the superblock and of the root that is not whole anew from its other copy",
 };
 
-/// The option for a repair by which commands may be lost.
+/// The option for writing though commands may be lost by it.
 pub const ACCEPT_LOSS: Choice = Choice {
     name: "accept-loss",
     takes: Takes::Nothing,
-    help: "Repairs also if the damaged page may be the newest root; each such page is kept as FILE.page-N",
+    help: "Goes on if a page of which the store has two cannot be read, and gives that page up; with --repair also if the damaged page may be the newest root: it is kept as FILE.page-N",
+};
+
+/// The option for a store whose newest root isn't put on record.
+pub const NO_SEAL: Choice = Choice {
+    name: "no-seal",
+    takes: Takes::Nothing,
+    help: "Saves a page and a flush at the end: the newest root is not put on record, so its loss later is not noticed",
 };
 
 /// The most that a new file may have.

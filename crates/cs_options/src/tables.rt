@@ -2,8 +2,8 @@
 
 use crate::choices::{
     ACCEPT_LOSS, ANY_STORE, AS_OF, DEVICE, DEVICE_PAGES, EXTENTS, FILE, FORCE, FROM, IDENTITY,
-    JSON, MODE, NO_LOCK, PAGES, REPAIR, SALVAGE, SALVAGE_FRAMES, SECTIONS, SHARD, SHARD_SIZE,
-    SHARDS, SIZE, STORE, WAIT,
+    JSON, MODE, NO_LOCK, NO_SEAL, PAGES, REPAIR, SALVAGE, SALVAGE_FRAMES, SECTIONS, SHARD,
+    SHARD_SIZE, SHARDS, SIZE, STORE, WAIT,
 };
 use crate::examples;
 use crate::forms::{Choice, Form, Takes};
@@ -23,7 +23,16 @@ pub const SHARD_FORMS: &[Form] = &[
         name: "put",
         about: "Puts the bytes of standard input under an identifier, and makes that persistent",
         after: Some(examples::PUT),
-        options: &[SHARD, STORE, DEVICE_PAGES, WAIT, JSON, FILE],
+        options: &[
+            SHARD,
+            STORE,
+            ACCEPT_LOSS,
+            NO_SEAL,
+            DEVICE_PAGES,
+            WAIT,
+            JSON,
+            FILE,
+        ],
     },
     Form {
         name: "get",
@@ -46,7 +55,16 @@ pub const SHARD_FORMS: &[Form] = &[
         name: "del",
         about: "Deletes a shard, and makes that persistent",
         after: Some(examples::DELETE),
-        options: &[SHARD, STORE, DEVICE_PAGES, WAIT, JSON, FILE],
+        options: &[
+            SHARD,
+            STORE,
+            ACCEPT_LOSS,
+            NO_SEAL,
+            DEVICE_PAGES,
+            WAIT,
+            JSON,
+            FILE,
+        ],
     },
 ];
 
@@ -110,7 +128,7 @@ pub const WHOLE_FORMS: &[Form] = &[
         name: "reclaim",
         about: "Empties the extents that have the most garbage, and makes that persistent",
         after: Some(examples::RECLAIM),
-        options: &[STORE, DEVICE_PAGES, WAIT, JSON, FILE],
+        options: &[STORE, ACCEPT_LOSS, NO_SEAL, DEVICE_PAGES, WAIT, JSON, FILE],
     },
 ];
 
@@ -203,6 +221,7 @@ pub const OTHER_FORMS: &[Form] = &[
                 help: "Makes a new store in the file, and loses what is in it",
             },
             AS_OF,
+            ACCEPT_LOSS,
             DEVICE_PAGES,
             Choice {
                 name: "strict",

@@ -1,7 +1,7 @@
 -- The number and the name of each refusal.
 use Rattle.std.specs.Prelude.{ℕ, List, codes}
 use Rattle.cs_refusal.specs.declared.refusals.Refusal.{Refusal}
-use Rattle.cs_refusal.specs.declared.refusals.Refusal.TheVariants.{DeviceFault, UnknownNeed, OwnFamily, NotStaged, InFlight, OddLength, BadGeometry, OutOfMemory, BadDocument, NotNested, Uncovered, TooEarly, ChainBroken, ChainShort, BadMagic, BadDigest, BadLength, BadPadding, BadVersion, OutOfOrder, Misplaced, RootLost, Full, TooLarge, IndexFull, NotSweepable, StillLive, WornOut, Halted, HistoryFull, NoRound, NotAStore, Unsettled, Occupied, NotEmpty}
+use Rattle.cs_refusal.specs.declared.refusals.Refusal.TheVariants.{DeviceFault, UnknownNeed, OwnFamily, NotStaged, InFlight, OddLength, BadGeometry, OutOfMemory, BadDocument, NotNested, Uncovered, TooEarly, ChainBroken, ChainShort, BadMagic, BadDigest, BadLength, BadPadding, BadVersion, OutOfOrder, Misplaced, RootLost, Unreadable, Full, TooLarge, IndexFull, NotSweepable, StillLive, WornOut, Halted, HistoryFull, NoRound, NotAStore, Unsettled, Occupied, NotEmpty}
 
 -- the number that operators see
 abbrev pub number_of : Refusal → ℕ
@@ -27,6 +27,7 @@ number_of BadVersion = 24
 number_of OutOfOrder = 25
 number_of Misplaced = 26
 number_of RootLost = 27
+number_of Unreadable = 29
 number_of Full = 30
 number_of TooLarge = 31
 number_of IndexFull = 32
@@ -65,6 +66,7 @@ name_of BadVersion = codes "BadVersion"
 name_of OutOfOrder = codes "OutOfOrder"
 name_of Misplaced = codes "Misplaced"
 name_of RootLost = codes "RootLost"
+name_of Unreadable = codes "Unreadable"
 name_of Full = codes "Full"
 name_of TooLarge = codes "TooLarge"
 name_of IndexFull = codes "IndexFull"

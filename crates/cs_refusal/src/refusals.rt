@@ -75,6 +75,9 @@ pub enum Refusal {
     /// 27: the root is older than one that a section of the superblock records as persistent.
     #[error("a newer root was lost")]
     RootLost,
+    /// 29: a page of which the store has two can't be read, and it may hold the newer one.
+    #[error("a page that may be the newest can't be read")]
+    Unreadable,
     /// 30: no extent takes the frame; one or two empty ones may be held back for a sweep.
     #[error("no extent has room")]
     Full,
@@ -144,6 +147,7 @@ impl Refusal {
             Refusal::OutOfOrder => 25,
             Refusal::Misplaced => 26,
             Refusal::RootLost => 27,
+            Refusal::Unreadable => 29,
             Refusal::Full => 30,
             Refusal::TooLarge => 31,
             Refusal::IndexFull => 32,
@@ -187,6 +191,7 @@ impl Refusal {
             Refusal::OutOfOrder => "OutOfOrder",
             Refusal::Misplaced => "Misplaced",
             Refusal::RootLost => "RootLost",
+            Refusal::Unreadable => "Unreadable",
             Refusal::Full => "Full",
             Refusal::TooLarge => "TooLarge",
             Refusal::IndexFull => "IndexFull",

@@ -14,3 +14,4 @@ pub mod Reclaiming
 pub mod Refusing
 pub mod Running
 pub mod Sizing
+pub mod Readied

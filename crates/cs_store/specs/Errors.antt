@@ -83,6 +83,7 @@ open_refusal opening.BadVersion = refusal.BadVersion
 open_refusal opening.OutOfOrder = refusal.OutOfOrder
 open_refusal opening.Misplaced = refusal.Misplaced
 open_refusal opening.RootLost = refusal.RootLost
+open_refusal opening.Unreadable = refusal.Unreadable
 open_refusal opening.NotAStore = refusal.NotAStore
 open_refusal opening.Occupied = refusal.Occupied
 open_refusal opening.NotEmpty = refusal.NotEmpty
@@ -121,7 +122,7 @@ IsGetRefusal refusal.BadVersion = Unit {0}
 IsGetRefusal refusal.Misplaced = Unit {0}
 IsGetRefusal other = ⊥
 
--- the refusals that making or opening a store may have: 1, 6, 9, 20, 21, 22, 23, 24, 25, 26, 27, 43, 45 and 46
+-- the refusals that making or opening a store may have: 1, 6, 9, 20, 21, 22, 23, 24, 25, 26, 27, 29, 43, 45 and 46
 abbrev pub IsOpenRefusal : Refusal → Type 0
 IsOpenRefusal refusal.DeviceFault = Unit {0}
 IsOpenRefusal refusal.OddLength = Unit {0}
@@ -134,6 +135,7 @@ IsOpenRefusal refusal.BadVersion = Unit {0}
 IsOpenRefusal refusal.OutOfOrder = Unit {0}
 IsOpenRefusal refusal.Misplaced = Unit {0}
 IsOpenRefusal refusal.RootLost = Unit {0}
+IsOpenRefusal refusal.Unreadable = Unit {0}
 IsOpenRefusal refusal.NotAStore = Unit {0}
 IsOpenRefusal refusal.Occupied = Unit {0}
 IsOpenRefusal refusal.NotEmpty = Unit {0}

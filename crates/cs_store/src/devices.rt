@@ -3,15 +3,11 @@ ghost use Rattle.std.specs.Prelude.{◌==◌, ◌≡◌, ◌≢◌, IfErr, IfOk,
 ghost use Rattle.cs_disk.specs.Disk.{HasCause, page, seen};
 ghost use Rattle.cs_disk.specs.Reads.{OnlyReads};
 ghost use Rattle.cs_frame.specs.Geometries.{device_pages};
-ghost use Rattle.cs_store.specs.Devices.{IsFileRefusal, device_on, device_said};
+ghost use Rattle.cs_store.specs.Devices.{device_on, device_said};
 
-use crate::errors::OpenError;
-use cs_disk::{DiskFault, FileDisk, OpenFault, PageDisk};
+use cs_disk::{DiskFault, PageDisk};
 use cs_frame::{FormatFault, FormatNumber, Superblock, decode_section};
-use cs_mount::two_stores;
 use std::alloc::Global;
-use std::fs::File;
-use std::rt::Files;
 
 /// How many pages the device had when its store was made, as section 0 of the superblock says; none by another section.
 fn device_of(superblock: &Superblock) -> Option<u64>
@@ -68,54 +64,5 @@ pub fn pages_said<D: PageDisk>(alloc: Global, disk: &mut D) -> Result<Option<u64
     match disk.read(0, &mut buffer) {
         Ok(()) => said_by(alloc, &buffer),
         Err(fault) => Err(fault),
-    }
-}
-
-/// Opens the file of a store, to read and write it. If page 0 says how many pages the file had when the store was made,
-/// no more of them are read or written.
-///
-/// Refused 1 DeviceFault, 6 OddLength and 9 OutOfMemory. A longer file is refused 43 NotAStore if its first and last
-/// pages are of different stores.
-pub(crate) fn open_store_file<R: Files<File = File>>(
-    rt: &R,
-    alloc: Global,
-    path: &str,
-) -> Result<FileDisk, OpenError>
-    ensures { IfErr result IsFileRefusal }
-{
-    let mut disk = match FileDisk::open(rt, alloc, path) {
-        Ok(disk) => disk,
-        Err(OpenFault::DeviceFault) => return Err(OpenError::DeviceFault),
-        Err(OpenFault::OddLength) => return Err(OpenError::OddLength),
-    };
-    match pages_said(alloc, &mut disk) {
-        Ok(Some(pages)) => first_pages(alloc, disk, pages),
-        Ok(None) => Ok(disk),
-        Err(fault) => Err(error_of(fault)),
-    }
-}
-
-/// The first pages of a file, if it has more. It is refused as `open_store_file`.
-fn first_pages(alloc: Global, disk: FileDisk, pages: u64) -> Result<FileDisk, OpenError>
-    ensures { IfErr result IsFileRefusal }
-{
-    if disk.pages() <= pages {
-        return Ok(disk);
-    }
-    let mut disk = disk;
-    match two_stores(alloc, &mut disk) {
-        Ok(None) => Ok(disk.first_pages(pages)),
-        Ok(Some(_)) => Err(OpenError::NotAStore),
-        Err(fault) => Err(error_of(fault)),
-    }
-}
-
-/// The error that a fault of the disk is.
-fn error_of(fault: DiskFault) -> OpenError
-    ensures { IsFileRefusal result }
-{
-    match fault {
-        DiskFault::DeviceFault => OpenError::DeviceFault,
-        DiskFault::OutOfMemory => OpenError::OutOfMemory,
     }
 }

@@ -271,6 +271,9 @@ pub enum OpenError {
     /// 27 RootLost: the root is older than one that a section of the superblock records as persistent; never in stores
     /// of format 2.
     RootLost,
+    /// 29 Unreadable: a page of which the store has two can't be read, and it may hold the newer one; never in stores
+    /// of format 2, and only as a store is opened to be written.
+    Unreadable,
     /// 43 NotAStore: there is no store of that many pages.
     NotAStore,
     /// 45 Occupied: a new store would be made over one, or over what is left of one.
@@ -286,7 +289,7 @@ impl OpenError {
     {
         same_name!(self, OpenError => Refusal;
             DeviceFault, OddLength, OutOfMemory, BadMagic, BadDigest, BadLength, BadPadding,
-            BadVersion, OutOfOrder, Misplaced, RootLost, NotAStore, Occupied, NotEmpty)
+            BadVersion, OutOfOrder, Misplaced, RootLost, Unreadable, NotAStore, Occupied, NotEmpty)
     }
 
     /// The error that a refusal of making or opening a store is.
@@ -296,7 +299,7 @@ impl OpenError {
     {
         same_name!(refusal, Refusal => OpenError;
             DeviceFault, OddLength, OutOfMemory, BadMagic, BadDigest, BadLength, BadPadding,
-            BadVersion, OutOfOrder, Misplaced, RootLost, NotAStore, Occupied, NotEmpty; no other)
+            BadVersion, OutOfOrder, Misplaced, RootLost, Unreadable, NotAStore, Occupied, NotEmpty; no other)
     }
 }
 

@@ -1,25 +1,28 @@
 //! How a store is opened to be written: what its opening passed over is fenced first.
-ghost use Rattle.std.specs.Prelude.{◌↔◌, ◌<◌, ◌≡◌, ◌≢◌, ◌⊎◌, Err, IfErr, IfOk, MatchResult, None, OnOk, [], length};
+ghost use Rattle.std.specs.Prelude.{◌↔◌, ◌<◌, ◌≡◌, ◌≢◌, ◌≤◌, ◌⊎◌, Err, IfErr, IfOk, IsOk, MatchResult, None, OnOk, [], false, length, true, ℕ};
 ghost use Rattle.std.specs.List.{AllByRecursion, list_any};
 ghost use Rattle.cs_chunk.specs.Reads.{IsNoAnswer};
 ghost use Rattle.cs_core.specs.Openings.{IfStoreOn, IsOpened, IsOpenedAs};
 ghost use Rattle.cs_disk.specs.Disk.{Image, LeavesOnly, MayLeave, Rises, flushed, page, seen};
+ghost use Rattle.cs_disk.specs.Reads.{OnlyReads};
 ghost use Rattle.cs_extent.specs.State.{shape};
+ghost use Rattle.cs_mount.specs.Hidden.{is_among};
 ghost use Rattle.cs_mount.specs.Identities.{AreOfTwo, IsOfOne};
 ghost use Rattle.cs_mount.specs.Showing.{ShowsOn, findings_on, shown_on};
 ghost use Rattle.cs_mount.specs.StorePairs.{dimensions_on};
 ghost use Rattle.cs_reader.specs.Counts.{HasCount};
 ghost use Rattle.cs_reader.specs.Openings.{IsOpeningRefusal, IsWhyNotOpened};
 ghost use Rattle.cs_store.specs.Maps.{HasMap};
-ghost use Rattle.cs_store.specs.Opening.{NoneIsPassedOver};
+ghost use Rattle.cs_store.specs.Opening.{NoneIsPassedOver, given_up};
+ghost use Rattle.cs_mount.specs.Unreadable.{AreOfStore};
 ghost use Rattle.cs_twin.specs.Findings.{finding_in, is_halved, passed_over};
 ghost use Rattle.cs_twin.specs.Paired.{disk_below, left_as_shown, moment_of, pairs_of, state_shown, versions_of};
 
-use crate::options::OpenOptions;
+use crate::options::{Loss, OpenOptions};
 use crate::stores::Store;
 use cs_core::{Core, Limits};
-use cs_disk::PageDisk;
-use cs_mount::{Finding, MountOptions, Mounted, fence};
+use cs_disk::{DiskFault, PageDisk};
+use cs_mount::{Finding, MountOptions, Mounted, fence, fence_pages, unreadable_halves};
 use cs_refusal::Refusal;
 use std::alloc::Global;
 
@@ -70,17 +73,89 @@ fn open_fenced<D: PageDisk + Drop>(
     }
 }
 
+/// The refusal that a fault of the disk is.
+fn refused_by(fault: DiskFault) -> Refusal
+    ensures number { IsNoAnswer result }
+    ensures device { result ≡ Refusal.DeviceFault → fault ≡ DiskFault.DeviceFault }
+{
+    match fault {
+        DiskFault::DeviceFault => Refusal::DeviceFault,
+        DiskFault::OutOfMemory => Refusal::OutOfMemory,
+    }
+}
+
+/// Whether an opening for writing is refused for these pages, which can't be read.
+fn refuses(loss: Loss, unread: &[u64]) -> bool
+    ensures some { result ≡ true → (loss ≡ Loss.Refused) × (unread.now ≢ []) }
+    ensures none { result ≡ false → loss ≡ Loss.Refused → unread.now ≡ [] }
+{
+    match loss {
+        Loss::Refused => !unread.is_empty(),
+        Loss::Accepted => false,
+    }
+}
+
+/// Fences each of these pages, which couldn't be read. None are no step.
+fn give_up<D: PageDisk>(disk: &mut D, unread: &[u64]) -> Result<(), Refusal>
+    requires { (p : ℕ) → is_among unread.now p ≡ true → p < D.page_count disk.old }
+    ensures state { D.honest disk.old → OnOk result (D.state disk.new ≡ given_up unread.now (D.state disk.old)) }
+    ensures none { unread.now ≡ [] → IsOk result × OnlyReads D.PageDisk disk.old disk.new }
+    ensures refusals { IfErr result IsNoAnswer }
+    ensures honest { D.honest disk.old ↔ D.honest disk.new }
+    ensures pages { D.page_count disk.new ≡ D.page_count disk.old }
+    ensures later { D.failure_count disk.old ≤ D.failure_count disk.new }
+{
+    if unread.is_empty() {
+        return Ok(());
+    }
+    match fence_pages(disk, unread) {
+        Ok(()) => Ok(()),
+        Err(fault) => Err(refused_by(fault)),
+    }
+}
+
+/// Readies a disk whose store is to be opened for writing. If the store has two of a page, and one of them can't be
+/// read, that one may hold the newest root: it is refused 29 Unreadable. If the loss is accepted, each such page is
+/// filled with bytes of 255 instead, and returned. `open_to_write` begins with this.
+///
+/// The other refusals are 1 DeviceFault, for example if neither page of the root can be read, and 9 OutOfMemory.
+pub fn ready_to_write<D: PageDisk>(
+    alloc: Global,
+    disk: &mut D,
+    loss: Loss,
+) -> Result<Vec<u64>, Refusal>
+    ensures none { loss ≡ Loss.Refused → IfOk result (λ lost. lost.items ≡ []) }
+    ensures halves { D.honest disk.old → IfOk result (λ lost. AreOfStore (D.page_count disk.old) lost.items lost.items (seen (D.state disk.old))) }
+    ensures state { D.honest disk.old → IfOk result (λ lost. D.state disk.new ≡ given_up lost.items (D.state disk.old)) }
+    ensures reads { IfOk result (λ lost. lost.items ≡ [] → OnlyReads D.PageDisk disk.old disk.new) }
+    ensures small { D.page_count disk.old < 10 → (disk.new ≡ disk.old) × IfErr result (λ refusal. ⊥) }
+    ensures refused { IfErr result (λ refusal. IsNoAnswer refusal ⊎ ((refusal ≡ Refusal.Unreadable) × (loss ≡ Loss.Refused) × Rises (D.failure_count disk.old) (D.failure_count disk.new))) }
+    ensures same { loss ≡ Loss.Refused → IfErr result (λ _. OnlyReads D.PageDisk disk.old disk.new) }
+    ensures cause { loss ≡ Loss.Refused → IfErr result (λ refusal. refusal ≡ Refusal.DeviceFault → Rises (D.failure_count disk.old) (D.failure_count disk.new)) }
+    ensures honest { D.honest disk.old ↔ D.honest disk.new }
+    ensures pages { D.page_count disk.new ≡ D.page_count disk.old }
+    ensures later { D.failure_count disk.old ≤ D.failure_count disk.new }
+{
+    if disk.pages() < 10 {
+        return Ok(Vec::new(alloc));
+    }
+    let unread = match unreadable_halves(alloc, disk) {
+        Ok(unread) => unread,
+        Err(fault) => return Err(refused_by(fault)),
+    };
+    if refuses(loss, &unread) {
+        return Err(Refusal::Unreadable);
+    }
+    match give_up(disk, &unread) {
+        Ok(()) => Ok(unread),
+        Err(refusal) => Err(refusal),
+    }
+}
+
 impl OpenOptions {
-    /// Opens the store on a disk as `open` does, and readies it to be written. Each page that the opening passed over
-    /// is filled with bytes of 255, a fence, and flushed. So what a crash tore off there can't be completed by a later
-    /// write that another crash tears. The store is closed for that, and opened again. What shows stays as it is.
-    ///
-    /// It returns what the pages held before: `Finding::passed_over` names a page that is a fence now. If it names none
-    /// nothing is written.
-    ///
-    /// If the call is refused, it returns the disk. The refusals are those of `open`. After 1 DeviceFault or 9
-    /// OutOfMemory some of the pages may be fences and the rest not; what shows is the same, so this can be done again.
-    pub fn open_to_write<D: PageDisk + Drop>(
+    /// Opens the store on a disk each page of whose pairs can be read, to be written: what the opening passed over is
+    /// fenced. If the call is refused, it returns the disk.
+    fn open_readied<D: PageDisk + Drop>(
         self,
         disk: D,
     ) -> Result<(Store<Mounted<D>>, Vec<Finding>), (Refusal, D)>
@@ -140,6 +215,79 @@ impl OpenOptions {
                 }
             }
             Err(refused) => Err(refused),
+        }
+    }
+}
+
+impl OpenOptions {
+    /// Opens the store on a disk as `open` does, and readies it to be written. Each page that the opening passed over
+    /// is filled with bytes of 255, a fence, and flushed. So what a crash tore off there can't be completed by a later
+    /// write that another crash tears. The store is closed for that, and opened again. What shows stays as it is.
+    ///
+    /// It returns what the pages held before: `Finding::passed_over` names a page that is a fence now. If it names none
+    /// nothing is written.
+    ///
+    /// If the store has two of a page, and one of them can't be read, it is refused 29 Unreadable: that one may hold the
+    /// newest root, and may be read again later. If the loss is accepted (`accept_loss`), each such page is filled with
+    /// a fence before all else, and returned in the list at the end. What shows is then what the other pages hold.
+    ///
+    /// If the call is refused, it returns the disk. The other refusals are those of `open`. After 1 DeviceFault or 9
+    /// OutOfMemory some of the pages may be fences and the rest not; if no loss was accepted, what shows is the same.
+    /// So this can be done again.
+    pub fn open_to_write<D: PageDisk + Drop>(
+        self,
+        disk: D,
+    ) -> Result<(Store<Mounted<D>>, Vec<Finding>, Vec<u64>), (Refusal, D)>
+        ensures new { IfOk result (λ opened. (opened.0.history ≡ []) × (opened.0.base ≡ 0) × (opened.0.limit ≡ self.limits.history)) }
+        // No page is given up unless that is accepted.
+        ensures none { self.loss ≡ Loss.Refused → IfOk result (λ opened. opened.2.items ≡ []) }
+        // Each of them is a half of a pair of the store that shows without them, and section 0 and the root show.
+        ensures halves { D.honest disk → IfOk result (λ opened. AreOfStore (D.page_count disk) opened.2.items opened.2.items (seen (D.state disk))) }
+        // What was opened is what the disk showed before, as it is when these are given up.
+        ensures image { D.honest disk → IfOk result (λ opened. let shows = shown_on (D.page_count disk) (seen (given_up opened.2.items (D.state disk))) in (opened.0.opened ≡ shows) × (state_shown opened.0.disk ≡ record { durable = shows; volatile = [] })) }
+        ensures store { IfOk result (λ opened. IsOpened (D.honest disk) opened.0.opened opened.0.found opened.0.store) }
+        // Page 0 and the last page aren't of different stores.
+        ensures one { D.honest disk → IfOk result (λ opened. IsOfOne (D.page_count disk) (seen (given_up opened.2.items (D.state disk)))) }
+        // If they are, it is refused 43 before anything is flushed, unless the device or the memory refuses a call.
+        ensures two { D.honest disk → self.loss ≡ Loss.Refused → AreOfTwo (D.page_count disk) (seen (D.state disk))
+            → MatchResult result (λ opened. ⊥) (λ refused. (IsNoAnswer refused.0 ⊎ (refused.0 ≡ Refusal.Unreadable) ⊎ (refused.0 ≡ Refusal.NotAStore)) × (D.state refused.1 ≡ D.state disk)) }
+        // Where the disk shows a store of some geometry with this map, that store is opened and has this map.
+        ensures recovers { D.honest disk → self.loss ≡ Loss.Refused → IsOfOne (D.page_count disk) (seen (D.state disk)) → IfStoreOn (D.page_count disk) (page (shown_on (D.page_count disk) (seen (D.state disk))))
+            (λ S n m. MatchResult result (λ opened. (shape opened.0.store.extents ≡ S) × (opened.0.found.0 ≡ n) × HasCount (λ id. m id ≢ None) opened.0.found.1 × HasMap opened.0 m) (λ refused. IsNoAnswer refused.0 ⊎ (refused.0 ≡ Refusal.Unreadable))) }
+        // So it has the map that shows when these are given up.
+        ensures map { D.honest disk → IfOk result (λ opened. IfStoreOn (D.page_count disk) (page (shown_on (D.page_count disk) (seen (given_up opened.2.items (D.state disk)))))
+            (λ S n m. (shape opened.0.store.extents ≡ S) × (opened.0.found.0 ≡ n) × HasCount (λ id. m id ≢ None) opened.0.found.1 × HasMap opened.0 m)) }
+        // They are what the disk held before, and fences for those given up.
+        ensures findings { D.honest disk → IfOk result (λ opened. opened.1.items ≡ findings_on (D.page_count disk) (seen (given_up opened.2.items (D.state disk)))) }
+        // No page is passed over any more.
+        ensures guarded { D.honest disk → IfOk result (λ opened. NoneIsPassedOver (findings_on (D.page_count disk) (seen (D.state (disk_below opened.0.disk))))) }
+        // If it is refused, the disk shows the same.
+        ensures shown { D.honest disk → self.loss ≡ Loss.Refused → IfErr result (λ refused. shown_on (D.page_count disk) (seen (D.state refused.1)) ≡ shown_on (D.page_count disk) (seen (D.state disk))) }
+        ensures refusals { D.honest disk → self.loss ≡ Loss.Refused → IfErr result (λ refused. IsNoAnswer refused.0 ⊎ (refused.0 ≡ Refusal.Unreadable) ⊎ ((refused.0 ≡ Refusal.NotAStore) × AreOfTwo (D.page_count disk) (seen (D.state disk)))
+            ⊎ IsWhyNotOpened (D.page_count disk) (page (shown_on (D.page_count disk) (seen (D.state disk)))) refused.0) }
+        // Whatever the disk answers.
+        ensures number { IfErr result (λ refused. IsOpeningRefusal refused.0 ⊎ (refused.0 ≡ Refusal.Unreadable)) }
+        ensures small { D.page_count disk < 10 → result ≡ Err (Refusal.NotAStore, disk) }
+        // 29 is an answer of the device, which holds what it held; and no loss is accepted.
+        ensures unreadable { IfErr result (λ refused. refused.0 ≡ Refusal.Unreadable → (self.loss ≡ Loss.Refused) × Rises (D.failure_count disk) (D.failure_count refused.1)) }
+        ensures kept { D.honest disk → IfErr result (λ refused. refused.0 ≡ Refusal.Unreadable → D.state refused.1 ≡ D.state disk) }
+        // If no page was passed over, 1 is an answer of the device.
+        ensures cause { D.honest disk → self.loss ≡ Loss.Refused → NoneIsPassedOver (findings_on (D.page_count disk) (seen (D.state disk))) → IfErr result (λ refused. refused.0 ≡ Refusal.DeviceFault → Rises (D.failure_count disk) (D.failure_count refused.1)) }
+        // Nothing is written then: the device holds what it held, or that made durable.
+        ensures unwritten { D.honest disk → self.loss ≡ Loss.Refused → NoneIsPassedOver (findings_on (D.page_count disk) (seen (D.state disk)))
+            → MatchResult result (λ opened. D.state (disk_below opened.0.disk) ≡ flushed (D.state disk)) (λ refused. (D.state refused.1 ≡ D.state disk) ⊎ (D.state refused.1 ≡ flushed (D.state disk))) }
+        // A crash meanwhile leaves what shows as what one before it might have left.
+        ensures crash { D.honest disk → IfOk result (λ opened. opened.2.items ≡ [] → (left : Image) → left_as_shown opened.0.disk (D.moment disk) left → ShowsOn (D.page_count disk) (seen (D.state disk)) (MayLeave (D.state disk)) left) }
+        ensures honest { MatchResult result (λ opened. D.honest disk ↔ D.honest (disk_below opened.0.disk)) (λ refused. D.honest disk ↔ D.honest refused.1) }
+        ensures pages { MatchResult result (λ opened. D.page_count (disk_below opened.0.disk) ≡ D.page_count disk) (λ refused. D.page_count refused.1 ≡ D.page_count disk) }
+    {
+        let mut disk = disk;
+        match ready_to_write(self.alloc, &mut disk, self.loss) {
+            Ok(lost) => match self.open_readied(disk) {
+                Ok((store, findings)) => Ok((store, findings, lost)),
+                Err(refused) => Err(refused),
+            },
+            Err(refusal) => Err((refusal, disk)),
         }
     }
 }

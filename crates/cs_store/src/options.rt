@@ -22,12 +22,12 @@ ghost use Rattle.cs_twin.specs.Paired.{disk_below, left_as_shown, state_shown};
 ghost use Rattle.cs_twin.specs.Pairs.{Shows, shown_state};
 ghost use Rattle.law_machine.specs.Geometry.{twins_in};
 
-use crate::devices::open_store_file;
 use crate::errors::OpenError;
+use crate::file_openers::{create_store_file, open_store_file};
 use crate::identities::{NO_IDENTITY, geometry_in_file};
 use crate::stores::Store;
 use cs_core::Limits;
-use cs_disk::{FileDisk, FileFault, MemoryDisk, PageDisk};
+use cs_disk::{FileDisk, MemoryDisk, PageDisk};
 use cs_frame::Geometry;
 use cs_mount::{AsOf, Finding, LIMITS, MountOptions, Mounted};
 use cs_refusal::Refusal;
@@ -37,11 +37,19 @@ use std::marker::Model;
 use std::random::RandomSource;
 use std::rt::Files;
 
-/// The permissions of a new file, less those that the process gives to no file.
-const MODE: u32 = 0o666;
+/// What an opening for writing does about a page of which the store has two, if it can't be read. The page may hold the
+/// newest root, and may be read again later.
+#[derive(Clone, Copy, Debug, PartialEq, Eq)]
+pub enum Loss {
+    /// The opening is refused 29 Unreadable, and nothing is written.
+    Refused,
+    /// The page is given up: it is filled with bytes of 255, and the store is opened by the other one. If the page held
+    /// the newest root, the commands of its sync are lost.
+    Accepted,
+}
 
-/// Options for making or opening a store, and the calls that do it: the one way to a store. Contracts see the limits
-/// and the geometry.
+/// Options for making or opening a store, and the calls that do it: the one way to a store. Contracts see the limits,
+/// the geometry, and whether a loss is accepted.
 ///
 /// `create`, `create_in_memory` and `create_file` make a new store of the options' geometry. `open` and `open_file`
 /// open one that is there, `open_older` and `open_older_file` as of an older root; they take the geometry from the
@@ -51,6 +59,7 @@ pub struct OpenOptions {
     pub(crate) alloc: Global,
     pub(crate) limits: Limits,
     pub(crate) geometry: Geometry,
+    pub(crate) loss: Loss,
 }
 
 impl Model for OpenOptions {
@@ -58,7 +67,7 @@ impl Model for OpenOptions {
 
     ghost Value = { Opening };
 
-    ghost view = { λ o. record { limits = o.limits; geometry = o.geometry } };
+    ghost view = { λ o. record { limits = o.limits; geometry = o.geometry; loss = o.loss } };
 }
 
 /// The default geometry, of a store with an identity of zeros.
@@ -78,12 +87,14 @@ impl OpenOptions {
     /// chunk each, for shards of 8,388,008 bytes at most, and for some 30 MiB of shards in all.
     pub fn new(alloc: Global) -> Self
         ensures limits { result.limits.history ≡ 65536 }
+        ensures loss { result.loss ≡ Loss.Refused }
         ensures geometry { result.geometry ≡ record { format = file_format no_identity 64 256 1; extents = 64; pages = 256; sections = 1 } }
     {
         OpenOptions {
             alloc,
             limits: LIMITS,
             geometry: default_geometry(),
+            loss: Loss::Refused,
         }
     }
 
@@ -91,11 +102,13 @@ impl OpenOptions {
     pub fn limits(self, limits: Limits) -> Self
         ensures limits { result.limits ≡ limits }
         ensures geometry { result.geometry ≡ self.geometry }
+        ensures loss { result.loss ≡ self.loss }
     {
         OpenOptions {
             alloc: self.alloc,
             limits,
             geometry: self.geometry,
+            loss: self.loss,
         }
     }
 
@@ -109,11 +122,28 @@ impl OpenOptions {
     pub fn geometry(self, geometry: Geometry) -> Self
         ensures limits { result.limits ≡ self.limits }
         ensures geometry { result.geometry ≡ geometry }
+        ensures loss { result.loss ≡ self.loss }
     {
         OpenOptions {
             alloc: self.alloc,
             limits: self.limits,
             geometry,
+            loss: self.loss,
+        }
+    }
+
+    /// These options, by which an opening for writing does this about a page that can't be read (default:
+    /// `Loss::Refused`).
+    pub fn accept_loss(self, loss: Loss) -> Self
+        ensures limits { result.limits ≡ self.limits }
+        ensures geometry { result.geometry ≡ self.geometry }
+        ensures loss { result.loss ≡ loss }
+    {
+        OpenOptions {
+            alloc: self.alloc,
+            limits: self.limits,
+            geometry: self.geometry,
+            loss,
         }
     }
 
@@ -157,6 +187,7 @@ impl OpenOptions {
             alloc,
             limits,
             geometry,
+            ..
         } = self;
         let options = MountOptions::new(alloc).limits(limits);
         match options.create(disk, geometry) {
@@ -200,6 +231,7 @@ impl OpenOptions {
             alloc,
             limits,
             geometry,
+            ..
         } = self;
         let options = MountOptions::new(alloc).limits(limits);
         match options.create_over(disk, geometry) {
@@ -298,10 +330,9 @@ impl OpenOptions {
         let Ok(geometry) = geometry_in_file(rt, self.geometry) else {
             return Err(OpenError::DeviceFault);
         };
-        let disk = match FileDisk::create_new(rt, self.alloc, path, geometry.device_pages(), MODE) {
+        let disk = match create_store_file(rt, self.alloc, path, geometry.device_pages()) {
             Ok(disk) => disk,
-            Err(FileFault::NotEmpty) => return Err(OpenError::NotEmpty),
-            Err(_) => return Err(OpenError::DeviceFault),
+            Err(error) => return Err(error),
         };
         match self.geometry(geometry).create(disk) {
             Ok(store) => Ok(store),
@@ -321,7 +352,8 @@ impl OpenOptions {
     /// Refused 1 DeviceFault if the operating system refuses a call, for example if there is no such file or another
     /// process has it; 6 OddLength; 43 NotAStore if no store of that many pages is in it, or its first and last pages
     /// are of different stores; 20 to 26 for a page that is damaged; 27 RootLost if the root is older than one that was
-    /// persistent; and 9 OutOfMemory. The file then shows what it showed, and it is as it was, but that after 1 or 9
+    /// persistent; 29 Unreadable if a page can't be read of which the store has two, and its loss isn't accepted
+    /// (`accept_loss`); and 9 OutOfMemory. The file then shows what it showed, and it is as it was, but that after 1 or 9
     /// damaged pages may have been written over.
     pub fn open_file<R: Files<File = File>>(
         self,
@@ -337,7 +369,7 @@ impl OpenOptions {
             Err(error) => return Err(error),
         };
         match self.open_to_write(disk) {
-            Ok((mut store, findings)) => {
+            Ok((mut store, findings, _)) => {
                 store.findings = findings;
                 Ok(store)
             }
@@ -361,6 +393,7 @@ impl OpenOptions {
             alloc,
             limits,
             geometry,
+            ..
         } = self;
         let options = MountOptions::new(alloc).limits(limits);
         match options.create_in_memory(geometry) {
@@ -420,8 +453,8 @@ impl OpenOptions {
 
     /// Opens the store that is in a file as `open_older` does. The file is locked as long as the store lives.
     ///
-    /// The refusals are those of `open_file`, but for 27 RootLost. 43 NotAStore also means that the store is of format
-    /// 2. As at `open_file`, no clause can say what the operating system answers.
+    /// The refusals are those of `open_file`, but for 27 RootLost and 29 Unreadable. 43 NotAStore also means that the
+    /// store is of format 2. As at `open_file`, no clause can say what the operating system answers.
     pub fn open_older_file<R: Files<File = File>>(
         self,
         rt: &R,
@@ -429,7 +462,7 @@ impl OpenOptions {
     ) -> Result<Store<AsOf<Mounted<FileDisk>>>, OpenError>
         ensures new { IfOk result (λ opened. (opened.history ≡ []) × (opened.base ≡ 0) × (opened.limit ≡ self.limits.history)) }
         ensures store { IfOk result (λ opened. IsOpened ⊥ opened.opened opened.found opened.store) }
-        ensures refusals { IfErr result (λ error. (error ≢ OpenError.Occupied) × (error ≢ OpenError.NotEmpty)) }
+        ensures refusals { IfErr result (λ error. (error ≢ OpenError.Occupied) × (error ≢ OpenError.NotEmpty) × (error ≢ OpenError.Unreadable)) }
     {
         let disk = match open_store_file(rt, self.alloc, path) {
             Ok(disk) => disk,

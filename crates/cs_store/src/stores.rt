@@ -58,6 +58,18 @@ impl<D: PageDisk> Store<D> {
         core.into_disk()
     }
 
+    /// The core of the store, for calls that close one otherwise, as `seal` of cs_mount does. Nothing is written.
+    pub fn into_core(self) -> Core<D>
+        ensures { result ≡ self }
+    {
+        let Store {
+            alloc: _,
+            core,
+            findings: _,
+        } = self;
+        core
+    }
+
     /// Makes all accepted commands persistent, and gives how many they are since the store was opened. It is a write
     /// for each element that waits, and a flush a round.
     ///

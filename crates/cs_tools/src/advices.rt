@@ -98,6 +98,7 @@ pub fn meaning(refusal: Refusal) -> &'static str
         Refusal::OutOfOrder => "the identifiers on a page are out of order",
         Refusal::Misplaced => "another frame lies there",
         Refusal::RootLost => "a newer root was lost",
+        Refusal::Unreadable => "a page that may be the newest can't be read",
         Refusal::Full => "no extent has room",
         Refusal::TooLarge => "the shard is too large for this store",
         Refusal::IndexFull => "the index is full",

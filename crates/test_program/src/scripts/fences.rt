@@ -102,7 +102,8 @@ fn no_pair_is_written_before_the_fence(rt: HostRuntime) -> Result<(), Fail> {
 #[test]
 fn an_opening_for_writing_fences(rt: HostRuntime) -> Result<(), Fail> {
     match OpenOptions::new(rt.alloc()).open_to_write(torn_disk(&rt)?) {
-        Ok((mut store, findings)) => {
+        Ok((mut store, findings, lost)) => {
+            assert!(&rt; lost.is_empty());
             assert!(&rt; passed_over(&findings) == Some(TORN));
             assert!(&rt; store.put(ShardId([1; 16]), b"a rope").is_ok());
             assert!(&rt; store.sync().is_ok());

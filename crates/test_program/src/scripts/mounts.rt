@@ -105,7 +105,7 @@ fn a_disk_of_two_stores_is_refused(rt: HostRuntime) -> Result<(), Fail> {
     let mut disk = disk_of_two(&rt)?;
     assert!(&rt; 0 < disk.pages());
     assert!(&rt; two_stores(alloc, &mut disk).is_ok_and(|found| found == Some((FIRST, SECOND))));
-    match MountOptions::new(alloc).open(Chosen::all(disk)) {
+    match MountOptions::new(alloc).open(Chosen::all(alloc, disk)) {
         Ok(_) => panic!(&rt; "opened"),
         Err((refusal, _)) => assert_eq!(&rt; refusal, Refusal::NotAStore),
     }

@@ -1,154 +1,207 @@
-use Rattle.std.proofs.Common.{None, [], ap, arith, false, inl, inr, length, subst, sym, true, ⊎_elim, ◌∙◌, ◌≡◌, ◌≢◌, ◌⊎◌}
-use Rattle.std.specs.List.{list_any}
+use Rattle.std.proofs.Common.{[], ℕ, ap, inl, inr, subst, sym, ⊎_elim, ◌∙◌, ◌≡◌, ◌⊎◌, ◌<◌, Err}
 use Rattle.cs_chunk.specs.Reads.{IsNoAnswer}
-use Rattle.cs_disk.specs.Disk.{Image, flushed, page, seen}
+use Rattle.cs_disk.specs.Disk.{Image, MayLeave, State, flushed, page, seen}
 use Rattle.cs_frame.specs.Formats.{formats_of}
 use Rattle.cs_frame.specs.Geometries.{section_size}
-use Rattle.cs_mount.proofs.Mounting.{shows_later}
 use Rattle.cs_mount.proofs.Opened.{opened_by}
-use Rattle.cs_mount.specs.Showing.{shown_on}
-use Rattle.cs_mount.specs.StorePairs.{dimensions_on, pairs_where, store_version}
+use Rattle.cs_mount.specs.Identities.{AreOfTwo, IsOfOne}
+use Rattle.cs_mount.specs.Showing.{ShowsOn, findings_on, shown_on}
 use Rattle.cs_reader.specs.Openings.{IsWhyNotOpened}
-use Rattle.cs_twin.specs.Findings.{is_halved}
-use Rattle.cs_twin.specs.Paired.{left_as_shown, moment_of, state_shown}
+use Rattle.cs_refusal.specs.declared.refusals.Refusal.TheVariants.{NotAStore}
+use Rattle.cs_twin.specs.Paired.{disk_below, left_as_shown}
 use Rattle.law_machine.specs.Geometry.{shape_of}
 use Rattle.law_machine.specs.Recovery.{Recovers}
-use Rattle.cs_store.proofs.Fenced.{guarded_again, guarded_still, long_seen, none_halved, not_passed, still_shown}
-use Rattle.cs_store.proofs.Maps.{opened_map}
+use Rattle.cs_store.specs.Opening.{NoneIsPassedOver, Opening, given_up}
+use Rattle.cs_store.specs.declared.options.Loss.TheVariants.{Refused}
+use Rattle.cs_store.proofs.Readied.{answered, moved, moved_back, none_given_up, opened_readable, rises_from, same_Err, shows_moved}
 use Rattle.cs_store.proofs.options.OpenOptions.open_to_write.Goals as goal
 
-pub returns-then-not-are_passed_over-clause-recovers : goal.returns-then-not-are_passed_over-clause-recovers
-returns-then-not-are_passed_over-clause-recovers g c = λ h one format extents pages sections geometry size n m recovers.
+-- ---- it is opened
+
+pub returns-in-Ok-open_readied-clause-image : goal.returns-in-Ok-open_readied-clause-image
+returns-in-Ok-open_readied-clause-image g c = λ h.
     let D = g.D.PageDisk in
-    let e = c.in-Ok.ensures in
-    let read = e.recovers h one format extents pages sections geometry size n m recovers in (
-      read.0,
-      read.1,
-      read.2,
-      opened_map c.in-Ok.core (shape_of extents pages sections (section_size extents sections) format) (shown_on (D.page_count c.args.disk) (seen (D.state c.args.disk))) n m read.0 (e.image h).0 read.1 e.new.0 recovers,
-    )
+    let d = c.ready_to_write.new.disk in
+    let read = c.in-Ok-open_readied.ensures.image (c.ready_to_write.ensures.honest.0 h) in
+    let shows = shows_moved (D.page_count d) (D.page_count c.args.disk) (D.state d) (given_up c.in-Ok.lost.items (D.state c.args.disk)) c.ready_to_write.ensures.pages (c.in-Ok.ensures.state h) in
+    (read.0 ∙ shows, read.1 ∙ ap (λ (z : Image). record { durable = z; volatile = [] }) shows)
 
-pub returns-then-not-are_passed_over-clause-guarded : goal.returns-then-not-are_passed_over-clause-guarded
-returns-then-not-are_passed_over-clause-guarded g c = λ h.
+pub returns-in-Ok-open_readied-clause-store : goal.returns-in-Ok-open_readied-clause-store
+returns-in-Ok-open_readied-clause-store g c =
+    let core = c.in-Ok-open_readied.store in
+    opened_by (g.D.PageDisk.honest c.ready_to_write.new.disk) (g.D.PageDisk.honest c.args.disk) core.opened core.found core.store c.ready_to_write.ensures.honest.0 c.in-Ok-open_readied.ensures.store
+
+pub returns-in-Ok-open_readied-clause-one : goal.returns-in-Ok-open_readied-clause-one
+returns-in-Ok-open_readied-clause-one g c = λ h.
     let D = g.D.PageDisk in
-    let disk = c.args.disk in
-    let unnamed : list_any is_halved c.in-Ok.findings.items ≡ false = ap (list_any is_halved) (sym c.deref.ensures.value) ∙ sym c.are_passed_over.ensures ∙ c.if-not-are_passed_over.true in
-    guarded_still (D.page_count disk) (D.state disk) (g.met.D.PageDisk.sized disk h) c.in-Ok.findings.items (D.state c.in-Ok.core.disk.disk) (c.in-Ok.ensures.findings h) unnamed (c.in-Ok.ensures.unwritten h)
+    let d = c.ready_to_write.new.disk in
+    moved (D.page_count d) (D.page_count c.args.disk) (D.state d) (given_up c.in-Ok.lost.items (D.state c.args.disk)) c.ready_to_write.ensures.pages (c.in-Ok.ensures.state h)
+    (λ k z. IsOfOne k (seen z)) (c.in-Ok-open_readied.ensures.one (c.ready_to_write.ensures.honest.0 h))
 
-pub returns-in-Ok-open_fenced-clause-image : goal.returns-in-Ok-open_fenced-clause-image
-returns-in-Ok-open_fenced-clause-image g c = λ h.
-    let shows = (c.in-Ok.ensures.image h).1 in
-    let again = c.in-Ok-open_fenced.ensures.image (c.in-Ok.ensures.honest.0 h) in
-    (again.0 ∙ ap seen shows, again.1 ∙ ap flushed shows)
-
-pub returns-in-Ok-open_fenced-clause-store : goal.returns-in-Ok-open_fenced-clause-store
-returns-in-Ok-open_fenced-clause-store g c =
-    let again = c.in-Ok-open_fenced.core in
-    opened_by (g.D.PageDisk.honest c.in-Ok.core.disk.disk) (g.D.PageDisk.honest c.args.disk) again.opened again.found again.store c.in-Ok.ensures.honest.0 c.in-Ok-open_fenced.ensures.store
-
-pub returns-in-Ok-open_fenced-clause-recovers : goal.returns-in-Ok-open_fenced-clause-recovers
-returns-in-Ok-open_fenced-clause-recovers g c = λ h one format extents pages sections geometry size n m recovers.
+pub returns-in-Ok-open_readied-clause-two : goal.returns-in-Ok-open_readied-clause-two
+returns-in-Ok-open_readied-clause-two g c = λ h refused two.
     let D = g.D.PageDisk in
-    let e = c.in-Ok-open_fenced.ensures in
-    let below = c.in-Ok.ensures.honest.0 h in
+    let d = c.ready_to_write.new.disk in
+    let same = none_given_up c.in-Ok.lost.items (D.state c.args.disk) (D.state d) (c.in-Ok.ensures.none (subst (λ (u : Opening). u.loss ≡ Refused) (sym c.self.view_is) refused)) (c.in-Ok.ensures.state h) in
+    c.in-Ok-open_readied.ensures.two (c.ready_to_write.ensures.honest.0 h)
+    (moved_back (D.page_count d) (D.page_count c.args.disk) (D.state d) (D.state c.args.disk) c.ready_to_write.ensures.pages same (λ k z. AreOfTwo k (seen z)) two)
+
+pub returns-in-Ok-open_readied-clause-recovers : goal.returns-in-Ok-open_readied-clause-recovers
+returns-in-Ok-open_readied-clause-recovers g c = λ h refused one format extents pages sections geometry size n m recovers.
+    let D = g.D.PageDisk in
+    let d = c.ready_to_write.new.disk in
     let S = shape_of extents pages sections (section_size extents sections) format in
-    let shown = shown_on (D.page_count c.args.disk) (seen (D.state c.args.disk)) in
-    let shows : seen (state_shown c.in-Ok.core.disk) ≡ shown = ap seen (c.in-Ok.ensures.image h).1 in
-    let read = e.recovers below format extents pages sections geometry (c.in-Ok.ensures.pages ∙ size) n m (subst (λ (image : Image). Recovers S (formats_of S) (page image) n m) (sym shows) recovers) in (
-      read.0,
-      read.1,
-      read.2,
-      opened_map c.in-Ok-open_fenced.core S shown n m read.0 ((e.image below).0 ∙ shows) read.1 e.new.0 recovers,
-    )
+    let same = none_given_up c.in-Ok.lost.items (D.state c.args.disk) (D.state d) (c.in-Ok.ensures.none (subst (λ (u : Opening). u.loss ≡ Refused) (sym c.self.view_is) refused)) (c.in-Ok.ensures.state h) in
+    let back = moved_back (D.page_count d) (D.page_count c.args.disk) (D.state d) (D.state c.args.disk) c.ready_to_write.ensures.pages same in
+    c.in-Ok-open_readied.ensures.recovers (c.ready_to_write.ensures.honest.0 h) (back (λ k z. IsOfOne k (seen z)) one) format extents pages sections geometry (c.ready_to_write.ensures.pages ∙ size) n m
+    (back (λ k z. Recovers S (formats_of S) (page (shown_on k (seen z))) n m) recovers)
 
-pub returns-in-Ok-open_fenced-clause-guarded : goal.returns-in-Ok-open_fenced-clause-guarded
-returns-in-Ok-open_fenced-clause-guarded g c = λ h.
+pub returns-in-Ok-open_readied-clause-map : goal.returns-in-Ok-open_readied-clause-map
+returns-in-Ok-open_readied-clause-map g c = λ h format extents pages sections geometry size n m recovers.
     let D = g.D.PageDisk in
-    let disk = c.args.disk in
-    let e = c.in-Ok-open_fenced.ensures in
-    let p = c.in-Ok.core.disk in
-    let q = c.in-Ok-open_fenced.core.disk in
-    let before = c.in-Ok.ensures.honest.0 h in
-    let now = e.honest.0 before in
-    let shows = (c.in-Ok.ensures.image h).1 in
-    let named : list_any is_halved c.in-Ok.findings.items ≡ true = ap (list_any is_halved) (sym c.deref.ensures.value) ∙ sym c.are_passed_over.ensures ∙ c.if-not-are_passed_over.false in
-    guarded_again (D.page_count disk) (D.state disk) (g.met.D.PageDisk.sized disk h) c.in-Ok.findings.items (c.in-Ok.ensures.findings h) named
-    (D.page_count p.disk) p.rules.geometry p.pairs.items (D.state p.disk) c.in-Ok.ensures.pages (p.fit before).durable shows
-    (D.page_count q.disk) q.rules.geometry q.pairs.items (D.state q.disk) (e.pages ∙ c.in-Ok.ensures.pages) (q.fit now).durable ((e.image before).1 ∙ ap flushed shows)
-    (e.fenced before)
-
-pub returns-in-Ok-open_fenced-clause-unwritten : goal.returns-in-Ok-open_fenced-clause-unwritten
-returns-in-Ok-open_fenced-clause-unwritten g c = λ h none.
-    let disk = c.args.disk in
-    let named : list_any is_halved c.in-Ok.findings.items ≡ true = ap (list_any is_halved) (sym c.deref.ensures.value) ∙ sym c.are_passed_over.ensures ∙ c.if-not-are_passed_over.false in
-    not_passed (g.D.PageDisk.page_count disk) (g.D.PageDisk.state disk) (g.met.D.PageDisk.sized disk h) c.in-Ok.findings.items (c.in-Ok.ensures.findings h) named none
-
-pub returns-in-Ok-open_fenced-clause-crash : goal.returns-in-Ok-open_fenced-clause-crash
-returns-in-Ok-open_fenced-clause-crash g c = λ h left past.
-    let D = g.D.PageDisk in
-    let disk = c.args.disk in
-    let found = dimensions_on (D.page_count disk) (seen (D.state disk)) in
-    let calls = c.in-Ok.ensures.calls h in
-    shows_later moment_of left_as_shown (store_version found) (pairs_where found) (D.state disk) c.in-Ok.core.disk c.in-Ok-open_fenced.core.disk (D.moment disk) (state_shown c.in-Ok.core.disk) left
-    (c.in-Ok.ensures.image h).1 (omega (arith, calls)) (c.in-Ok.ensures.crash h) (c.in-Ok-open_fenced.ensures.crash (c.in-Ok.ensures.honest.0 h)) past
-
-pub returns-in-Ok-open_fenced-clause-honest : goal.returns-in-Ok-open_fenced-clause-honest
-returns-in-Ok-open_fenced-clause-honest g c = ((λ h. c.in-Ok-open_fenced.ensures.honest.0 (c.in-Ok.ensures.honest.0 h)), (λ h. c.in-Ok.ensures.honest.1 (c.in-Ok-open_fenced.ensures.honest.1 h)))
-
-pub returns-in-Err-open_fenced-clause-recovers : goal.returns-in-Err-open_fenced-clause-recovers
-returns-in-Err-open_fenced-clause-recovers g c = λ h one format extents pages sections geometry size n m recovers.
+    let d = c.ready_to_write.new.disk in
+    let now = c.ready_to_write.ensures.honest.0 h in
     let S = shape_of extents pages sections (section_size extents sections) format in
-    c.in-Err-open_fenced.ensures.recovers (c.in-Ok.ensures.honest.0 h) format extents pages sections geometry (c.in-Ok.ensures.pages ∙ size) n m
-    (subst (λ (image : Image). Recovers S (formats_of S) (page image) n m) (sym (ap seen (c.in-Ok.ensures.image h).1)) recovers)
+    let back = moved_back (D.page_count d) (D.page_count c.args.disk) (D.state d) (given_up c.in-Ok.lost.items (D.state c.args.disk)) c.ready_to_write.ensures.pages (c.in-Ok.ensures.state h) in
+    c.in-Ok-open_readied.ensures.recovers now (c.in-Ok-open_readied.ensures.one now) format extents pages sections geometry (c.ready_to_write.ensures.pages ∙ size) n m
+    (back (λ k z. Recovers S (formats_of S) (page (shown_on k (seen z))) n m) recovers)
 
-pub returns-in-Err-open_fenced-clause-shown : goal.returns-in-Err-open_fenced-clause-shown
-returns-in-Err-open_fenced-clause-shown g c = λ h.
+pub returns-in-Ok-open_readied-clause-findings : goal.returns-in-Ok-open_readied-clause-findings
+returns-in-Ok-open_readied-clause-findings g c = λ h.
     let D = g.D.PageDisk in
-    let disk = c.args.disk in
-    let n = D.page_count disk in
-    let s = D.state disk in
-    let long = g.met.D.PageDisk.sized disk h in
-    let named : list_any is_halved c.in-Ok.findings.items ≡ true = ap (list_any is_halved) (sym c.deref.ensures.value) ∙ sym c.are_passed_over.ensures ∙ c.if-not-are_passed_over.false in
-    let kept = subst (λ m. (image : Image) → length image ≡ m → dimensions_on m image ≢ None → state_shown c.in-Ok.core.disk ≡ record { durable = shown_on m image; volatile = [] } → shown_on m (seen (D.state c.in-Err-open_fenced.refused.1)) ≡ shown_on m image)
-    c.in-Ok.ensures.pages (c.in-Err-open_fenced.ensures.kept (c.in-Ok.ensures.honest.0 h)) in
-    kept (seen s) (long_seen n s long) (λ none. none_halved n s long c.in-Ok.findings.items (c.in-Ok.ensures.findings h) named none) (c.in-Ok.ensures.image h).1
+    let d = c.ready_to_write.new.disk in
+    moved (D.page_count d) (D.page_count c.args.disk) (D.state d) (given_up c.in-Ok.lost.items (D.state c.args.disk)) c.ready_to_write.ensures.pages (c.in-Ok.ensures.state h)
+    (λ k z. c.in-Ok-open_readied.findings.items ≡ findings_on k (seen z)) (c.in-Ok-open_readied.ensures.findings (c.ready_to_write.ensures.honest.0 h))
 
-pub returns-in-Err-open_fenced-clause-refusals : goal.returns-in-Err-open_fenced-clause-refusals
-returns-in-Err-open_fenced-clause-refusals g c = λ h.
+pub returns-in-Ok-open_readied-clause-guarded : goal.returns-in-Ok-open_readied-clause-guarded
+returns-in-Ok-open_readied-clause-guarded g c = λ h.
     let D = g.D.PageDisk in
-    let disk = c.args.disk in
-    let r = c.in-Err-open_fenced.refused.0 in
-    let why : IsNoAnswer r ⊎ IsWhyNotOpened (D.page_count disk) (page (shown_on (D.page_count disk) (seen (D.state disk)))) r =
-    subst (λ n. IsNoAnswer r ⊎ IsWhyNotOpened n (page (shown_on (D.page_count disk) (seen (D.state disk)))) r) c.in-Ok.ensures.pages
-    (subst (λ (image : Image). IsNoAnswer r ⊎ IsWhyNotOpened (D.page_count c.in-Ok.core.disk.disk) (page image) r) (ap seen (c.in-Ok.ensures.image h).1) (c.in-Err-open_fenced.ensures.refusals (c.in-Ok.ensures.honest.0 h))) in
+    subst (λ k. NoneIsPassedOver (findings_on k (seen (D.state (disk_below c.in-Ok-open_readied.store.disk))))) c.ready_to_write.ensures.pages (c.in-Ok-open_readied.ensures.guarded (c.ready_to_write.ensures.honest.0 h))
+
+pub returns-in-Ok-open_readied-clause-unwritten : goal.returns-in-Ok-open_readied-clause-unwritten
+returns-in-Ok-open_readied-clause-unwritten g c = λ h refused none.
+    let D = g.D.PageDisk in
+    let d = c.ready_to_write.new.disk in
+    let same = none_given_up c.in-Ok.lost.items (D.state c.args.disk) (D.state d) (c.in-Ok.ensures.none (subst (λ (u : Opening). u.loss ≡ Refused) (sym c.self.view_is) refused)) (c.in-Ok.ensures.state h) in
+    c.in-Ok-open_readied.ensures.unwritten (c.ready_to_write.ensures.honest.0 h)
+    (moved_back (D.page_count d) (D.page_count c.args.disk) (D.state d) (D.state c.args.disk) c.ready_to_write.ensures.pages same (λ k z. NoneIsPassedOver (findings_on k (seen z))) none)
+    ∙ ap flushed same
+
+pub returns-in-Ok-open_readied-clause-crash : goal.returns-in-Ok-open_readied-clause-crash
+returns-in-Ok-open_readied-clause-crash g c = λ h empty left past.
+    let D = g.D.PageDisk in
+    let d = c.ready_to_write.new.disk in
+    let reads = c.in-Ok.ensures.reads empty in
+    moved (D.page_count d) (D.page_count c.args.disk) (D.state d) (D.state c.args.disk) c.ready_to_write.ensures.pages (reads.same h) (λ k z. ShowsOn k (seen z) (MayLeave z) left)
+    (c.in-Ok-open_readied.ensures.crash (c.ready_to_write.ensures.honest.0 h) left (subst (λ (t : ℕ). left_as_shown c.in-Ok-open_readied.store.disk t left) (sym (reads.still h)) past))
+
+pub returns-in-Ok-open_readied-clause-honest : goal.returns-in-Ok-open_readied-clause-honest
+returns-in-Ok-open_readied-clause-honest g c =
+    let first = c.ready_to_write.ensures.honest in
+    ((λ h. c.in-Ok-open_readied.ensures.honest.0 (first.0 h)), (λ h. first.1 (c.in-Ok-open_readied.ensures.honest.1 h)))
+
+-- ---- the store isn't opened
+
+pub returns-in-Err-open_readied-clause-two : goal.returns-in-Err-open_readied-clause-two
+returns-in-Err-open_readied-clause-two g c = λ h refused two.
+    let D = g.D.PageDisk in
+    let d = c.ready_to_write.new.disk in
+    let same = none_given_up c.in-Ok.lost.items (D.state c.args.disk) (D.state d) (c.in-Ok.ensures.none (subst (λ (u : Opening). u.loss ≡ Refused) (sym c.self.view_is) refused)) (c.in-Ok.ensures.state h) in
+    let is = c.in-Err-open_readied.ensures.two (c.ready_to_write.ensures.honest.0 h)
+    (moved_back (D.page_count d) (D.page_count c.args.disk) (D.state d) (D.state c.args.disk) c.ready_to_write.ensures.pages same (λ k z. AreOfTwo k (seen z)) two) in
+    (⊎_elim (λ no. inl no) (λ none. inr (inr none)) is.0, is.1 ∙ same)
+
+pub returns-in-Err-open_readied-clause-recovers : goal.returns-in-Err-open_readied-clause-recovers
+returns-in-Err-open_readied-clause-recovers g c = λ h refused one format extents pages sections geometry size n m recovers.
+    let D = g.D.PageDisk in
+    let d = c.ready_to_write.new.disk in
+    let S = shape_of extents pages sections (section_size extents sections) format in
+    let same = none_given_up c.in-Ok.lost.items (D.state c.args.disk) (D.state d) (c.in-Ok.ensures.none (subst (λ (u : Opening). u.loss ≡ Refused) (sym c.self.view_is) refused)) (c.in-Ok.ensures.state h) in
+    let back = moved_back (D.page_count d) (D.page_count c.args.disk) (D.state d) (D.state c.args.disk) c.ready_to_write.ensures.pages same in
+    inl (c.in-Err-open_readied.ensures.recovers (c.ready_to_write.ensures.honest.0 h) (back (λ k z. IsOfOne k (seen z)) one) format extents pages sections geometry (c.ready_to_write.ensures.pages ∙ size) n m
+    (back (λ k z. Recovers S (formats_of S) (page (shown_on k (seen z))) n m) recovers))
+
+pub returns-in-Err-open_readied-clause-shown : goal.returns-in-Err-open_readied-clause-shown
+returns-in-Err-open_readied-clause-shown g c = λ h refused.
+    let D = g.D.PageDisk in
+    let d = c.ready_to_write.new.disk in
+    let same = none_given_up c.in-Ok.lost.items (D.state c.args.disk) (D.state d) (c.in-Ok.ensures.none (subst (λ (u : Opening). u.loss ≡ Refused) (sym c.self.view_is) refused)) (c.in-Ok.ensures.state h) in
+    moved (D.page_count d) (D.page_count c.args.disk) (D.state d) (D.state c.args.disk) c.ready_to_write.ensures.pages same
+    (λ k z. shown_on k (seen (D.state c.in-Err-open_readied.refused.1)) ≡ shown_on k (seen z)) (c.in-Err-open_readied.ensures.shown (c.ready_to_write.ensures.honest.0 h))
+
+pub returns-in-Err-open_readied-clause-refusals : goal.returns-in-Err-open_readied-clause-refusals
+returns-in-Err-open_readied-clause-refusals g c = λ h refused.
+    let D = g.D.PageDisk in
+    let d = c.ready_to_write.new.disk in
+    let r = c.in-Err-open_readied.refused.0 in
+    let same = none_given_up c.in-Ok.lost.items (D.state c.args.disk) (D.state d) (c.in-Ok.ensures.none (subst (λ (u : Opening). u.loss ≡ Refused) (sym c.self.view_is) refused)) (c.in-Ok.ensures.state h) in
+    let why = moved (D.page_count d) (D.page_count c.args.disk) (D.state d) (D.state c.args.disk) c.ready_to_write.ensures.pages same
+    (λ k z. IsNoAnswer r ⊎ ((r ≡ NotAStore) × AreOfTwo k (seen z)) ⊎ IsWhyNotOpened k (page (shown_on k (seen z))) r) (c.in-Err-open_readied.ensures.refusals (c.ready_to_write.ensures.honest.0 h)) in
     ⊎_elim (λ no. inl no) (λ is. inr (inr is)) why
 
-pub returns-in-Err-open_fenced-clause-two : goal.returns-in-Err-open_fenced-clause-two
-returns-in-Err-open_fenced-clause-two g c = λ h two. absurd (c.in-Ok.ensures.two h two)
+pub returns-in-Err-open_readied-clause-number : goal.returns-in-Err-open_readied-clause-number
+returns-in-Err-open_readied-clause-number g c = inl c.in-Err-open_readied.ensures.number
 
-pub returns-in-Err-open_fenced-clause-cause : goal.returns-in-Err-open_fenced-clause-cause
-returns-in-Err-open_fenced-clause-cause g c = λ h none.
-    let disk = c.args.disk in
-    let named : list_any is_halved c.in-Ok.findings.items ≡ true = ap (list_any is_halved) (sym c.deref.ensures.value) ∙ sym c.are_passed_over.ensures ∙ c.if-not-are_passed_over.false in
-    not_passed (g.D.PageDisk.page_count disk) (g.D.PageDisk.state disk) (g.met.D.PageDisk.sized disk h) c.in-Ok.findings.items (c.in-Ok.ensures.findings h) named none
+pub returns-in-Err-open_readied-clause-small : goal.returns-in-Err-open_readied-clause-small
+returns-in-Err-open_readied-clause-small g c = λ few.
+    let small = c.ready_to_write.ensures.small few in
+    let refused = same_Err c.in-Err-open_readied.refused (NotAStore, c.ready_to_write.new.disk) (c.in-Err-open_readied.ensures.small (subst (λ (k : ℕ). k < 10) (sym c.ready_to_write.ensures.pages) few)) in
+    ap (λ it. Err it) (refused ∙ ap (λ it. (NotAStore, it)) small.0)
 
-pub returns-in-Err-open_fenced-clause-unwritten : goal.returns-in-Err-open_fenced-clause-unwritten
-returns-in-Err-open_fenced-clause-unwritten g c = λ h none.
-    let disk = c.args.disk in
-    let named : list_any is_halved c.in-Ok.findings.items ≡ true = ap (list_any is_halved) (sym c.deref.ensures.value) ∙ sym c.are_passed_over.ensures ∙ c.if-not-are_passed_over.false in
-    not_passed (g.D.PageDisk.page_count disk) (g.D.PageDisk.state disk) (g.met.D.PageDisk.sized disk h) c.in-Ok.findings.items (c.in-Ok.ensures.findings h) named none
+pub returns-in-Err-open_readied-clause-unreadable : goal.returns-in-Err-open_readied-clause-unreadable
+returns-in-Err-open_readied-clause-unreadable g c = λ is. opened_readable c.in-Err-open_readied.refused.0 c.in-Err-open_readied.ensures.number is
+
+pub returns-in-Err-open_readied-clause-kept : goal.returns-in-Err-open_readied-clause-kept
+returns-in-Err-open_readied-clause-kept g c = λ h is. opened_readable c.in-Err-open_readied.refused.0 c.in-Err-open_readied.ensures.number is
+
+pub returns-in-Err-open_readied-clause-cause : goal.returns-in-Err-open_readied-clause-cause
+returns-in-Err-open_readied-clause-cause g c = λ h refused none one.
+    let D = g.D.PageDisk in
+    let d = c.ready_to_write.new.disk in
+    let same = none_given_up c.in-Ok.lost.items (D.state c.args.disk) (D.state d) (c.in-Ok.ensures.none (subst (λ (u : Opening). u.loss ≡ Refused) (sym c.self.view_is) refused)) (c.in-Ok.ensures.state h) in
+    rises_from (D.failure_count c.args.disk) (D.failure_count d) (D.failure_count c.in-Err-open_readied.refused.1) c.ready_to_write.ensures.later
+    (c.in-Err-open_readied.ensures.cause (c.ready_to_write.ensures.honest.0 h)
+    (moved_back (D.page_count d) (D.page_count c.args.disk) (D.state d) (D.state c.args.disk) c.ready_to_write.ensures.pages same (λ k z. NoneIsPassedOver (findings_on k (seen z))) none) one)
+
+pub returns-in-Err-open_readied-clause-unwritten : goal.returns-in-Err-open_readied-clause-unwritten
+returns-in-Err-open_readied-clause-unwritten g c = λ h refused none.
+    let D = g.D.PageDisk in
+    let d = c.ready_to_write.new.disk in
+    let same = none_given_up c.in-Ok.lost.items (D.state c.args.disk) (D.state d) (c.in-Ok.ensures.none (subst (λ (u : Opening). u.loss ≡ Refused) (sym c.self.view_is) refused)) (c.in-Ok.ensures.state h) in
+    ⊎_elim (λ was. inl (was ∙ same)) (λ now. inr (now ∙ ap flushed same))
+    (c.in-Err-open_readied.ensures.unwritten (c.ready_to_write.ensures.honest.0 h)
+    (moved_back (D.page_count d) (D.page_count c.args.disk) (D.state d) (D.state c.args.disk) c.ready_to_write.ensures.pages same (λ k z. NoneIsPassedOver (findings_on k (seen z))) none))
+
+pub returns-in-Err-open_readied-clause-honest : goal.returns-in-Err-open_readied-clause-honest
+returns-in-Err-open_readied-clause-honest g c =
+    let first = c.ready_to_write.ensures.honest in
+    ((λ h. c.in-Err-open_readied.ensures.honest.0 (first.0 h)), (λ h. first.1 (c.in-Err-open_readied.ensures.honest.1 h)))
+
+-- ---- the disk isn't readied
+
+pub returns-in-Err-clause-two : goal.returns-in-Err-clause-two
+returns-in-Err-clause-two g c = λ h refused two. (⊎_elim (λ no. inl no) (λ it. inr (inl it.0)) c.in-Err.ensures.refused, (c.in-Err.ensures.same (subst (λ (u : Opening). u.loss ≡ Refused) (sym c.self.view_is) refused)).same h)
+
+pub returns-in-Err-clause-recovers : goal.returns-in-Err-clause-recovers
+returns-in-Err-clause-recovers g c = λ h refused one format extents pages sections geometry size n m recovers. ⊎_elim (λ no. inl no) (λ it. inr it.0) c.in-Err.ensures.refused
 
 pub returns-in-Err-clause-shown : goal.returns-in-Err-clause-shown
-returns-in-Err-clause-shown g c = λ h.
-    let D = g.D.PageDisk in
-    let n = D.page_count c.args.disk in
-    let now = D.state c.in-Err.refused.1 in
-    let before = D.state c.args.disk in
-    let either : (now ≡ before) ⊎ (now ≡ flushed before) = c.in-Err.ensures.unwritten h in
-    still_shown n now before either
+returns-in-Err-clause-shown g c = λ h refused. ap (λ (s : State). shown_on (g.D.PageDisk.page_count c.args.disk) (seen s)) ((c.in-Err.ensures.same (subst (λ (u : Opening). u.loss ≡ Refused) (sym c.self.view_is) refused)).same h)
+
+pub returns-in-Err-clause-refusals : goal.returns-in-Err-clause-refusals
+returns-in-Err-clause-refusals g c = λ h refused. ⊎_elim (λ no. inl no) (λ it. inr (inl it.0)) c.in-Err.ensures.refused
+
+pub returns-in-Err-clause-number : goal.returns-in-Err-clause-number
+returns-in-Err-clause-number g c = ⊎_elim (λ no. inl (inl no)) (λ it. inr it.0) c.in-Err.ensures.refused
+
+pub returns-in-Err-clause-unreadable : goal.returns-in-Err-clause-unreadable
+returns-in-Err-clause-unreadable g c = λ is. ⊎_elim (λ no. answered c.in-Err.refusal no is) (λ it. (subst (λ (u : Opening). u.loss ≡ Refused) c.self.view_is it.1, it.2)) c.in-Err.ensures.refused
+
+pub returns-in-Err-clause-kept : goal.returns-in-Err-clause-kept
+returns-in-Err-clause-kept g c = λ h is. ⊎_elim (λ no. answered c.in-Err.refusal no is) (λ it. (c.in-Err.ensures.same it.1).same h) c.in-Err.ensures.refused
+
+pub returns-in-Err-clause-cause : goal.returns-in-Err-clause-cause
+returns-in-Err-clause-cause g c = λ h refused none one. c.in-Err.ensures.cause (subst (λ (u : Opening). u.loss ≡ Refused) (sym c.self.view_is) refused) one
 
 pub returns-in-Err-clause-unwritten : goal.returns-in-Err-clause-unwritten
-returns-in-Err-clause-unwritten g c = λ h none. c.in-Err.ensures.unwritten h
-
-pub returns-then-not-are_passed_over-clause-unwritten : goal.returns-then-not-are_passed_over-clause-unwritten
-returns-then-not-are_passed_over-clause-unwritten g c = λ h none. c.in-Ok.ensures.unwritten h
+returns-in-Err-clause-unwritten g c = λ h refused none. inl ((c.in-Err.ensures.same (subst (λ (u : Opening). u.loss ≡ Refused) (sym c.self.view_is) refused)).same h)
