@@ -2,7 +2,7 @@
 ghost use Rattle.std.specs.Prelude.{◌≤◌, IfErr};
 
 use crate::creates::{FILE, geometry_asked, hex_of, identity_made, mode_given, plural_of};
-use crate::files::{OverFile, Place, Read, Written, disk_to_read, new_disk, sync_folder};
+use crate::files::{OverFile, Place, Read, Written, disk_to_open, new_disk, sync_folder};
 use crate::manners::Manner;
 use crate::openings::{Shown, Unopened, open_typed};
 use crate::progress::Told;
@@ -10,7 +10,7 @@ use crate::warnings::{explain_unopened, warn_of, warn_text};
 use clap::ArgMatches;
 use cs_disk::{FileFault, SystemFault};
 use cs_frame::{Geometry, StoreId};
-use cs_mount::Mounted;
+use cs_mount::{Mounted, Remade};
 use cs_options::{Sizing, sizing_of};
 use cs_refusal::Refusal;
 use cs_tools::store::{OpenOptions, Store};
@@ -24,7 +24,7 @@ use std::time::Clock;
 use std::{fs, io};
 
 /// The store that is read.
-type Source = Store<Mounted<Read>>;
+type Source = Store<Mounted<Remade<Read>>>;
 
 /// The store that is made.
 type Target = Store<Mounted<Written>>;
@@ -61,7 +61,8 @@ pub fn copy_file<R: AllocGlobal + Clock + Files<File = File> + RandomSource + Pr
         let refused = Outcome::Refused(Refusal::NotEmpty);
         return explain(rt, refused, &Known::nothing(), manner.style);
     }
-    let opened = match open_typed::<Mounted<Read>, R>(rt, disk_to_read(rt, place, manner.style)) {
+    let disk = disk_to_open(rt, place, manner.style);
+    let opened = match open_typed::<Mounted<Remade<Read>>, R>(rt, disk) {
         Ok(opened) => opened,
         Err(unopened) => return explain_unopened(rt, &unopened, manner.style),
     };

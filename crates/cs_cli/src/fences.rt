@@ -3,6 +3,8 @@
 use crate::files::{OverFile, Place, Written, disk_without_loss};
 use crate::kept_pages::keep_pages;
 use crate::openings::{Opened, Shown, Unopened, open_core, open_typed};
+use crate::sections::disk_with_sections;
+use crate::skips::without_extent;
 use crate::warnings::warn_of;
 use cs_mount::the_core::Core;
 use cs_mount::{Finding, Mounted, fence};
@@ -15,13 +17,56 @@ use std::time::Clock;
 
 /// Opens the store in a file to write it, and warns of its damaged pages. If it has some they are fenced first: each is
 /// kept beside the store, and filled with bytes of 255. So what was lost there can't be completed by a later write. A page
-/// that can't be read is dealt with as `disk_without_loss` says.
+/// that can't be read is dealt with as `disk_without_loss` says. An extent is left out if the place names one.
 pub fn open_core_to_write<R: AllocGlobal + Clock + Files<File = File> + Eprint>(
     rt: &R,
     place: Place,
     style: Style,
 ) -> Result<Core<Mounted<Written>>, Unopened> {
-    let opened = open_core::<Mounted<Written>, R>(rt, disk_without_loss(rt, place, style))?;
+    let core = open_core_fenced(rt, place, style)?;
+    match place.skipped {
+        Some(extent) => without_extent(rt, core, extent, style),
+        None => Ok(core),
+    }
+}
+
+/// Opens the store in a file to write it, after sections that it had lost were made and written.
+pub fn open_core_whole<R: AllocGlobal + Clock + Files<File = File> + Eprint>(
+    rt: &R,
+    place: Place,
+    style: Style,
+) -> Result<Opened<Core<Mounted<Written>>>, Unopened> {
+    match open_core::<Mounted<Written>, R>(rt, disk_without_loss(rt, place, style)) {
+        Ok(opened) => Ok(opened),
+        Err(unopened) => {
+            let disk = disk_with_sections(rt, place, unopened, style)?;
+            open_core::<Mounted<Written>, R>(rt, Ok(disk))
+        }
+    }
+}
+
+/// The same as a typed store.
+fn open_typed_whole<R: AllocGlobal + Clock + Files<File = File> + Eprint>(
+    rt: &R,
+    place: Place,
+    style: Style,
+) -> Result<Opened<Store<Mounted<Written>>>, Unopened> {
+    match open_typed::<Mounted<Written>, R>(rt, disk_without_loss(rt, place, style)) {
+        Ok(opened) => Ok(opened),
+        Err(unopened) => {
+            let disk = disk_with_sections(rt, place, unopened, style)?;
+            open_typed::<Mounted<Written>, R>(rt, Ok(disk))
+        }
+    }
+}
+
+/// Opens the store in a file to write it, with its damaged pages fenced.
+fn open_core_fenced<R: AllocGlobal + Clock + Files<File = File> + Eprint>(
+    rt: &R,
+    place: Place,
+    style: Style,
+) -> Result<Core<Mounted<Written>>, Unopened> {
+    let opened = open_core_whole(rt, place, style)?;
     let (commands, _) = opened.store.opened();
     warn_of(rt, &opened, commands, style);
     if !are_passed_over(&opened.findings) {
@@ -43,7 +88,13 @@ pub fn open_typed_to_write<R: AllocGlobal + Clock + Files<File = File> + Eprint>
     place: Place,
     style: Style,
 ) -> Result<Store<Mounted<Written>>, Unopened> {
-    let opened = open_typed::<Mounted<Written>, R>(rt, disk_without_loss(rt, place, style))?;
+    if place.skipped.is_some() {
+        let disk = open_core_to_write(rt, place, style)?
+            .into_disk()
+            .into_below();
+        return unless_refused(rt, Mounted::<Written>::open_typed(rt.alloc(), disk));
+    }
+    let opened = open_typed_whole(rt, place, style)?;
     let (commands, _) = opened.store.found();
     warn_of(rt, &opened, commands, style);
     if !are_passed_over(&opened.findings) {

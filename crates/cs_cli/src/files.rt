@@ -5,7 +5,7 @@ use crate::warnings::{warn_of_length, warn_of_other, warn_of_unreadable};
 use clap::ArgMatches;
 use cs_disk::{Access, FileFault, PageDisk, ReadOnly, refusal_of_disk};
 use cs_frame::{Geometry, StoreId};
-use cs_mount::{Chosen, find_geometry, two_stores, unreadable_halves};
+use cs_mount::{Chosen, Remade, find_geometry, two_stores, unreadable_halves};
 use cs_refusal::Refusal;
 use cs_tools::store::file_openers::{
     create_emptied, create_new, first_pages, open_device, open_waiting,
@@ -32,6 +32,8 @@ pub struct Place<'a> {
     pub device_pages: Option<u64>,
     /// Whether a page that can't be read, and may hold the newest root, is given up so that the store can be written.
     pub loss: Loss,
+    /// An extent that is left out before anything else is written.
+    pub skipped: Option<u64>,
 }
 
 /// Whether the options accept that a page that can't be read is given up.
@@ -56,7 +58,7 @@ pub fn whole_disk<R: AllocGlobal + Clock + Files<File = File>>(
 
 /// How many pages the device had when its store was made, as page 0 says; none if it doesn't, or if the last page is of
 /// another store.
-fn pages_made<D: PageDisk>(alloc: Global, disk: &mut D) -> Option<u64> {
+pub fn pages_made<D: PageDisk>(alloc: Global, disk: &mut D) -> Option<u64> {
     if disk.pages() == 0 {
         return None;
     }
@@ -114,6 +116,27 @@ pub fn disk_to_read<R: AllocGlobal + Clock + Files<File = File> + Eprint>(
             let disk = disk_to_write(rt, place, style)?;
             readable_of(rt, disk, None, style)
         }
+    }
+}
+
+/// The file at a place, to be read alone, over which sections that are lost may show as they are made.
+pub fn disk_to_open<R: AllocGlobal + Clock + Files<File = File> + Eprint>(
+    rt: &R,
+    place: Place,
+    style: Style,
+) -> Result<Remade<Read>, Unopened> {
+    let disk = disk_to_read(rt, place, style)?;
+    Ok(Remade::new(disk, Vec::new(rt.alloc())))
+}
+
+/// The file at a place, to be read alone, all of it. No page is looked at.
+pub fn disk_to_scan<R: AllocGlobal + Clock + Files<File = File>>(
+    rt: &R,
+    place: Place,
+) -> Result<Read, Unopened> {
+    match whole_disk(rt, place) {
+        Ok(disk) => Ok(Chosen::all(rt.alloc(), ReadOnly::new(disk))),
+        Err(fault) => Err(Unopened::of_file(rt.alloc(), fault)),
     }
 }
 
@@ -211,7 +234,7 @@ fn shown_of<R: AllocGlobal>(
 }
 
 /// The identity of the store that a disk shows.
-fn identity_on<R: AllocGlobal>(rt: &R, shown: &mut Read) -> Option<StoreId> {
+pub fn identity_on<R: AllocGlobal>(rt: &R, shown: &mut Read) -> Option<StoreId> {
     if shown.pages() == 0 {
         return None;
     }

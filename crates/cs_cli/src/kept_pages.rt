@@ -35,6 +35,26 @@ pub fn keep_pages<D: PageDisk, R: AllocGlobal + Files<File = File> + Eprint>(
     true
 }
 
+/// Keeps each of these pages, as `keep_pages`. One that can't be read has nothing to keep.
+pub fn keep_listed<D: PageDisk, R: AllocGlobal + Files<File = File> + Eprint>(
+    rt: &R,
+    path: &str,
+    disk: &mut D,
+    pages: &[u64],
+    style: Style,
+) -> bool {
+    let mut bytes = [0; 4096];
+    for page in pages {
+        if *page >= disk.pages() || disk.read(*page, &mut bytes).is_err() {
+            continue;
+        }
+        if !is_kept(rt, path, disk, *page, style) {
+            return false;
+        }
+    }
+    true
+}
+
 /// Keeps a page, and returns whether it was kept.
 fn is_kept<D: PageDisk, R: AllocGlobal + Files<File = File> + Eprint>(
     rt: &R,

@@ -1,19 +1,48 @@
 //! Stores over files as they are opened, and what is known where one isn't.
 
-use crate::files::OverFile;
+use crate::files::{OverFile, Read, Written};
 use crate::heads::scan;
+use crate::sections::{Section, made_for, pages_of};
 use cs_disk::{FileFault, PageDisk, SystemFault};
 use cs_mount::the_core::Core;
-use cs_mount::{AsOf, Finding, MountOptions, Mounted, look};
+use cs_mount::{AsOf, Finding, MountOptions, Mounted, Remade, look};
 use cs_refusal::Refusal;
 use cs_tools::store::{OpenOptions, Store};
 use cs_tools::{Known, Outcome, Scanned, known_of, may_be_lost};
 use std::alloc::Global;
 use std::time::Clock;
 
+/// A disk over a file, on which a store may have lost a section of its superblock.
+pub trait Remaking: OverFile + Drop {
+    /// The disk with these sections in place of what is on their pages. It comes back as it is if there are none, or if
+    /// it shows pages just as they lie there.
+    fn with(self, made: Vec<Section>) -> Result<Self, Self>;
+}
+
+impl Remaking for Remade<Read> {
+    fn with(self, made: Vec<Section>) -> Result<Remade<Read>, Remade<Read>> {
+        if made.is_empty() {
+            return Err(self);
+        }
+        Ok(Remade::new(self.into_disk(), made))
+    }
+}
+
+impl Remaking for Read {
+    fn with(self, _made: Vec<Section>) -> Result<Read, Read> {
+        Err(self)
+    }
+}
+
+impl Remaking for Written {
+    fn with(self, _made: Vec<Section>) -> Result<Written, Written> {
+        Err(self)
+    }
+}
+
 /// A disk that shows a store that lies on a disk below.
 pub trait Shown: PageDisk {
-    type Below: OverFile + Drop;
+    type Below: Remaking;
 
     /// The store on the disk below, and what the pages hold that it has twice.
     fn open_core(
@@ -31,7 +60,7 @@ pub trait Shown: PageDisk {
     fn into_below(self) -> Self::Below;
 }
 
-impl<D: OverFile + Drop> Shown for Mounted<D> {
+impl<D: Remaking> Shown for Mounted<D> {
     type Below = D;
 
     fn open_core(alloc: Global, disk: D) -> Result<(Core<Mounted<D>>, Vec<Finding>), (Refusal, D)> {
@@ -50,7 +79,7 @@ impl<D: OverFile + Drop> Shown for Mounted<D> {
     }
 }
 
-impl<D: OverFile + Drop> Shown for AsOf<Mounted<D>> {
+impl<D: Remaking> Shown for AsOf<Mounted<D>> {
     type Below = D;
 
     fn open_core(
@@ -80,6 +109,8 @@ pub struct Opened<S> {
     pub findings: Vec<Finding>,
     /// What a scan found of the commands on the device, if the newest root may be the damaged one.
     pub scanned: Option<Scanned>,
+    /// The pages of the sections that were lost, and that show as they are made from the index.
+    pub made: Vec<u64>,
 }
 
 /// Why the store in a file wasn't opened, and what is known of the file.
@@ -169,6 +200,34 @@ fn core_on<E: Shown + Drop>(
             store,
             findings,
             scanned,
+            made: Vec::new(alloc),
+        }),
+        Err((refusal, mut disk)) => {
+            let made = made_for(alloc, refusal, &mut disk);
+            core_with::<E>(alloc, refusal, disk, made, scanned)
+        }
+    }
+}
+
+/// The store on a disk that was refused so, with these sections in place of those that are lost.
+fn core_with<E: Shown + Drop>(
+    alloc: Global,
+    refusal: Refusal,
+    disk: E::Below,
+    made: Vec<Section>,
+    scanned: Option<Scanned>,
+) -> Result<Opened<Core<E>>, Unopened> {
+    let pages = pages_of(alloc, &made);
+    let shown = match disk.with(made) {
+        Ok(shown) => shown,
+        Err(mut disk) => return Err(Unopened::of_disk(alloc, refusal, &mut disk)),
+    };
+    match E::open_core(alloc, shown) {
+        Ok((store, findings)) => Ok(Opened {
+            store,
+            findings,
+            scanned,
+            made: pages,
         }),
         Err((refusal, mut disk)) => Err(Unopened::of_disk(alloc, refusal, &mut disk)),
     }
@@ -199,6 +258,34 @@ fn typed_on<E: Shown + Drop>(
             store,
             findings,
             scanned,
+            made: Vec::new(alloc),
+        }),
+        Err((refusal, mut disk)) => {
+            let made = made_for(alloc, refusal, &mut disk);
+            typed_with::<E>(alloc, refusal, disk, made, scanned)
+        }
+    }
+}
+
+/// The typed store on a disk that was refused so, as `core_with`.
+fn typed_with<E: Shown + Drop>(
+    alloc: Global,
+    refusal: Refusal,
+    disk: E::Below,
+    made: Vec<Section>,
+    scanned: Option<Scanned>,
+) -> Result<Opened<Store<E>>, Unopened> {
+    let pages = pages_of(alloc, &made);
+    let shown = match disk.with(made) {
+        Ok(shown) => shown,
+        Err(mut disk) => return Err(Unopened::of_disk(alloc, refusal, &mut disk)),
+    };
+    match E::open_typed(alloc, shown) {
+        Ok((store, findings)) => Ok(Opened {
+            store,
+            findings,
+            scanned,
+            made: pages,
         }),
         Err((refusal, mut disk)) => Err(Unopened::of_disk(alloc, refusal, &mut disk)),
     }

@@ -67,6 +67,7 @@ fn make_over<R: AllocGlobal + Clock + Files<File = File> + Eprint>(
         id: None,
         device_pages: None,
         loss: Loss::Refused,
+        skipped: None,
     };
     let left = left_in(rt, place);
     if let Left::Refused(fault) = left {

@@ -1,7 +1,8 @@
 //! What is printed on standard error while something takes time.
 
 use crate::manners::Manner;
-use cs_tools::Progress;
+use cs_frame::Geometry;
+use cs_tools::{Progress, Watcher};
 use std::time::{Clock, Instant};
 
 /// From how many pages on it may take a second and more to make a file: 64 MiB, less the extent that gives way to the
@@ -92,6 +93,50 @@ impl<R: Clock + Eprint> Progress for Told<'_, R> {
                 "{done} of {all}, {} %, {} a second",
                 percent(done, all),
                 self.rate(done)
+            );
+        }
+    }
+}
+
+/// Prints on standard error at which page a scan is, and in percent how far, if that is a terminal: some hundred times,
+/// and after each page that can't be read.
+#[derive_where(Clone, Copy)]
+pub struct Scanning<'a, R> {
+    rt: &'a R,
+    terminal: bool,
+    /// How many pages an extent has.
+    pages: u64,
+    /// One of so many extents is reported.
+    step: u64,
+}
+
+impl<'a, R: Eprint> Scanning<'a, R> {
+    /// A scan of a device of this geometry.
+    pub fn new(rt: &'a R, geometry: Geometry, manner: Manner) -> Self {
+        Scanning {
+            rt,
+            terminal: manner.terminal,
+            pages: u64::from(geometry.pages()).max(1),
+            step: (u64::from(geometry.extents()) / 100).max(1),
+        }
+    }
+
+    /// Whether this page is reported: it is the first of an extent of which one is, or the scan went past a page before
+    /// it.
+    fn is_told(&self, page: u64) -> bool {
+        let place = page.saturating_sub(2);
+        let pages = self.pages.max(1);
+        place % pages != 0 || (place / pages) % self.step.max(1) == 0
+    }
+}
+
+impl<R: Eprint> Watcher for Scanning<'_, R> {
+    fn tell(&self, page: u64, end: u64) {
+        if self.terminal && self.is_told(page) {
+            let rt = self.rt;
+            let _ = eprintln!(rt;
+                "page {page} of {end}, {} %",
+                percent(page as usize, end as usize)
             );
         }
     }

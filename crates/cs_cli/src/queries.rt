@@ -2,7 +2,7 @@
 ghost use Rattle.std.specs.Prelude.{◌≤◌};
 
 use crate::fences::open_core_to_write;
-use crate::files::{OverFile, Place, Read, Written, disk_to_read};
+use crate::files::{OverFile, Place, Read, Written, disk_to_open};
 use crate::manners::{End, Manner};
 use crate::openings::{Opened, Shown, Unopened, open_core};
 use crate::progress::Told;
@@ -11,7 +11,7 @@ use clap::ArgMatches;
 use cs_disk::PageDisk;
 use cs_frame::ShardId;
 use cs_mount::the_core::Core;
-use cs_mount::{AsOf, Finding, Mounted, seal};
+use cs_mount::{AsOf, Finding, Mounted, Remade, seal};
 use cs_options::{Listing, from_of, listing_of};
 use cs_tools::{
     FoundPages, Known, Outcome, Progress, Style, explain, export, list, reclaim, scrub, stat,
@@ -57,13 +57,15 @@ pub fn ask_file<R: AllocGlobal + Clock + Files<File = File> + Print + Eprint>(
         return explain(rt, Outcome::Failed, &Known::nothing(), manner.style);
     };
     if older {
-        let opened = open_core::<AsOf<Mounted<Read>>, R>(rt, disk_to_read(rt, place, manner.style));
+        let disk = disk_to_open(rt, place, manner.style);
+        let opened = open_core::<AsOf<Mounted<Remade<Read>>>, R>(rt, disk);
         if opened.is_ok() {
             warn_of_older(rt, manner.style);
         }
         return ask_opened(rt, opened, query, manner, &mut writer);
     }
-    let opened = open_core::<Mounted<Read>, R>(rt, disk_to_read(rt, place, manner.style));
+    let disk = disk_to_open(rt, place, manner.style);
+    let opened = open_core::<Mounted<Remade<Read>>, R>(rt, disk);
     ask_opened(rt, opened, query, manner, &mut writer)
 }
 

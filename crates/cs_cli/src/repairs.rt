@@ -1,10 +1,10 @@
 //! The command `scrub --repair`.
 ghost use Rattle.std.specs.Prelude.{◌≤◌};
 
-use crate::fences::open_kept;
-use crate::files::{OverFile, Place, Written, disk_without_loss};
+use crate::fences::{open_core_whole, open_kept};
+use crate::files::{OverFile, Place, Written};
 use crate::manners::Manner;
-use crate::openings::{Opened, Shown, Unopened, open_core};
+use crate::openings::{Opened, Shown, Unopened};
 use crate::progress::Told;
 use crate::warnings::{explain_unopened, warn_of};
 use cs_mount::the_core::Core;
@@ -30,10 +30,7 @@ pub fn repair_file<R: AllocGlobal + Clock + Files<File = File> + Print + Eprint>
 ) -> u8
     ensures { result ≤ 7 }
 {
-    let opened = match open_core::<Mounted<Written>, R>(
-        rt,
-        disk_without_loss(rt, place, manner.style),
-    ) {
+    let opened = match open_core_whole(rt, place, manner.style) {
         Ok(opened) => opened,
         Err(unopened) => return explain_unopened(rt, &unopened, manner.style),
     };

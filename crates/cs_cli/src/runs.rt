@@ -15,7 +15,7 @@ use cs_disk::{Access, CrashDisk, SystemFault};
 use cs_mount::the_core::Core;
 use cs_mount::{AsOf, MountOptions, Mounted};
 use cs_options::script::{Onward, print_no_store, run_over_watched};
-use cs_options::{device_pages_of, geometry_of, wait_of};
+use cs_options::{device_pages_of, geometry_of, skipped_of, wait_of};
 use cs_refusal::Refusal;
 use cs_tools::store::{NO_IDENTITY, new_identity};
 use cs_tools::{Known, Outcome, Style, tell, warn};
@@ -84,6 +84,7 @@ fn place_of<'a>(path: &'a str, access: Access, options: &ArgMatches) -> Place<'a
         id: None,
         device_pages: device_pages_of(options),
         loss: loss_of(options),
+        skipped: skipped_of(options),
     }
 }
 

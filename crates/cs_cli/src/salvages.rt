@@ -1,19 +1,20 @@
 //! The commands over what can be read of a store in a file that is damaged.
 ghost use Rattle.std.specs.Prelude.{◌≤◌};
 
-use crate::files::{OverFile, Place, Read, disk_to_read};
+use crate::files::{OverFile, Place, Read, disk_to_read, disk_to_scan};
 use crate::heads::scan;
 use crate::manners::Manner;
 use crate::openings::{Opened, Shown, Unopened};
-use crate::progress::Told;
+use crate::progress::{Scanning, Told};
 use crate::warnings::{explain_unopened, warn_of, warn_of_rescue, warn_of_salvage};
-use cs_frame::ShardId;
+use cs_frame::{Geometry, ShardId};
 use cs_mount::Mounted;
 use cs_options::Listing;
-use cs_tools::rescue::{Rescue, Whose};
+use cs_refusal::Refusal;
+use cs_tools::rescue::{Rescue, Sought, Whose};
 use cs_tools::{
-    Known, Outcome, Scanned, explain, explain_got, export_salvaged, get_rescued, list_rescued,
-    may_be_lost, open_rescue, salvage,
+    Known, Named, Outcome, Salvaged, Scanned, Skipping, explain, explain_got, export_salvaged,
+    geometry_to_salvage, get_rescued, list_rescued, look_up, may_be_lost, open_rescue, salvage,
 };
 use std::alloc::Global;
 use std::fs::File;
@@ -22,36 +23,117 @@ use std::io::BufWriter;
 use std::rt::Files;
 use std::time::Clock;
 
+/// What a salvage by frames is asked for.
+#[derive(Clone, Copy)]
+pub struct Asked {
+    pub whose: Whose,
+    /// The first page that is looked at.
+    pub from_page: u64,
+    /// The geometry of the store, if it is given.
+    pub geometry: Option<Geometry>,
+}
+
 /// Prints a script that puts the shards that the frames in a file spell, those of its store or of any, and gives the
 /// exit status.
 pub fn export_frames<R: AllocGlobal + Clock + Files<File = File> + Print + Eprint>(
     rt: &R,
     place: Place,
-    whose: Whose,
+    asked: Asked,
     manner: Manner,
 ) -> u8
     ensures { result ≤ 7 }
 {
-    let mut disk = match disk_to_read(rt, place, manner.style) {
-        Ok(disk) => disk,
-        Err(unopened) => return explain_unopened(rt, &unopened, manner.style),
+    match scanned_in(rt, place, asked, manner) {
+        Ok(scan) => print_salvaged(rt, scan, manner),
+        Err(unopened) => explain_unopened(rt, &unopened, manner.style),
+    }
+}
+
+/// A file that was scanned.
+#[derive(Drop)]
+struct Scan {
+    disk: Read,
+    /// What the frames in it hold.
+    found: Salvaged,
+    /// What the index says of that; none if it can't be read, or if the geometry was given.
+    named: Option<Named>,
+}
+
+/// The file at a place, after a scan of its frames.
+fn scanned_in<R: AllocGlobal + Clock + Files<File = File> + Eprint>(
+    rt: &R,
+    place: Place,
+    asked: Asked,
+    manner: Manner,
+) -> Result<Scan, Unopened> {
+    let (mut disk, geometry) = salvaged_by(rt, place, asked.geometry, manner)?;
+    let sought = Sought {
+        geometry,
+        whose: asked.whose,
     };
-    match salvage(rt.alloc(), &mut disk, whose) {
+    let scanning = Scanning::new(rt, geometry, manner);
+    match salvage(rt.alloc(), &mut disk, sought, asked.from_page, &scanning) {
         Ok(found) => {
-            warn_of_salvage(rt, &found, manner.style);
-            let told = Told::new(rt, manner);
-            let outcome = match BufWriter::new(rt.alloc(), io::writer(rt)) {
-                Ok(mut writer) => {
-                    export_salvaged(rt.alloc(), &mut disk, &found, &told, &mut writer)
-                }
-                Err(_) => Outcome::Failed,
+            let (disk, named) = if asked.geometry.is_some() {
+                (disk, None)
+            } else {
+                named_on(rt.alloc(), disk, &found)
             };
-            explain(rt, outcome, &Known::of_system(disk.fault()), manner.style)
+            Ok(Scan { disk, found, named })
         }
-        Err(refusal) => {
-            let unopened = Unopened::of_disk(rt.alloc(), refusal, &mut disk);
-            explain_unopened(rt, &unopened, manner.style)
+        Err(_) => {
+            let refused = Outcome::NoStore(Refusal::OutOfMemory);
+            Err(Unopened::of_outcome(rt.alloc(), refused, disk.fault()))
         }
+    }
+}
+
+/// The file at a place, and the geometry by which it is salvaged: the one that is given, else that of its store.
+fn salvaged_by<R: AllocGlobal + Clock + Files<File = File> + Eprint>(
+    rt: &R,
+    place: Place,
+    given: Option<Geometry>,
+    manner: Manner,
+) -> Result<(Read, Geometry), Unopened> {
+    if let Some(geometry) = given {
+        return Ok((disk_to_scan(rt, place)?, geometry));
+    }
+    let mut disk = disk_to_read(rt, place, manner.style)?;
+    match geometry_to_salvage(rt.alloc(), &mut disk) {
+        Ok(geometry) => Ok((disk, geometry)),
+        Err(refusal) => Err(Unopened::of_disk(rt.alloc(), refusal, &mut disk)),
+    }
+}
+
+/// Prints the script of what was found, with warnings of what may be wrong, and gives the exit status.
+fn print_salvaged<R: AllocGlobal + Clock + Print + Eprint>(rt: &R, scan: Scan, manner: Manner) -> u8
+    ensures { result ≤ 7 }
+{
+    let Scan { disk, found, named } = scan;
+    let mut disk = disk;
+    warn_of_salvage(rt, &found, &named, manner.style);
+    let told = Told::new(rt, manner);
+    let outcome = match BufWriter::new(rt.alloc(), io::writer(rt)) {
+        Ok(mut writer) => {
+            export_salvaged(rt.alloc(), &mut disk, &found, &named, &told, &mut writer)
+        }
+        Err(_) => Outcome::Failed,
+    };
+    explain(rt, outcome, &Known::of_system(disk.fault()), manner.style)
+}
+
+/// What the index on a disk says of the shards that were found there, if its root can be read. Pages that couldn't be
+/// read aren't asked for again.
+fn named_on(alloc: Global, disk: Read, found: &Salvaged) -> (Read, Option<Named>) {
+    let Ok(unreadable) = Vec::from_slice(alloc, &found.unreadable) else {
+        return (disk, None);
+    };
+    match open_rescue(alloc, Skipping::new(disk, unreadable)) {
+        Ok((rescue, findings)) => {
+            let named = look_up(alloc, &rescue, &findings, &found.shards).ok();
+            (rescue.into_disk().into_disk().into_disk(), named)
+        }
+        Err((_, disk)) => (disk.into_disk(), None),
     }
 }
 
@@ -99,6 +181,7 @@ fn rescue_on(
             store,
             findings,
             scanned,
+            made: Vec::new(alloc),
         }),
         Err((refusal, mut disk)) => Err(Unopened::of_disk(alloc, refusal, &mut disk)),
     }

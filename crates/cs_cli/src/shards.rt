@@ -2,13 +2,13 @@
 ghost use Rattle.std.specs.Prelude.{◌≤◌, IfErr};
 
 use crate::fences::open_typed_to_write;
-use crate::files::{OverFile, Place, Read, Written, disk_to_read};
+use crate::files::{OverFile, Place, Read, Written, disk_to_open};
 use crate::inputs::bytes_left;
 use crate::manners::{End, Manner};
 use crate::openings::{Opened, Shown, Unopened, open_typed};
 use crate::warnings::{explain_unopened, warn_of, warn_of_older, warn_of_unsealed};
 use cs_frame::ShardId;
-use cs_mount::{AsOf, Mounted, seal};
+use cs_mount::{AsOf, Mounted, Remade, seal};
 use cs_refusal::Refusal;
 use cs_tools::store::Store;
 use cs_tools::{Known, Outcome, delete, explain, get, most_bytes, put};
@@ -29,16 +29,15 @@ pub fn get_from_file<R: AllocGlobal + Clock + Files<File = File> + Print + Eprin
     ensures { result ≤ 7 }
 {
     if older {
-        let opened = open_typed::<AsOf<Mounted<Read>>, R>(
-            rt,
-            disk_to_read(rt, place, manner.style),
-        );
+        let disk = disk_to_open(rt, place, manner.style);
+        let opened = open_typed::<AsOf<Mounted<Remade<Read>>>, R>(rt, disk);
         if opened.is_ok() {
             warn_of_older(rt, manner.style);
         }
         return get_opened(rt, opened, id, manner);
     }
-    let opened = open_typed::<Mounted<Read>, R>(rt, disk_to_read(rt, place, manner.style));
+    let disk = disk_to_open(rt, place, manner.style);
+    let opened = open_typed::<Mounted<Remade<Read>>, R>(rt, disk);
     get_opened(rt, opened, id, manner)
 }
 
@@ -108,8 +107,17 @@ fn explain_over<E: Shown + Drop, R: Eprint>(
     explain(rt, outcome, &known, manner.style)
 }
 
-/// Ends a command that wrote to a store: seals the store, unless that isn't wanted, and prints how the command ended, as
-/// `explain_over`. If the store can't be sealed that is reported, and what was made persistent stays so.
+/// Whether a command did what it was to do.
+fn is_done(outcome: Outcome) -> bool {
+    match outcome {
+        Outcome::Done => true,
+        _ => false,
+    }
+}
+
+/// Ends a command that wrote to a store: seals the store if it was done, unless that isn't wanted, and prints how the
+/// command ended, as `explain_over`. If the store can't be sealed that is reported, and what was made persistent stays
+/// so.
 fn end_written<R: AllocGlobal + Eprint>(
     rt: &R,
     store: Store<Mounted<Written>>,
@@ -119,7 +127,7 @@ fn end_written<R: AllocGlobal + Eprint>(
 ) -> u8
     ensures { result ≤ 7 }
 {
-    if end == End::Unsealed {
+    if end == End::Unsealed || !is_done(outcome) {
         return explain_over(rt, store, outcome, manner);
     }
     let disk = match seal(rt.alloc(), store.into_core()) {

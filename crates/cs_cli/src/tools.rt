@@ -5,20 +5,24 @@ use crate::benches::bench_in_file;
 use crate::copies::copy_file;
 use crate::creates::create_in_file;
 use crate::devices::create_on_device;
+use crate::doctors::doctor_file;
 use crate::files::{Place, is_special, loss_of};
 use crate::manners::{End, Manner};
 use crate::overs::create_over_file;
 use crate::queries::{ask_file, query_of, reclaim_file};
 use crate::repairs::repair_file;
-use crate::salvages::{export_frames, get_rest, list_rest};
+use crate::salvages::{Asked, export_frames, get_rest, list_rest};
 use crate::shards::{delete_from_file, get_from_file, put_into_file};
 use clap::ArgMatches;
 use cs_disk::Access;
-use cs_frame::ShardId;
-use cs_options::{NoFile, device_pages_of, file_of, id_of, identity_of, listing_of, wait_of};
+use cs_frame::{ShardId, StoreId};
+use cs_options::{
+    NoFile, NoGeometry, device_pages_of, file_of, from_page_of, id_of, identity_of, listing_of,
+    lost_geometry_of, skipped_of, wait_of,
+};
 use cs_tools::rescue::Whose;
 use cs_tools::store::Loss;
-use cs_tools::{Known, Outcome, explain, graph};
+use cs_tools::{Depth, Known, Outcome, explain, graph};
 use std::fs::File;
 use std::io;
 use std::io::BufWriter;
@@ -117,6 +121,7 @@ fn place_to_read<'a, R: Eprint>(
         id,
         device_pages: device_pages_of(options),
         loss: Loss::Refused,
+        skipped: None,
     })
 }
 
@@ -129,6 +134,7 @@ fn place_to_write<'a>(path: &'a str, options: &ArgMatches) -> Place<'a> {
         id: None,
         device_pages: device_pages_of(options),
         loss: loss_of(options),
+        skipped: skipped_of(options),
     }
 }
 
@@ -156,6 +162,7 @@ where
         "create" if options.get_flag("device") => create_on_device(rt, path, options, manner),
         "create" => create_over_file(rt, path, options, manner),
         "get" | "put" | "del" => run_on_shard(rt, name, options, path, manner),
+        "doctor" => run_doctor(rt, options, path, manner),
         "list" | "export" if options.get_flag("salvage") => {
             run_salvage(rt, name, options, path, manner)
         }
@@ -255,12 +262,60 @@ fn run_salvage<R: AllocGlobal + Clock + Files<File = File> + Print + Eprint>(
         let _ = eprintln!(rt; "error: --salvage prints all shards: leave out --from");
         return cs_words::COMMAND_LINE;
     }
-    let whose = if options.get_flag("any-store") {
-        Whose::OfAny
-    } else {
-        Whose::OfStore
+    match asked_of(rt, options, place.id) {
+        Ok(asked) => export_frames(rt, place, asked, manner),
+        Err(status) => status,
+    }
+}
+
+/// What a salvage by frames of the store with this identity is asked for; or the exit status if the options give half
+/// a geometry, or none that there is. If they give one and no identity, the frames of any store are taken.
+fn asked_of<R: Eprint>(rt: &R, options: &ArgMatches, id: Option<StoreId>) -> Result<Asked, u8>
+    ensures { IfErr result (λ status. status ≤ 7) }
+{
+    let geometry = match lost_geometry_of(options, id.unwrap_or(StoreId([0; 16]))) {
+        Ok(geometry) => geometry,
+        Err(why) => return Err(tell_no_geometry(rt, why)),
     };
-    export_frames(rt, place, whose, manner)
+    let is_any = options.get_flag("any-store") || (geometry.is_some() && id.is_none());
+    Ok(Asked {
+        whose: if is_any { Whose::OfAny } else { Whose::OfStore },
+        from_page: from_page_of(options),
+        geometry,
+    })
+}
+
+/// Reports why the options give no geometry, and gives the exit status.
+fn tell_no_geometry<R: Eprint>(rt: &R, why: NoGeometry) -> u8
+    ensures { result ≤ 7 }
+{
+    let _ = match why {
+        NoGeometry::Half => eprintln!(rt;
+            "error: give both --extents and --pages, or none of them"
+        ),
+        NoGeometry::Bad => eprintln!(rt; "error: no store has so many extents, pages and sections"),
+    };
+    cs_words::COMMAND_LINE
+}
+
+/// Diagnoses a store.
+fn run_doctor<R: AllocGlobal + Clock + Files<File = File> + Print + Eprint>(
+    rt: &R,
+    options: &ArgMatches,
+    path: &str,
+    manner: Manner,
+) -> u8
+    ensures { result ≤ 7 }
+{
+    let depth = if options.get_flag("deep") {
+        Depth::All
+    } else {
+        Depth::Named
+    };
+    match place_to_read(rt, path, options) {
+        Ok(place) => doctor_file(rt, place, depth, manner),
+        Err(status) => status,
+    }
 }
 
 /// Repairs a store, and scrubs it.
@@ -297,6 +352,14 @@ fn run_query<R: AllocGlobal + Clock + Files<File = File> + Print + Eprint>(
 {
     if options.get_flag("any-store") {
         let _ = eprintln!(rt; "error: --any-store is for --salvage");
+        return cs_words::COMMAND_LINE;
+    }
+    if options.contains_id("from-page")
+        || !matches!(lost_geometry_of(options, StoreId([0; 16])), Ok(None))
+    {
+        let _ = eprintln!(rt;
+            "error: --from-page, --extents, --pages and --sections are for --salvage"
+        );
         return cs_words::COMMAND_LINE;
     }
     if name == "reclaim" {

@@ -4,4 +4,4 @@
 pub const VERSION: &str = "0.62.0";
 
 /// The sum of the sources that it is made of, in hex; zeros where none was written here.
-pub const SOURCES: &str = "d9b275a343f2b70b87583f6939d04f5fd183a7803996e887341808c06297af80";
+pub const SOURCES: &str = "e62d4b44b535ba234e89133f77d3f51e6500e5f4c6ad56457714aedf290eddb8";

@@ -6,7 +6,9 @@ use cs_frame::{Locator, StoreId};
 use cs_mount::Finding;
 use cs_refusal::Refusal;
 use cs_tools::rescue::DamagedRun;
-use cs_tools::{Salvaged, Scanned, Style, explain, may_be_lost, tell, warn};
+use cs_tools::{
+    Missing, Named, Naming, Salvaged, Scanned, Style, count_of, explain, may_be_lost, tell, warn,
+};
 use std::alloc::AllocError;
 use uuid::Uuid;
 
@@ -35,6 +37,48 @@ pub fn warn_of_unreadable<R: AllocGlobal + Eprint>(rt: &R, unread: &[u64], style
         let text = format!(in rt.alloc(); "page {page} cannot be read; its other copy is used");
         warn_text(rt, text, style);
     }
+}
+
+/// Warns of each section of the superblock that is lost and made from the index. Of one of format 4 both pages may be.
+pub fn warn_of_made<R: AllocGlobal + Eprint>(rt: &R, pages: &[u64], style: Style) {
+    for page in pages {
+        let text = format!(in rt.alloc();
+            "the section of the superblock on page {page} is lost; it is made from the index"
+        );
+        warn_text(rt, text, style);
+    }
+}
+
+/// Warns that what lives on an extent couldn't be moved away from it, and why.
+pub fn warn_of_kept<R: AllocGlobal + Eprint>(
+    rt: &R,
+    extent: usize,
+    refusal: Refusal,
+    style: Style,
+) {
+    let number = refusal.number();
+    let name = refusal.name();
+    let text = format!(in rt.alloc();
+        "what lives on extent {extent} stays there ({number} {name}); nothing more is written there"
+    );
+    warn_text(rt, text, style);
+}
+
+/// Warns that there is no such extent.
+pub fn warn_of_no_extent<R: AllocGlobal + Eprint>(rt: &R, extent: u64, count: usize, style: Style) {
+    let text = format!(in rt.alloc();
+        "there is no extent {extent}: the store has {count}, and the first one is 0"
+    );
+    warn_text(rt, text, style);
+}
+
+/// Warns that extents of a store of format 2 can't be left out.
+pub fn warn_of_older_format<R: Eprint>(rt: &R, style: Style) {
+    warn(
+        rt,
+        "--skip-extent is for stores of format 4: copy this one into a new store",
+        style,
+    );
 }
 
 /// Warns that the newest root couldn't be put on record, and why. That something waits still is no news: the command was
@@ -86,6 +130,7 @@ pub fn warn_of<R: AllocGlobal + Eprint, S>(
         warn_of_commands(rt, opened.scanned, commands, style);
     }
     warn_of_findings(rt, &opened.findings, style);
+    warn_of_made(rt, &opened.made, style);
 }
 
 /// Warns that the newest root may be the one that isn't whole.
@@ -224,22 +269,121 @@ pub fn warn_of_rescue<R: AllocGlobal + Eprint>(
     }
 }
 
-/// Warns of what may be among the shards that frames spell, and of which of their newest puts aren't whole.
-pub fn warn_of_salvage<R: AllocGlobal + Eprint>(rt: &R, found: &Salvaged, style: Style) {
+/// Warns of what may be among the shards that frames spell, of what the index says of them, of which of their newest
+/// puts aren't whole, and of what wasn't looked at.
+pub fn warn_of_salvage<R: AllocGlobal + Eprint>(
+    rt: &R,
+    found: &Salvaged,
+    named: &Option<Named>,
+    style: Style,
+) {
     warn(
         rt,
         "these are the newest whole shards that frames in the file spell; shards that were deleted since, or never acknowledged, may be among them",
         style,
     );
+    match named {
+        Some(named) => warn_of_names(rt, named, style),
+        None => warn(
+            rt,
+            "the index is not read: it is not known which of these shards were deleted since or never acknowledged, nor whether others are missing",
+            style,
+        ),
+    }
     for missing in &found.missing {
-        let name = Uuid::from_bytes(missing.put.id.0).hyphenated();
-        let command = missing.put.command;
-        let why = if missing.ambiguous {
-            "ambiguous: two puts have that number"
-        } else {
-            "not whole"
-        };
-        let text = format!(in rt.alloc(); "{name}: its newest put, command {command}, is {why}");
+        warn_of_missing(rt, *missing, style);
+    }
+    warn_of_pages_left(rt, found, style);
+}
+
+/// Warns that the newest put of an identifier isn't whole.
+fn warn_of_missing<R: AllocGlobal + Eprint>(rt: &R, missing: Missing, style: Style) {
+    let name = Uuid::from_bytes(missing.put.id.0).hyphenated();
+    let command = missing.put.command;
+    let why = if missing.ambiguous {
+        "ambiguous: two puts have that number"
+    } else {
+        "not whole"
+    };
+    let text = format!(in rt.alloc(); "{name}: its newest put, command {command}, is {why}");
+    warn_text(rt, text, style);
+}
+
+/// Warns of how many shards something is so, if of any.
+fn warn_of_count<R: AllocGlobal + Eprint>(rt: &R, count: usize, what: &str, style: Style) {
+    if count > 0 {
+        warn_text(rt, format!(in rt.alloc(); "{count} {what}"), style);
+    }
+}
+
+/// Warns of the shards that the index hasn't as they were found, and of those that weren't found.
+fn warn_of_names<R: AllocGlobal + Eprint>(rt: &R, named: &Named, style: Style) {
+    let count = |naming: Naming| count_of(&named.namings, naming);
+    warn_of_count(
+        rt,
+        count(Naming::Deleted),
+        "of these shards were deleted, by the index",
+        style,
+    );
+    warn_of_count(
+        rt,
+        count(Naming::Unnamed),
+        "of these shards are not in the index: they were deleted, or never acknowledged",
+        style,
+    );
+    warn_of_count(
+        rt,
+        count(Naming::Otherwise),
+        "of these shards are not as the index has them: they are older, or were never acknowledged",
+        style,
+    );
+    warn_of_count(
+        rt,
+        count(Naming::Unknown),
+        "of these shards are not in what can be read of the index: it is not known whether they were deleted",
+        style,
+    );
+    warn_of_count(
+        rt,
+        named.lacking,
+        "shards that the index has were not found",
+        style,
+    );
+    if !named.is_whole {
+        warn(
+            rt,
+            "a part of the index cannot be read, or a newer root is lost or may be: there may be more changes",
+            style,
+        );
+    }
+}
+
+/// Warns of what a salvage didn't look at: pages that can't be read, those before the first, and those that a short
+/// file lacks.
+fn warn_of_pages_left<R: AllocGlobal + Eprint>(rt: &R, found: &Salvaged, style: Style) {
+    for page in &found.unreadable {
+        let text = format!(in rt.alloc();
+            "page {page} cannot be read: frames that have it are not found"
+        );
+        warn_text(rt, text, style);
+    }
+    let geometry = found.sought.geometry;
+    let end = 2 + u64::from(geometry.extents()) * u64::from(geometry.pages());
+    let count = found.unreadable.len();
+    if count > 0 {
+        let text = format!(in rt.alloc(); "in all {count} of the pages up to {end} cannot be read");
+        warn_text(rt, text, style);
+    }
+    let from = found.from_page;
+    if from > 2 {
+        let text = format!(in rt.alloc(); "pages before page {from} were not looked at");
+        warn_text(rt, text, style);
+    }
+    let pages = found.device_pages;
+    if pages < end {
+        let text = format!(in rt.alloc();
+            "the file ends at page {pages}, and the extents at page {end}: frames between them are missing"
+        );
         warn_text(rt, text, style);
     }
 }

@@ -1,5 +1,5 @@
 -- A store that is closed with its newest root on record.
-use Rattle.std.proofs.Common.{◌≡◌, ◌≢◌, ◌⊎◌, inl, inr, ⊎_elim, ◌==◌, ℕ, ◌+◌, ◌<◌, ◌≤◌, ◌^◌, Bool, true, false, List, [], ◌∷◌, ◌++◌, Option, Some, None, length, map, if◌then◌else◌, refl, sym, ap, ◌∙◌, subst, arith, true≢false}
+use Rattle.std.proofs.Common.{◌≡◌, ◌≢◌, ◌⊎◌, inl, inr, ⊎_elim, ℕ, ◌<◌, Bool, true, false, List, [], ◌∷◌, Option, Some, None, length, map, if◌then◌else◌, refl, sym, ap, ◌∙◌, subst, arith, true≢false}
 use denote.Struct.Props.{props}
 use Rattle.std.proofs.Math.Logic.{∥∥₁_elim}
 use Rattle.std.specs.Prelude.{◌↔◌, IsTrue, MatchBool, is_some, not, slice_set}
@@ -7,7 +7,7 @@ use Rattle.cs_core.specs.cs_extent.State.{shape}
 use Rattle.cs_core.specs.Stored.{Stored}
 use Rattle.cs_core.specs.Views.{IsCore, View}
 use Rattle.cs_disk.specs.declared.disk.PageDisk.{Ghosts as PageDisk}
-use Rattle.cs_disk.specs.Disk.{Image, LeavesOnly, MayLeave, State, Write, flushed, page, seen, written}
+use Rattle.cs_disk.specs.Disk.{Image, LeavesOnly, MayLeave, State, Write, page, seen, written}
 use Rattle.cs_disk.proofs.Crashes.{MayLeave-settled, MayLeave-written}
 use Rattle.cs_disk.proofs.Images.{applied-append, page_other, page_same}
 use Rattle.cs_frame.specs.Formats.{formats_of}
@@ -22,13 +22,13 @@ use Rattle.cs_twin.specs.declared.pairs.Pair.{Pair}
 use Rattle.cs_twin.specs.Pairs.{shown, shown_state, shown_write}
 use Rattle.cs_reader.specs.Openings.{IsOpeningRefusal}
 use Rattle.cs_refusal.specs.declared.refusals.Refusal.{Refusal}
-use Rattle.cs_refusal.specs.declared.refusals.Refusal.TheVariants.{DeviceFault, NotAStore, OutOfMemory, Unsettled, WornOut}
+use Rattle.cs_refusal.specs.declared.refusals.Refusal.TheVariants.{DeviceFault, NotAStore, NotSweepable, OutOfMemory, Unsettled, WornOut}
 use Rattle.cs_refusal.specs.Refusals.{number_of}
 use Rattle.cs_mount.specs.OfStores.{IsOfStore}
 use Rattle.cs_mount.specs.Seals.{IsQuiet, IsResealed, IsSealing, LeavesSealing, is_sealed, seal_of, sealed_image}
 use Rattle.cs_mount.specs.Showing.{shown_on}
 use Rattle.cs_mount.specs.Torn.{dimensions_of}
-use Rattle.cs_mount.specs.StorePairs.{dimensions_on, first_says, pages_of, pairs_where, section_version, store_pairs, store_version}
+use Rattle.cs_mount.specs.StorePairs.{dimensions_on, first_says, pages_of, pairs_where, section_version, store_version}
 use Rattle.cs_mount.proofs.SealedImages.{first_there, sealed_recovers, spells_own}
 use Rattle.cs_mount.proofs.Spelling.{section_read}
 use Rattle.cs_mount.proofs.Telling.{version_says}
@@ -216,3 +216,14 @@ not_unsettled r (inl (inl (inr e))) is = let clash : OutOfMemory ≡ Unsettled =
 not_unsettled r (inl (inr (inl range))) is = let n : number_of r ≡ 44 = ap number_of is in let high = range.1 in omega (arith, high, n)
 not_unsettled r (inl (inr (inr e))) is = let clash : NotAStore ≡ Unsettled = sym e ∙ is in cc clash
 not_unsettled r (inr e) is = let clash : WornOut ≡ Unsettled = sym e ∙ is in cc clash
+
+pub not_unswept : (r : Refusal) → IsOpeningRefusal r ⊎ (r ≡ WornOut) → r ≡ NotSweepable → ⊥
+not_unswept r (inl (inl (inl e))) is = let clash : DeviceFault ≡ NotSweepable = sym e ∙ is in cc clash
+not_unswept r (inl (inl (inr e))) is = let clash : OutOfMemory ≡ NotSweepable = sym e ∙ is in cc clash
+not_unswept r (inl (inr (inl range))) is = let n : number_of r ≡ 33 = ap number_of is in let high = range.1 in omega (arith, high, n)
+not_unswept r (inl (inr (inr e))) is = let clash : NotAStore ≡ NotSweepable = sym e ∙ is in cc clash
+not_unswept r (inr e) is = let clash : WornOut ≡ NotSweepable = sym e ∙ is in cc clash
+
+-- what is so just when something is, and that just when a third thing is
+pub just_when : (a b c : Type 0) → (a ↔ b) → (b ↔ c) → a ↔ c
+just_when a b c first second = ((λ h. second.0 (first.0 h)), (λ h. first.1 (second.1 h)))

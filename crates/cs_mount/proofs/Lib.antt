@@ -42,4 +42,21 @@ pub mod Respelling
 pub mod SealedImages
 pub mod Sealings
 pub mod Closing
+pub mod LivingOn
+pub mod Crossings
+pub mod CrossedImages
+pub mod Leaving
 pub mod SealedRoots
+mod Regiven
+mod Resections
+mod MadeMaps
+mod MadeWrites
+mod MadeShown
+mod MadeLaw
+mod LiveAdded
+mod PagesRemade
+mod MadeRuns
+mod MadeRead
+mod MadeWhy
+mod MadeFound
+mod MadeListed

@@ -1,10 +1,10 @@
 -- What lies on the extents is read alike under sections that were written anew.
-use Rattle.std.proofs.Common.{◌≡◌, inl, inr, ⊎_elim, ℕ, zero, suc, ◌+◌, ◌-◌, ◌<◌, ◌≤◌, ◌==◌, ◌&&◌, true, false, nat_lt, List, [], ◌∷◌, ◌++◌, length, Option, Some, None, if◌then◌else◌, le_of_eq, le_trans, true≢false, refl, sym, ap, ap₂, ◌∙◌, subst, arith}
+use Rattle.std.proofs.Common.{◌≡◌, inl, inr, ℕ, zero, suc, ◌+◌, ◌-◌, ◌<◌, ◌≤◌, ◌==◌, ◌&&◌, false, nat_lt, List, [], ◌∷◌, length, Option, Some, None, if◌then◌else◌, le_of_eq, le_trans, true≢false, refl, sym, ap, ap₂, ◌∙◌, arith}
 use Rattle.cs_mount.specs.Resectioned.{AgreeBesideSections, HasSections, KeepDamage, KeepLiving, Lives}
 use Rattle.law_machine.proofs.Filled.{limit_here, limit_low, reads_own}
 use Rattle.law_machine.proofs.LocalRecovery.{live_passes}
 use Rattle.law_machine.specs.Device.{Inside, Page, Shape}
-use Rattle.law_machine.specs.Element.{Content, Entry, Locator, Map, Run}
+use Rattle.law_machine.specs.Element.{Content, Locator, Map, Run}
 use Rattle.law_machine.specs.Formats.{ChunkFrame, Formats, RunFrame, Stand, damage_in, fault_for, limit_in, opening_in, pages_from}
 use Rattle.law_machine.specs.Index.{AllPass, Gives, Holds, Passes, Reads, ReadsAs, Value, entries_of, live, live_at, lookup}
 use Rattle.law_machine.specs.Lists.{◌∈◌}

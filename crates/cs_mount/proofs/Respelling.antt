@@ -1,18 +1,19 @@
 -- Pages of sections that are spelled anew.
-use Rattle.std.proofs.Common.{◌≡◌, inl, inr, ◌==◌, ℕ, zero, suc, ◌+◌, ◌<◌, Bool, true, false, List, if◌then◌else◌, slice_index, refl, sym, ap, ◌∙◌, subst, arith}
+use Rattle.std.proofs.Common.{◌≡◌, inl, inr, ℕ, zero, suc, ◌+◌, Bool, true, false, List, if◌then◌else◌, slice_index, refl, sym, ap, ◌∙◌}
 use Rattle.cs_frame.specs.Bytes.{number}
 use Rattle.cs_frame.specs.declared.formats.FormatNumber.{FormatNumber}
 use Rattle.cs_frame.specs.declared.formats.FormatNumber.TheVariants as of_number
-use Rattle.cs_frame.specs.FirstFormat.{SpellsPageZero, spelled_first_format}
+use Rattle.cs_frame.specs.FirstFormat.{spelled_first_format}
 use Rattle.cs_frame.specs.FormatNumbers.{number_in}
 use Rattle.cs_frame.specs.Formats.{extents_of, formats_of, is_first_format}
-use Rattle.cs_frame.specs.Superblocks.{FitsSuperblock, SpellsSuperblock, format_in, record_in, spelled_superblock, superblock_extents, superblock_record, superblock_version}
+use Rattle.cs_frame.specs.Superblocks.{SpellsSuperblock, format_in, spelled_superblock, superblock_extents, superblock_record, superblock_version}
 use Rattle.cs_frame.proofs.SuperblockLaws as superblocks
 use Rattle.law_machine.specs.Device.{Shape}
 use Rattle.law_machine.specs.Format.{Format, Four, Two}
 use Rattle.law_machine.specs.Geometry.{twins_in}
 use Rattle.cs_reader.specs.ImageReads.{SpellsAt}
 use Rattle.cs_mount.specs.Seals.{sealed_page}
+use Rattle.cs_mount.specs.LeftOut.{left_out_page, left_out_rows}
 
 -- the format with twins is the one of this number
 pub four_number : (format : Format) → twins_in format ≡ true → number_in format ≡ of_number.Four
@@ -59,6 +60,9 @@ module _ (page : List ℕ) (format : Format) (version recorded extents pages sec
 
   pub page_sealed : (root : ℕ) → sealed_page root page ≡ spelled_superblock format (version + 1) root extents pages sections section written
   page_sealed root = made_of (λ f v r e p s j w. spelled_superblock f (v + 1) root e p s j w)
+
+  pub page_left_out : (lives : Bool) (place : ℕ) → left_out_page lives place page ≡ spelled_superblock format (version + 1) recorded extents pages sections section (left_out_rows pages lives place written)
+  page_left_out lives place = made_of (λ f v r e p s j w. spelled_superblock f (v + 1) r e p s j (left_out_rows p lives place w))
 
 -- what a section's page of format 4 spells, wherever it lies
 pub as_section : (j : ℕ) (page : List ℕ) (format : Format) (version recorded extents pages sections : ℕ) (rows : List (ℕ × ℕ)) → twins_in format ≡ true

@@ -1,12 +1,10 @@
 -- An image that is sealed recovers what it recovered.
-use Rattle.std.proofs.Common.{◌≡◌, ◌≢◌, inl, inr, ◌==◌, ℕ, zero, suc, ◌+◌, ◌-◌, ◌*◌, ◌<◌, ◌≤◌, ◌^◌, Bool, true, false, List, [], ◌∷◌, length, if◌then◌else◌, slice_set, slice_index, refl, sym, ap, ◌∙◌, subst, arith, ne_eqb}
-use Rattle.std.specs.Prelude.{slice_index_or}
+use Rattle.std.proofs.Common.{◌≡◌, ◌≢◌, inl, inr, ℕ, zero, suc, ◌+◌, ◌*◌, ◌<◌, ◌≤◌, ◌^◌, Bool, true, false, List, [], ◌∷◌, length, if◌then◌else◌, slice_set, refl, sym, ap, ◌∙◌, subst, arith, ne_eqb}
 use Rattle.std.proofs.lemmas.Bool.{cases_Bool}
 use Rattle.cs_disk.specs.Disk.{Image, page}
 use Rattle.cs_disk.proofs.Images.{page_other, page_same}
-use Rattle.cs_frame.specs.Bytes.{number}
 use Rattle.cs_frame.specs.Formats.{extents_of as listed_extents, formats_of}
-use Rattle.cs_frame.specs.Geometries.{IsGeometry, section_length, section_size, section_start}
+use Rattle.cs_frame.specs.Geometries.{IsGeometry, section_size}
 use Rattle.cs_frame.specs.Superblocks.{SpellsSuperblock, record_in, spelled_superblock, superblock_version}
 use Rattle.cs_frame.proofs.RootLaws as roots
 use Rattle.law_machine.specs.Device.{Shape}
@@ -16,7 +14,6 @@ use Rattle.law_machine.specs.Geometry.{hidden_stand_in, shape_of, twins_in}
 use Rattle.law_machine.specs.Recovery.{Recovers}
 use Rattle.cs_reader.proofs.Readable.{part, root_spelled, rows, rows_at, rows_from, section_spelled}
 use Rattle.cs_reader.proofs.Superblocks.{at_fits, section_listed}
-use Rattle.cs_mount.specs.Resectioned.{AgreeBesideSections, HasSections, KeepLiving}
 use Rattle.cs_mount.specs.Seals.{is_sealed, root_said, seal_of, sealed_image, sealed_page}
 use Rattle.cs_mount.proofs.Resectioning.{damage_kept, resectioned}
 use Rattle.cs_mount.proofs.Respelling.{as_section, four_superblock, page_sealed, version_read}

@@ -1,7 +1,6 @@
 -- A store that is sealed isn't read as of an older root.
-use Rattle.std.proofs.Common.{◌≡◌, ◌≢◌, inl, inr, ◌==◌, ℕ, zero, suc, ◌+◌, ◌*◌, ◌<◌, ◌≤◌, ◌^◌, Bool, true, false, List, [], ◌∷◌, length, take, drop, if◌then◌else◌, slice_index, slice_set, refl, sym, ap, ◌∙◌, subst, arith, eq-eqb, eqb-true}
+use Rattle.std.proofs.Common.{◌≡◌, inl, inr, ℕ, zero, suc, ◌+◌, ◌<◌, ◌^◌, Bool, true, false, List, [], ◌∷◌, length, take, drop, if◌then◌else◌, slice_index, slice_set, refl, sym, ap, ◌∙◌, subst, arith, eq-eqb, eqb-true}
 use Rattle.std.proofs.lemmas.Bool.{cases_Bool}
-use Rattle.cs_core.specs.cs_extent.State.{extents_at, section_rows, shape}
 use Rattle.cs_disk.specs.Disk.{Image, page}
 use Rattle.cs_disk.proofs.Images.{page_other, page_same}
 use Rattle.cs_frame.specs.Bytes.{number}
@@ -11,7 +10,6 @@ use Rattle.cs_frame.specs.Geometries.{Dimensions, IsGeometry, device_pages, sect
 use Rattle.cs_frame.specs.Superblocks.{SpellsSuperblock, superblock_record, superblock_version}
 use Rattle.cs_frame.proofs.RootLaws as roots
 use Rattle.cs_refusal.specs.declared.refusals.Refusal.TheVariants.{RootLost}
-use Rattle.law_machine.specs.Device.{Shape}
 use Rattle.law_machine.specs.Element.{Map}
 use Rattle.law_machine.specs.Geometry.{shape_of, twins_in}
 use Rattle.law_machine.specs.Recovery.{Recovers}

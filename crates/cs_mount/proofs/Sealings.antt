@@ -1,19 +1,18 @@
 -- How section 0 is written anew with the newest root on record.
-use Rattle.std.proofs.Common.{◌≡◌, ◌≢◌, ◌⊎◌, inl, inr, ⊎_elim, ◌==◌, ℕ, ◌+◌, ◌<◌, ◌≤◌, ◌^◌, Bool, true, false, List, [], ◌∷◌, Option, Some, None, Result, Ok, Err, OnOk, OnErr, IfOk, slice_index, if◌then◌else◌, eq-eqb, ne_eqb, refl, sym, ap, ◌∙◌, subst, arith}
-use Rattle.std.specs.List.{AllByRecursion}
+use Rattle.std.proofs.Common.{◌≡◌, ◌⊎◌, inl, inr, ℕ, ◌+◌, ◌<◌, ◌^◌, Bool, true, false, List, [], ◌∷◌, Option, Some, None, Result, Ok, Err, IfOk, if◌then◌else◌, eq-eqb, ne_eqb, refl, sym, ap, ◌∙◌, arith}
 use Rattle.cs_disk.specs.declared.disk.PageDisk.{Ghosts as PageDisk}
 use Rattle.cs_disk.specs.Disk.{Image, LeavesOnly, MayLeave, State, flushed, page, seen, written}
 use Rattle.cs_disk.specs.Reads.{OnlyReads}
-use Rattle.cs_disk.proofs.Moments.{IsSafe, narrows, started, stays}
+use Rattle.cs_disk.proofs.Moments.{narrows, started, stays}
 use Rattle.cs_frame.specs.declared.formats.FormatNumber.TheVariants as of_number
 use Rattle.cs_frame.specs.declared.superblocks.Superblock.{Superblock}
 use Rattle.cs_frame.specs.FormatNumbers.{number_in}
-use Rattle.cs_frame.specs.Superblocks.{FitsRecord, FitsSuperblock, IsSuperblock, SpellsSuperblock, spelled_superblock, superblock_record, superblock_version}
+use Rattle.cs_frame.specs.Superblocks.{FitsRecord, FitsSuperblock, IsSuperblock, superblock_record, superblock_version}
 use Rattle.law_machine.specs.Format.{Format, Four, Two}
 use Rattle.law_machine.specs.Geometry.{twins_in}
 use Rattle.cs_reader.specs.Openings.{SpellsFurther}
 use Rattle.cs_mount.specs.Makings.{LeavesSome}
-use Rattle.cs_mount.specs.Seals.{IsResealed, IsSealFor, IsSealOf, IsSealing, LeavesSealing, is_sealed, root_said, seal_calls, seal_of, sealed_page}
+use Rattle.cs_mount.specs.Seals.{IsResealed, IsSealFor, IsSealOf, IsSealing, LeavesSealing, is_sealed, root_said, seal_calls, sealed_page}
 use Rattle.cs_mount.proofs.Laying.{safe_of}
 use Rattle.cs_mount.proofs.Lowering.{within}
 use Rattle.cs_mount.proofs.Respelling.{page_sealed, record_read, version_read}

@@ -18,3 +18,7 @@ pub mod Ends
 pub mod Unreadable
 pub mod Resectioned
 pub mod Seals
+pub mod LeftOut
+pub mod MadeSections
+pub mod RemadeDisks
+pub mod Remaking

@@ -3,6 +3,7 @@ ghost use Rattle.cs_disk.specs.Disk.{Image, page};
 ghost use Rattle.cs_frame.specs.Formats.{formats_of};
 ghost use Rattle.cs_frame.specs.Geometries.{Dimensions, IsGeometry};
 ghost use Rattle.cs_frame.specs.Superblocks.{superblock_version};
+ghost use Rattle.cs_mount.specs.LeftOut.{IsLeftOut, NoneDamagedOn, NothingOn, row_page};
 ghost use Rattle.cs_mount.specs.Resectioned.{AgreeBesideSections, HasSections, KeepDamage, KeepLiving, Lives};
 ghost use Rattle.cs_mount.specs.Seals.{HasOlderRoot, is_sealed, sealed_image};
 ghost use Rattle.cs_mount.specs.StorePairs.{pages_of, store_shape};
@@ -39,6 +40,24 @@ pub fn a_seal_keeps_the_map()
     ensures { (d : Dimensions) (image : Image) (n : ℕ) (m : Map) → IsGeometry d.format d.extents d.pages d.sections → twins_in d.format ≡ true
         → Recovers (store_shape d) (formats_of (store_shape d)) (page image) n m → (is_sealed image ≡ false → superblock_version (page image 0) + 1 < 2 ^ 63)
         → Recovers (store_shape d) (formats_of (store_shape d)) (page (sealed_image image)) n m }
+{}
+
+/// A store of which an extent is left out recovers the same commands and the same map, if no live chunk on the extent is
+/// damaged. Its section has one version more, so that there must be one.
+pub fn an_extent_may_be_left_out()
+    ensures { (d : Dimensions) (image other : Image) (extent n : ℕ) (m : Map) → IsGeometry d.format d.extents d.pages d.sections → twins_in d.format ≡ true → extent < d.extents
+        → (found : Recovers (store_shape d) (formats_of (store_shape d)) (page image) n m) → superblock_version (page image (row_page d extent)) + 1 < 2 ^ 63
+        → NoneDamagedOn (store_shape d) (formats_of (store_shape d)) image found.runs found.pointers found.generations extent → IsLeftOut d extent found.runs image other
+        → Recovers (store_shape d) (formats_of (store_shape d)) (page other) n m }
+{}
+
+/// An extent that is left out is full, by whatever is recovered of the store then. If nothing lives on it, it has the
+/// greatest generation, and is never emptied. So nothing is put or copied there.
+pub fn an_extent_left_out_is_full()
+    ensures { (d : Dimensions) (image other : Image) (extent n : ℕ) (m : Map) → IsGeometry d.format d.extents d.pages d.sections → twins_in d.format ≡ true → extent < d.extents
+        → (found : Recovers (store_shape d) (formats_of (store_shape d)) (page image) n m) → superblock_version (page image (row_page d extent)) + 1 < 2 ^ 63 → IsLeftOut d extent found.runs image other
+        → (o : ℕ) (p : Map) (after : Recovers (store_shape d) (formats_of (store_shape d)) (page other) o p)
+        → (after.pointers extent ≡ d.pages) × (NothingOn found.runs extent → after.generations extent ≡ 4294967295) }
 {}
 
 /// A store that is sealed is opened with its newest root or not at all.

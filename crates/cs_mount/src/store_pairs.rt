@@ -34,7 +34,7 @@ pub struct StoreRules {
 }
 
 /// Whether a root has the identity of the store of this format.
-fn is_its_root(root: &Root, format: Format) -> bool
+pub fn is_its_root(root: &Root, format: Format) -> bool
     ensures { MatchBool result (identity_of root.now ≡ identity_in format) (identity_of root.now ≢ identity_in format) }
 {
     root.store == format.store()

@@ -4,3 +4,4 @@ pub mod Files
 pub mod Sizes
 pub mod Sizings
 pub mod Wishes
+pub mod Salvages

@@ -93,6 +93,34 @@ pub const ANY_STORE: Choice = Choice {
     help: "With --salvage: prints also what frames of other stores have that lie in the file",
 };
 
+/// The option for a scan that goes on.
+pub const FROM_PAGE: Choice = Choice {
+    name: "from-page",
+    takes: Takes::NumberOrNone,
+    help: "With --salvage: begins at this page of 4,096 bytes, to go on after a scan that was ended; frames before it are left out",
+};
+
+/// The extents of a store whose superblock is lost.
+pub const LOST_EXTENTS: Choice = Choice {
+    name: "extents",
+    takes: Takes::NumberOrNone,
+    help: "With --salvage, if both copies of section 0 of the superblock are lost: how many extents the store has",
+};
+
+/// Their pages.
+pub const LOST_PAGES: Choice = Choice {
+    name: "pages",
+    takes: Takes::NumberOrNone,
+    help: "With --extents: how many pages of 4,096 bytes an extent has",
+};
+
+/// The sections of its superblock.
+pub const LOST_SECTIONS: Choice = Choice {
+    name: "sections",
+    takes: Takes::NumberOrNone,
+    help: "With --extents: how many sections the superblock has [default: as few as the extents need]",
+};
+
 /// The option for pages that aren't whole.
 pub const REPAIR: Choice = Choice {
     name: "repair",
@@ -112,6 +140,20 @@ pub const NO_SEAL: Choice = Choice {
     name: "no-seal",
     takes: Takes::Nothing,
     help: "Saves a page and a flush at the end: the newest root is not put on record, so its loss later is not noticed",
+};
+
+/// The option for an extent on which nothing is written any more.
+pub const SKIP_EXTENT: Choice = Choice {
+    name: "skip-extent",
+    takes: Takes::NumberOrNone,
+    help: "First leaves this extent out, for good: what lives there is moved away, and nothing is written there again",
+};
+
+/// The option for a diagnosis by all pages.
+pub const DEEP: Choice = Choice {
+    name: "deep",
+    takes: Takes::Nothing,
+    help: "Reads all pages too: those that cannot be read, the shards that frames spell, and commands that the root lacks",
 };
 
 /// The most that a new file may have.

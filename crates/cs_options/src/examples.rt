@@ -52,7 +52,8 @@ pub const EXPORT: &str = "Example, all shards as a script:
 To copy a store use `copy`. To go on after an export that ended early use --from with the last identifier it printed.
 A shard that cannot be read becomes a remark in the script, `# ID refused N Name`, and the exit status is 5.
 With --salvage the script may have shards that were deleted later, or never acknowledged. Frames of another store that
-lay on the device before are left out, unless --any-store is given.";
+lay on the device before are left out, unless --any-store is given. Pages that cannot be read are skipped and named, and
+the exit status is 5 unless all of the file was read, and the index has just these shards.";
 
 /// Of `stat`.
 pub const STAT: &str = "Example:
@@ -69,6 +70,14 @@ Exit status: 0 all can be read, 5 something cannot, or may be lost. Each damage 
 A page of the superblock or of the root that is not whole has a line too; its other copy is used.
 --repair stops with status 5 and writes nothing if the damaged page may be the newest root: the repair would make the
 loss of its commands final.";
+
+/// Of `doctor`.
+pub const DOCTOR: &str = "Examples:
+  cs_cli doctor s.store          what is wrong, and which commands to type next
+  cs_cli doctor --deep s.store   also by all pages of the file
+
+It opens the file for reading and writes nothing. A page that cannot be read is reported, and it goes on.
+Exit status: 0 sound, 5 degraded, 3 the store is not to be opened, 6 in use, 7 not there or not allowed.";
 
 /// Of `reclaim`.
 pub const RECLAIM: &str = "Example:

@@ -63,6 +63,13 @@ pub fn device_pages_of(options: &ArgMatches) -> Option<u64>
     number_given(options, "device-pages")
 }
 
+/// The extent that is left out; none if `--skip-extent` isn't given.
+pub fn skipped_of(options: &ArgMatches) -> Option<u64>
+    ensures { result ≡ number_at options.now (codes "skip-extent") }
+{
+    number_given(options, "skip-extent")
+}
+
 /// How many seconds to wait at most for a file that is in use. Default: 0.
 pub fn wait_of(options: &ArgMatches) -> u64
     ensures { result ≡ unwrap_or (number_at options.now (codes "wait")) 0 }

@@ -1,9 +1,10 @@
 //! The commands, each with its options.
 
 use crate::choices::{
-    ACCEPT_LOSS, ANY_STORE, AS_OF, DEVICE, DEVICE_PAGES, EXTENTS, FILE, FORCE, FROM, IDENTITY,
-    JSON, MODE, NO_LOCK, NO_SEAL, PAGES, REPAIR, SALVAGE, SALVAGE_FRAMES, SECTIONS, SHARD,
-    SHARD_SIZE, SHARDS, SIZE, STORE, WAIT,
+    ACCEPT_LOSS, ANY_STORE, AS_OF, DEEP, DEVICE, DEVICE_PAGES, EXTENTS, FILE, FORCE, FROM,
+    FROM_PAGE, IDENTITY, JSON, LOST_EXTENTS, LOST_PAGES, LOST_SECTIONS, MODE, NO_LOCK, NO_SEAL,
+    PAGES, REPAIR, SALVAGE, SALVAGE_FRAMES, SECTIONS, SHARD, SHARD_SIZE, SHARDS, SIZE, SKIP_EXTENT,
+    STORE, WAIT,
 };
 use crate::examples;
 use crate::forms::{Choice, Form, Takes};
@@ -27,6 +28,7 @@ pub const SHARD_FORMS: &[Form] = &[
             SHARD,
             STORE,
             ACCEPT_LOSS,
+            SKIP_EXTENT,
             NO_SEAL,
             DEVICE_PAGES,
             WAIT,
@@ -59,6 +61,7 @@ pub const SHARD_FORMS: &[Form] = &[
             SHARD,
             STORE,
             ACCEPT_LOSS,
+            SKIP_EXTENT,
             NO_SEAL,
             DEVICE_PAGES,
             WAIT,
@@ -125,10 +128,34 @@ pub const WHOLE_FORMS: &[Form] = &[
         ],
     },
     Form {
+        name: "doctor",
+        about: "Prints what is wrong with a store, and which commands to type next",
+        after: Some(examples::DOCTOR),
+        options: &[
+            STORE,
+            DEEP,
+            IDENTITY,
+            DEVICE_PAGES,
+            WAIT,
+            NO_LOCK,
+            JSON,
+            FILE,
+        ],
+    },
+    Form {
         name: "reclaim",
         about: "Empties the extents that have the most garbage, and makes that persistent",
         after: Some(examples::RECLAIM),
-        options: &[STORE, ACCEPT_LOSS, NO_SEAL, DEVICE_PAGES, WAIT, JSON, FILE],
+        options: &[
+            STORE,
+            ACCEPT_LOSS,
+            SKIP_EXTENT,
+            NO_SEAL,
+            DEVICE_PAGES,
+            WAIT,
+            JSON,
+            FILE,
+        ],
     },
 ];
 
@@ -174,6 +201,10 @@ pub const COPY_FORMS: &[Form] = &[
             AS_OF,
             SALVAGE_FRAMES,
             ANY_STORE,
+            FROM_PAGE,
+            LOST_EXTENTS,
+            LOST_PAGES,
+            LOST_SECTIONS,
             DEVICE_PAGES,
             WAIT,
             NO_LOCK,
@@ -222,6 +253,7 @@ pub const OTHER_FORMS: &[Form] = &[
             },
             AS_OF,
             ACCEPT_LOSS,
+            SKIP_EXTENT,
             DEVICE_PAGES,
             Choice {
                 name: "strict",

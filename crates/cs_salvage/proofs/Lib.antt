@@ -12,7 +12,6 @@ pub mod Orders
 pub mod Groups
 pub mod Conflicting
 pub mod Zips
-pub mod Finding
 pub mod Putting
 pub mod Grouping
 pub mod Sames
@@ -21,3 +20,10 @@ pub mod Wholes
 pub mod Meaning
 pub mod Scanning
 pub mod Searching
+pub mod Pages
+pub mod Looking
+pub mod Stretches
+pub mod Noise
+pub mod Living
+pub mod Markings
+pub mod Countings

@@ -1,5 +1,5 @@
 -- Runs that are read from the newest on.
-use Rattle.std.proofs.Common.{◌≡◌, ◌≢◌, ◌∙◌, ◌⊎◌, inl, inr, ⊎_elim, ℕ, zero, suc, ◌+◌, ◌-◌, ◌<◌, ◌≤◌, List, [], ◌∷◌, Some, None, Result, Ok, Err, IfErr, IfOk, Option, Vec, drop, length, map, refl, sym, ap, subst, arith}
+use Rattle.std.proofs.Common.{◌≡◌, ◌≢◌, ◌∙◌, ◌⊎◌, inl, inr, ⊎_elim, ℕ, zero, suc, ◌+◌, ◌-◌, ◌<◌, ◌≤◌, List, [], ◌∷◌, Some, None, Result, Ok, Err, IfOk, Option, Vec, drop, length, map, refl, sym, ap, subst, arith}
 use Rattle.std.specs.Prelude.{slice_get}
 use Rattle.std.specs.List.{AllByRecursion}
 use Rattle.std.specs.declared.alloc.Global.{Global}
@@ -8,23 +8,11 @@ use Rattle.cs_refusal.specs.declared.refusals.Refusal.{Refusal}
 use Rattle.cs_refusal.specs.declared.refusals.Refusal.TheVariants.{DeviceFault, OutOfMemory}
 use Rattle.cs_extent.specs.State.{State as ExtentsState}
 use Rattle.cs_frame.specs.declared.locators.Locator.{Locator}
-use Rattle.cs_reader.specs.ImageReads.{IsLocated, IsRunRead}
 use Rattle.cs_index.specs.declared.stored_runs.StoredRun.{StoredRun}
 use Rattle.cs_reader.proofs.Lists.{drop_all, drop_some}
-use Rattle.cs_reader.specs.Openings.{IsWhyNotRead}
 use Rattle.cs_salvage.specs.declared.rescued_runs.DamagedRun.{DamagedRun}
 use Rattle.cs_salvage.specs.declared.rescued_runs.NewestRuns.{NewestRuns}
-use Rattle.cs_salvage.specs.Runs.{AreNewestRead, IsDamageCaused, IsEndOf, IsWhyNoRun}
-
--- ---- why no run is read
-
--- a run that isn't read isn't there
-pub run_not_there : (x : ExtentsState) (view : ℕ → List ℕ) (place : Locator) → IsLocated x place → (result : Result StoredRun Refusal)
-    → IfErr result (λ r. IsNoAnswer r ⊎ IsWhyNotRead x view place r) → IfErr result (λ r. IsNoAnswer r ⊎ IsWhyNoRun x view place r)
-run_not_there x view place located (Ok run) why = tt
-run_not_there x view place located (Err r) (inl none) = inl none
-run_not_there x view place located (Err r) (inr (inl away)) = absurd (away.0 located)
-run_not_there x view place located (Err r) (inr (inr damaged)) = inr (inr damaged)
+use Rattle.cs_salvage.specs.Runs.{AreNewestRead, IsDamageCaused, IsEndOf, IsRunRescued, IsWhyNoRun}
 
 -- ---- one after another
 
@@ -58,7 +46,7 @@ listed_more places k j run runs lt is at listed =
 module _ (honest : Type 0) (x : ExtentsState) (view : ℕ → List ℕ) (places : List Locator) where
   -- reading stops at one
   pub newest_stopped : (k : ℕ) (place : Locator) (r : Refusal) (runs : Vec StoredRun Global) → k < length places → slice_get places (length places - 1 - k) ≡ Some place
-      → map (λ run. run.place) runs.items ≡ drop (length places - k) places → (honest → AllByRecursion (IsRunRead x view) runs.items) → (honest → IsNoAnswer r ⊎ IsWhyNoRun x view place r)
+      → map (λ run. run.place) runs.items ≡ drop (length places - k) places → (honest → AllByRecursion (IsRunRescued x view) runs.items) → (honest → IsNoAnswer r ⊎ IsWhyNoRun x view place r)
       → (result : Result NewestRuns Refusal) → IfOk result (λ f. f.runs ≡ runs) → IfOk result (λ f. f.damaged ≡ Some (record { place = place; refusal = r })) → IfOk result (λ _. r ≢ OutOfMemory)
       → IfOk result (λ f. AreNewestRead honest x view places f.runs.items f.damaged)
   newest_stopped k place r runs lt at listed each why (Ok f) same damaged answered =
@@ -79,7 +67,7 @@ module _ (honest : Type 0) (x : ExtentsState) (view : ℕ → List ℕ) (places 
   newest_stopped k place r runs lt at listed each why (Err e) same damaged answered = tt
 
   -- or all are read
-  pub newest_all : (k : ℕ) (runs : List StoredRun) → length places ≤ k → map (λ run. run.place) runs ≡ drop (length places - k) places → (honest → AllByRecursion (IsRunRead x view) runs)
+  pub newest_all : (k : ℕ) (runs : List StoredRun) → length places ≤ k → map (λ run. run.place) runs ≡ drop (length places - k) places → (honest → AllByRecursion (IsRunRescued x view) runs)
       → AreNewestRead honest x view places runs None
   newest_all k runs all listed each =
       let none : length places - k ≡ 0 = omega (arith, all) in
@@ -107,7 +95,7 @@ module _ (before now : Type 0) (later : before → now) (x : ExtentsState) (old 
     left = are.left;
     no_more = are.no_more;
     listed = are.listed;
-    each = λ h. subst (λ (v : ℕ → List ℕ). AllByRecursion (IsRunRead x v) runs) (same h) (are.each (later h));
+    each = λ h. subst (λ (v : ℕ → List ℕ). AllByRecursion (IsRunRescued x v) runs) (same h) (are.each (later h));
     end = end_before are.left damaged are.end;
   }
 

@@ -26,8 +26,9 @@ use Rattle.cs_salvage.specs.declared.rescued_runs.DamagedRun.{DamagedRun}
 use Rattle.cs_salvage.specs.Answers.{HasContent, IsRefusedFor}
 use Rattle.cs_salvage.specs.Founds.{Found}
 use Rattle.cs_salvage.specs.Rescued.{IsRescued, most_taken}
-use Rattle.cs_salvage.specs.Runs.{IsEndOf, IsWhyNoRun}
+use Rattle.cs_salvage.specs.Runs.{IsEndOf, IsRunRescued, IsWhyNoRun}
 use Rattle.cs_salvage.proofs.Damages.{refused_for}
+use Rattle.cs_salvage.proofs.Noise.{all_read}
 use Rattle.cs_salvage.proofs.Mapped.{content, counts, entries_are, not_lost}
 
 -- where none is damaged none is left
@@ -44,7 +45,10 @@ found_whole honest count view f n m h are (format, versions, records, pages, wri
     subst (λ (y : ExtentsState). Recovers (shape y) (formats_of (shape y)) view n m) is.extents r in
     let newest = is.runs.newest in
     let none : newest.left ≡ 0 = none_left honest f.extents view f.places newest.left f.damaged all newest.end in
-    let read : AllByRecursion (IsRunRead (extents_at format pages (length versions) written) view) is.runs.runs = subst (λ (y : ExtentsState). AllByRecursion (IsRunRead y view) is.runs.runs) is.extents (newest.each h) in (
+    let listed = newest.listed ∙ ap (λ (k : ℕ). drop k f.places) none in
+    let read : AllByRecursion (IsRunRead (extents_at format pages (length versions) written) view) is.runs.runs = all_read (extents_at format pages (length versions) written) (read_whole view format versions records pages written there) view is.runs.runs f.places listed
+    (all_readable view format versions records pages written there here n m recovered f.root f.commands f.places (is.root h))
+    (subst (λ (y : ExtentsState). AllByRecursion (IsRunRescued y view) is.runs.runs) is.extents (newest.each h)) in (
       not_lost view format versions records pages written there here n m recovered f is.extents (is.root h) is.lost,
       counts view format versions records pages written there here n m recovered f is.extents (is.root h),
       content view format versions records pages written there here n m recovered f is.extents (is.root h) all is.runs.runs (newest.listed ∙ ap (λ (k : ℕ). drop k f.places) none) read most_taken is.runs.index,
@@ -57,10 +61,10 @@ no_fault found r none fault = let clash : None ≡ Some fault.0 = sym none ∙ f
 
 -- a run that can be read is read
 run_there : (x : ExtentsState) (whole : IsWhole x) (view : ℕ → List ℕ) (place : Locator) (r : Refusal) → IsReadable x view place → IsWhyNoRun x view place r → ⊥
-run_there x whole view place r has (inl away) = away.0 has.1.located
-run_there x whole view place r has (inr (inl broken)) =
+run_there x whole view place r has (none, inl away) = away.0 has.1.located
+run_there x whole view place r has (none, inr (inl broken)) =
     no_fault (fault_in x view Run place) r (no_fault_there x whole view Run place (place_inside x place whole has.1.located).1 has.1.payload has.1.frame) broken.1
-run_there x whole view place r has (inr (inr spoiled)) =
+run_there x whole view place r has (none, inr (inr spoiled)) =
     let same : has.1.payload ≡ spoiled.1.0 = one_frame x whole view Run place (place_inside x place whole has.1.located).1 has.1.payload spoiled.1.0 has.1.frame spoiled.1.1 in
     no_fault (run_fault x.format spoiled.1.0) r (ap (run_fault x.format) (sym same) ∙ fault-spelled x.format has.1.payload has.0 whole.geometry.fits_format has.1.spelled) spoiled.1.2
 
@@ -99,7 +103,10 @@ whole_refused honest count view f n m id g h are (format, versions, records, pag
     let recovered : Recovers (shape x) (formats_of (shape x)) view n m = subst (λ (y : ExtentsState). Recovers (shape y) (formats_of (shape y)) view n m) is.extents r in
     let newest = is.runs.newest in
     let none : newest.left ≡ 0 = none_left honest f.extents view f.places newest.left f.damaged all newest.end in
-    let read : AllByRecursion (IsRunRead x view) is.runs.runs = subst (λ (y : ExtentsState). AllByRecursion (IsRunRead y view) is.runs.runs) is.extents (newest.each h) in
+    let listed = newest.listed ∙ ap (λ (k : ℕ). drop k f.places) none in
+    let read : AllByRecursion (IsRunRead x view) is.runs.runs = all_read x (read_whole view format versions records pages written there) view is.runs.runs f.places listed
+    (all_readable view format versions records pages written there here n m recovered f.root f.commands f.places (is.root h))
+    (subst (λ (y : ExtentsState). AllByRecursion (IsRunRescued y view) is.runs.runs) is.extents (newest.each h)) in
     refused_for view format versions records pages written there here n m recovered f is.extents id
     (ap (lookup id) (entries_are view format versions records pages written there here n m recovered f is.extents (is.root h) all is.runs.runs
     (newest.listed ∙ ap (λ (k : ℕ). drop k f.places) none) read most_taken is.runs.index)) g content

@@ -12,7 +12,7 @@ use Rattle.cs_salvage.proofs.Sames.{same_part}
 
 module _ (sought : Sought) (image : Image) where
   -- the same, whosoever they are
-  abbrev any : Sought
+  abbrev pub any : Sought
   any = record { geometry = sought.geometry; whose = OfAny }
 
   pub of_any : (part : Part) (payload : List ℕ) → IsPart sought image part payload → IsPart any image part payload

@@ -5,14 +5,14 @@ use Rattle.std.specs.List.{AllByRecursion}
 use Rattle.std.proofs.lemmas.List.{length-map, length-reverse}
 use Rattle.cs_extent.specs.State.{State as ExtentsState, extents_at, section_rows, shape}
 use Rattle.cs_frame.specs.declared.locators.Locator.{Locator}
-use Rattle.cs_frame.specs.Formats.{as_locator, formats_of}
+use Rattle.cs_frame.specs.Formats.{as_locator, formats_of, place_of}
 use Rattle.cs_frame.specs.Geometries.{device_pages}
 use Rattle.cs_frame.specs.Roots.{SpellsRoot, identity_in}
 use Rattle.cs_reader.proofs.Listed.{to_all}
-use Rattle.cs_reader.proofs.Readable.{same_places}
+use Rattle.cs_reader.proofs.Readable.{all_readable, same_places}
 use Rattle.cs_reader.proofs.Runs.{StandsAt, all_stand, same_listed, same_runs}
 use Rattle.cs_reader.proofs.Superblocks.{read_format, read_whole}
-use Rattle.cs_reader.specs.ImageReads.{ArePages, AreSectionsRead, IsRunRead, SpellsAt}
+use Rattle.cs_reader.specs.ImageReads.{ArePages, AreSectionsRead, IsReadable, IsRunRead, SpellsAt}
 use Rattle.cs_index.specs.declared.stored_runs.StoredRun.{StoredRun}
 use Rattle.cs_index.specs.State.{State as IndexState, index_of, newest_first}
 use Rattle.law_machine.specs.Element.{Locator as Place, Map, Run}
@@ -24,9 +24,12 @@ use Rattle.law_machine.specs.Recovery.{Recovers}
 use Rattle.cs_salvage.specs.Answers.{HasContent}
 use Rattle.cs_salvage.specs.Founds.{Found}
 use Rattle.cs_salvage.specs.Rescued.{IsRescued}
+use Rattle.cs_salvage.specs.Runs.{IsRunRescued}
 use Rattle.cs_salvage.specs.Spared.{IsSpared, LiesStill}
 use Rattle.cs_salvage.proofs.Fronts.{front_listed, has_place, in_front, length-places, named_in_front}
 use Rattle.cs_salvage.proofs.Mapped.{named}
+use Rattle.cs_salvage.proofs.Newest.{of_all}
+use Rattle.cs_salvage.proofs.Noise.{all_read_still, has_stored}
 
 -- sections whose pages are as they were read so before
 sections_before : (view whole : ℕ → List ℕ) (format : Format) (versions records : List ℕ) (pages : ℕ) (written : List (ℕ × ℕ)) → AreSectionsRead view format versions records pages written
@@ -96,12 +99,25 @@ spared_found honest count view whole f n m id h are (format, versions, records, 
     index_is : index_of f.index ≡ entries_of (newest_first is.runs.runs)
     index_is = ap (λ (i : IndexState). index_of i) is.runs.index
 
+    root_there : SpellsRoot (whole 1) (identity_in format) f.root f.commands f.places
+    root_there = subst (λ (b : List ℕ). SpellsRoot b (identity_in format) f.root f.commands f.places) spared.root (is.root h)
+
+    lies : (l : Place) → l ∈ places (newest_first is.runs.runs) → LiesStill (extents_at format pages (length versions) written) whole view RunFrame l
+    lies l has = subst (λ (y : ExtentsState). LiesStill y whole view RunFrame l) is.extents
+        (spared.runs l (subst (λ (rs : List Run). l ∈ places rs) (sym (ap (λ (i : IndexState). i.runs) is.runs.index)) has))
+
+    read : AllByRecursion (IsRunRead (extents_at format pages (length versions) written) view) is.runs.runs
+    read = all_read_still (extents_at format pages (length versions) written) (read_whole whole format versions records pages written there) whole view is.runs.runs (drop is.runs.newest.left f.places) is.runs.newest.listed
+        (of_all (λ (place : Locator). IsReadable (extents_at format pages (length versions) written) whole place) is.runs.newest.left f.places
+        (all_readable whole format versions records pages written there here n m recovered f.root f.commands f.places root_there))
+        (λ run has. lies (place_of run.place) (has_stored is.runs.runs run has))
+        (subst (λ (y : ExtentsState). AllByRecursion (IsRunRescued y view) is.runs.runs) is.extents (is.runs.newest.each h))
+
     all_named : (ls : List Place) → lookup id (index_of f.index) ≡ Some ls → lookup id (entries_of recovered.runs) ≡ Some ls
     all_named ls has = named_all whole view format versions records pages written there here n m recovered f.root f.commands is.runs.newest.left f.places
-        (subst (λ (b : List ℕ). SpellsRoot b (identity_in format) f.root f.commands f.places) spared.root (is.root h)) is.runs.newest.no_more is.runs.runs is.runs.newest.listed
-        (subst (λ (y : ExtentsState). AllByRecursion (IsRunRead y view) is.runs.runs) is.extents (is.runs.newest.each h))
-        (λ l has. subst (λ (y : ExtentsState). LiesStill y whole view RunFrame l) is.extents
-        (spared.runs l (subst (λ (rs : List Run). l ∈ places rs) (sym (ap (λ (i : IndexState). i.runs) is.runs.index)) has)))
+        root_there is.runs.newest.no_more is.runs.runs is.runs.newest.listed
+        read
+        lies
         id ls (ap (lookup id) (sym index_is) ∙ has)
 
     go : (o : Option (List Place)) → lookup id (index_of f.index) ≡ o → HasContent f view id (m id)

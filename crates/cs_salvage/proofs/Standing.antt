@@ -1,23 +1,21 @@
 -- Frames on the device, and the pages that are read of them.
-use Rattle.std.proofs.Common.{◌≡◌, ◌∙◌, ℕ, zero, suc, ◌+◌, ◌-◌, ◌*◌, ◌<◌, ◌≤◌, ◌^◌, List, [], ◌∷◌, ◌++◌, Option, Some, None, Result, Ok, Err, MatchOption, IfSome, true, length, length-append, take, drop, get_or, refl, sym, ap, ap₂, subst, arith}
+use Rattle.std.proofs.Common.{◌≡◌, ◌∙◌, ℕ, zero, suc, ◌+◌, ◌-◌, ◌*◌, ◌<◌, ◌≤◌, ◌^◌, List, [], ◌∷◌, ◌++◌, Option, Some, None, MatchOption, IfSome, true, length, length-append, take, drop, get_or, refl, sym, ap, ap₂, subst, arith}
 use Rattle.std.proofs.lemmas.List.{ext_get_or, get_or-take, length-take, length-take-le, take-append-drop, take-take}
 use Rattle.sha2.specs.Sha256.{sha256}
 use Rattle.sha2.proofs.Facts256.{length-sha256}
 use Rattle.cs_disk.specs.Disk.{Image, page}
-use Rattle.cs_frame.specs.declared.faults.FormatFault.{FormatFault}
 use Rattle.cs_frame.specs.declared.heads.ChunkHead.{ChunkHead}
 use Rattle.cs_frame.specs.Bytes.{field}
 use Rattle.cs_frame.specs.declared.formats.FormatNumber.{FormatNumber}
 use Rattle.cs_frame.specs.declared.formats.FormatNumber.TheVariants.{Four}
 use Rattle.cs_frame.specs.FormatNumbers.{number_in}
-use Rattle.cs_frame.specs.Faults.{fault_in}
-use Rattle.cs_frame.specs.Frames.{SpellsFrame, first_page, frame_bytes, frame_count, header_fault, page_count, payload_length, spelled_frame}
+use Rattle.cs_frame.specs.Frames.{SpellsFrame, first_page, frame_bytes, frame_count, page_count, payload_length, spelled_frame}
 use Rattle.cs_frame.specs.Geometries.{Dimensions, IsGeometry}
 use Rattle.cs_frame.specs.Heads.{spelled_head}
 use Rattle.cs_frame.specs.Identifiers.{id_number}
 use Rattle.cs_frame.proofs.Fields.{field_at}
 use Rattle.cs_frame.proofs.FormatLaws.{is_format}
-use Rattle.cs_frame.proofs.FrameLaws.{at_digest_of, first_front, frame_fault-spelled, header_first, length_of_spelled, payload_is_read}
+use Rattle.cs_frame.proofs.FrameLaws.{at_digest_of, first_front, length_of_spelled, payload_is_read}
 use Rattle.cs_frame.proofs.GeometryLaws.{bounds}
 use Rattle.cs_frame.proofs.HeadLaws.{length-head}
 use Rattle.cs_frame.proofs.HeadTelling.{one_head}
@@ -34,17 +32,17 @@ use Rattle.cs_salvage.specs.declared.searches.Whose.TheVariants.{OfAny}
 
 -- ---- pages one after another
 
-length-from : (S : Shape) (F : Formats) (view : ℕ → Page) (e p n : ℕ) → length (pages_from S F view e p n) ≡ n
+pub length-from : (S : Shape) (F : Formats) (view : ℕ → Page) (e p n : ℕ) → length (pages_from S F view e p n) ≡ n
 length-from S F view e p zero = refl
 length-from S F view e p (suc n) = ap suc (length-from S F view e (suc p) n)
 
-at_from : (S : Shape) (F : Formats) (view : ℕ → Page) (e p n i : ℕ) → i < n → get_or (pages_from S F view e p n) i [] ≡ view (S.address e (p + i))
+pub at_from : (S : Shape) (F : Formats) (view : ℕ → Page) (e p n i : ℕ) → i < n → get_or (pages_from S F view e p n) i [] ≡ view (S.address e (p + i))
 at_from S F view e p zero i lt = absurd (omega (arith, lt))
 at_from S F view e p (suc n) zero lt = let same : p ≡ p + 0 = omega arith in ap (λ q. view (S.address e q)) same
 at_from S F view e p (suc n) (suc i) lt = let same : suc p + i ≡ p + suc i = omega arith in at_from S F view e (suc p) n i (omega (arith, lt)) ∙ ap (λ q. view (S.address e q)) same
 
 -- what stands is the front of the pages there
-front_of : (S : Shape) (F : Formats) (view : ℕ → Page) (e p n : ℕ) (bs : List Page) → length bs ≤ n → Stand S F view e p bs → take (length bs) (pages_from S F view e p n) ≡ bs
+pub front_of : (S : Shape) (F : Formats) (view : ℕ → Page) (e p n : ℕ) (bs : List Page) → length bs ≤ n → Stand S F view e p bs → take (length bs) (pages_from S F view e p n) ≡ bs
 front_of S F view e p n [] fits stand = refl
 front_of S F view e p zero (b ∷ bs) fits stand = absurd (omega (arith, fits))
 front_of S F view e p (suc n) (b ∷ bs) fits stand = ap₂ (λ (x : Page) (xs : List Page). x ∷ xs) stand.0 (front_of S F view e (suc p) n bs (omega (arith, fits)) stand.1)
@@ -73,7 +71,7 @@ counted form kind pages payload it =
     ap page_count (ap payload_length (sym (first_of_taken (page_count (length payload)) pages (omega arith)) ∙ ap first_page it.spelled) ∙ length_of_spelled form kind payload it.fits)
 
 -- they are there
-enough : (form : FormatNumber) (kind : ℕ) (pages : List (List ℕ)) (payload : List ℕ) → SpellsFrame form kind pages payload → page_count (length payload) ≤ length pages
+pub enough : (form : FormatNumber) (kind : ℕ) (pages : List (List ℕ)) (payload : List ℕ) → SpellsFrame form kind pages payload → page_count (length payload) ≤ length pages
 enough form kind pages payload it = omega (arith, ap length it.spelled, length-spelled form kind payload, length-take (page_count (length payload)) pages)
 
 -- what all pages spell their front does, and the other way round
@@ -138,7 +136,7 @@ module _ (g : Dimensions) (image : Image) (known : IsGeometry g.format g.extents
   abbrev all : List (List ℕ)
   all = pages_at g image e i
 
-  length-all : length all ≡ g.pages - i
+  pub length-all : length all ≡ g.pages - i
   length-all = length-from (shape_in g) (formats_in g) (page image) e i (g.pages - i)
 
   abbrev form : FormatNumber
@@ -180,19 +178,6 @@ module _ (g : Dimensions) (image : Image) (known : IsGeometry g.format g.extents
     first_read =
         let same : 2 + (e * g.pages + (i + 0)) ≡ number = omega (arith, at) in
         at_from (shape_in g) (formats_in g) (page image) e i (g.pages - i) 0 (omega (arith, inside)) ∙ ap (page image) same ∙ sym read
-
-    -- where the header is refused none stands
-    pub no_chunk : (there : ℕ) (f : FormatFault) → there ≡ g.pages - i → header_fault form 0 first there ≡ Some f → (payload : List ℕ) → IsChunkAt g image e i payload → ⊥
-    no_chunk there f is refused payload it =
-        let fault = header_first form 0 all f
-        (ap (λ b. header_fault form 0 b (length all)) first_read ∙ ap (λ n. header_fault form 0 first n) (length-all ∙ sym is) ∙ refused) in
-        let none = frame_fault-spelled form 0 all payload (spelled_there payload it) in
-        absurd (cc (fault, none))
-
-    pub none_by : {H : Type 0} (result : Result H FormatFault) (there : ℕ) → there ≡ g.pages - i → fault_in result ≡ header_fault form 0 first there → ((h : H) → result ≡ Ok h → ⊥)
-        → (payload : List ℕ) → IsChunkAt g image e i payload → ⊥
-    none_by (Ok h) there is fault not payload it = absurd (not h refl)
-    none_by (Err f) there is fault not payload it = no_chunk there f is (sym fault) payload it
 
     -- the pages that the header counts are the frame's
     pub front_read : (pages : List (List ℕ)) (count : ℕ) → count ≡ page_count (payload_length first) → count ≤ g.pages - i → AreReadAs image number count pages → IsFrontOf all pages

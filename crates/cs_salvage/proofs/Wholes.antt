@@ -84,7 +84,7 @@ module _ (sought : Sought) (image : Image) (put : Put) (bytes : List ℕ) (paylo
         } in
         (part, (all.complete part payload is, refl, refl, refl))
 
-    all_there : (IsAmbiguous parts put → ⊥) → 0 < length payloads → IsWhole parts put
+    pub all_there : (IsAmbiguous parts put → ⊥) → 0 < length payloads → IsWhole parts put
     all_there none some =
         let pieces = listed (IsNumberOf parts) (length payloads) part_at in (
           pieces.0,

@@ -10,3 +10,7 @@ pub mod Shards
 pub mod Missing
 pub mod Puts
 pub mod Greatest
+pub mod Passed
+pub mod Looks
+pub mod Namings
+pub mod Skips

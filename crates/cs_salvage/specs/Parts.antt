@@ -83,14 +83,6 @@ LiesBefore extent first other_extent other_first = (extent < other_extent) ⊎ (
 abbrev pub IsBefore : Part → Part → Type 0
 IsBefore a b = LiesBefore a.extent a.page b.extent b.page
 
--- These are the parts before a place, all of them, in the order in which they lie.
-pub record ArePartsBefore (sought : Sought) (image : Image) (extent first : ℕ) (parts : List Part) : Type 0 where
-  pub sound : (part : Part) → Contains parts part
-      → LiesBefore part.extent part.page extent first × ((payload : List ℕ) × IsPart sought image part payload)
-  pub complete : (part : Part) (payload : List ℕ) → IsPart sought image part payload → LiesBefore part.extent part.page extent first
-      → Contains parts part
-  pub ordered : AllPairs IsBefore parts
-
 -- These are all parts on the device: each is one, each is there, and they come in the order in which they lie.
 pub record AreParts (sought : Sought) (image : Image) (parts : List Part) : Type 0 where
   pub sound : (part : Part) → Contains parts part → (payload : List ℕ) × IsPart sought image part payload

@@ -1,5 +1,5 @@
 -- Whole shards: puts all of whose parts are there.
-use Rattle.std.specs.Prelude.{◌≡◌, ◌≢◌, ◌⊎◌, ◌<◌, ◌≤◌, ℕ, List, length, All, Contains, slice_index_or}
+use Rattle.std.specs.Prelude.{◌≡◌, ◌≢◌, ◌⊎◌, ◌<◌, ◌≤◌, ◌^◌, ℕ, true, List, length, All, Contains, slice_index_or}
 use Rattle.std.specs.List.{AllPairs}
 use Rattle.std.specs.Cmp.Lexicographic.{slice_cmp}
 use Rattle.std.specs.declared.cmp.Ordering.TheVariants.{Less}
@@ -9,10 +9,12 @@ use Rattle.cs_frame.specs.declared.identifiers.ShardId.{ShardId}
 use Rattle.cs_frame.specs.Geometries.{Dimensions}
 use Rattle.cs_frame.specs.Identifiers.{id_number}
 use Rattle.law_machine.specs.Events.{ArePayloads}
-use Rattle.cs_salvage.specs.Parts.{IsChunkAt, IsPart, formats_in, shape_in}
+use Rattle.law_machine.specs.Geometry.{heads_in}
+use Rattle.cs_salvage.specs.Parts.{AreParts, IsChunkAt, IsIdentifier, IsPart, formats_in, shape_in}
 use Rattle.cs_salvage.specs.declared.parts.Part.{Part}
 use Rattle.cs_salvage.specs.declared.parts.Put.{Put}
 use Rattle.cs_salvage.specs.declared.searches.Sought.{Sought}
+use Rattle.cs_salvage.specs.declared.searches.Whose.{Whose}
 use Rattle.cs_salvage.specs.declared.whole_shards.WholeShard.{WholeShard}
 
 -- the put that a part is of, by its head
@@ -77,3 +79,14 @@ HasOnly sought image put payloads = (part : Part) (payload : List ℕ) → IsPar
 -- of each of the payloads a whole frame stands on the device
 abbrev pub HasFrames : Dimensions → Image → (payloads : List (List ℕ)) → Type 0
 HasFrames g image payloads = (payload : List ℕ) → Contains payloads payload → (extent : ℕ) × (first : ℕ) × IsChunkAt g image extent first payload
+
+-- a whole shard of this identifier is there that is no older than this put
+abbrev pub HasAsNew : List WholeShard → Put → Type 0
+HasAsNew shards put = (shard : WholeShard) × Contains shards shard × (shard.put.id ≡ put.id) × (put.command ≤ shard.put.command)
+
+-- If these are the payloads of a put of this identifier and these bytes, and it isn't ambiguous among the parts of the
+-- image, their newest whole shards have it, or a newer one.
+abbrev pub IsPutFound : Dimensions → Image → (id : ℕ) → (bytes : List ℕ) → (payloads : List (List ℕ)) → Type 0
+IsPutFound g image id bytes payloads = (put : Put) (whose : Whose) (parts : List Part) (shards : List WholeShard)
+    → id_number put.id ≡ id → IsIdentifier put.id → put.command < 2 ^ 64 → heads_in g.format ≡ true → HasPayloads g put bytes payloads
+    → AreParts (record { geometry = g; whose = whose }) image parts → (IsAmbiguous parts put → ⊥) → AreNewest parts shards → HasAsNew shards put

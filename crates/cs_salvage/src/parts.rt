@@ -1,12 +1,12 @@
 //! Parts of shards: the whole frames of chunks that are on a device, and what they hold.
-ghost use Rattle.std.specs.Prelude.{◌*◌, ◌+◌, ◌-◌, ◌<◌, ◌^◌, ◌≡◌, ◌≤◌, All, IfOk, IfSome, List, MatchBool, MatchOption, OnOk, length, true, ℕ};
+ghost use Rattle.std.specs.Prelude.{◌*◌, ◌+◌, ◌-◌, ◌<◌, ◌^◌, ◌≡◌, ◌≤◌, All, IfOk, IfSome, List, MatchBool, MatchOption, OnOk, length, min, true, ℕ};
 ghost use Rattle.std.specs.List.{AllZip};
 ghost use Rattle.cs_disk.specs.Disk.{HasCause, page as device_page, seen};
 ghost use Rattle.cs_disk.specs.Reads.{OnlyReads};
 ghost use Rattle.cs_frame.specs.Frames.{SpellsFrame};
 ghost use Rattle.cs_frame.specs.Geometries.{IsGeometry};
 ghost use Rattle.cs_salvage.specs.Frames.{AreReadAs, IsFrontOf, IsMeant, IsOfFrame, IsPartIn, IsSpelled, pages_at};
-ghost use Rattle.cs_salvage.specs.Parts.{AreParts, ArePartsBefore, AreSought, EndsWith, IsChunkAt, IsNumbered, IsPart, IsSought, IsSpellable, NoPartAt, formats_in};
+ghost use Rattle.cs_salvage.specs.Parts.{EndsWith, IsChunkAt, IsNumbered, IsPart, IsSought, IsSpellable, NoPartAt, formats_in};
 ghost use Rattle.cs_salvage.specs.Shards.{put_of};
 ghost use Rattle.law_machine.specs.Geometry.{heads_in};
 ghost use Rattle.law_machine.specs.Index.{joined_bodies};
@@ -65,7 +65,6 @@ fn payload_of<D: PageDisk>(
     sought: &Sought,
     part: Part,
 ) -> Result<Option<Vec<u8>>, DiskFault>
-    requires { 2 + sought.now.geometry.extents * sought.now.geometry.pages ≤ D.page_count disk.old }
     ensures payload { D.honest disk.old → IfOk result (λ found. MatchOption found
         ((payload : List ℕ) → IsPart sought.now (seen (D.state disk.old)) part payload → ⊥)
         (λ payload. IsPart sought.now (seen (D.state disk.old)) part payload.items)) }
@@ -95,7 +94,6 @@ pub fn read_whole<D: PageDisk>(
     sought: &Sought,
     shard: &WholeShard,
 ) -> Result<Option<Vec<u8>>, DiskFault>
-    requires { 2 + sought.now.geometry.extents * sought.now.geometry.pages ≤ D.page_count disk.old }
     ensures bytes { D.honest disk.old → IfOk result (λ found. MatchOption found
         ((payloads : List (List ℕ)) → AllZip (IsPart sought.now (seen (D.state disk.old))) shard.now.parts.items payloads → ⊥)
         (λ bytes. (payloads : List (List ℕ)) × AllZip (IsPart sought.now (seen (D.state disk.old))) shard.now.parts.items payloads
@@ -130,7 +128,7 @@ pub struct FoundPart {
 }
 
 /// Reads so many pages from a number on; the first of them was read already.
-fn read_pages<D: PageDisk>(
+pub fn read_pages<D: PageDisk>(
     alloc: Global,
     disk: &mut D,
     first: u64,
@@ -159,8 +157,18 @@ fn read_pages<D: PageDisk>(
     Ok(pages)
 }
 
+/// How many pages there are from a page of the device on which is a page of an extent: as many as the extent has left,
+/// and no more than the device has.
+pub fn pages_there(geometry: Geometry, page: u16, count: u64, number: u64) -> usize
+    requires { page < geometry.pages }
+    ensures { result ≡ min (geometry.pages - page) (count - number) }
+{
+    let on_extent = u64::from(geometry.pages() - page);
+    count.saturating_sub(number).min(on_extent) as usize
+}
+
 /// As many pages from a place on as the header of a chunk's frame counts. There are none without a header, or if they
-/// don't end on the extent.
+/// don't end on the extent and on the device.
 /// The header is tested before the second page is read. Digest and padding aren't tested.
 fn read_frame_pages<D: PageDisk>(
     alloc: Global,
@@ -171,7 +179,6 @@ fn read_frame_pages<D: PageDisk>(
 ) -> Result<Option<Vec<[u8; 4096]>>, DiskFault>
     requires extent { extent < geometry.extents }
     requires page { page < geometry.pages }
-    requires device { 2 + geometry.extents * geometry.pages ≤ D.page_count disk.old }
     ensures pages { D.honest disk.old → IfOk result (λ found. MatchOption found
         ((payload : List ℕ) → IsChunkAt geometry (seen (D.state disk.old)) extent page payload → ⊥)
         (λ pages. IsFrontOf (pages_at geometry (seen (D.state disk.old)) extent page) pages.items)) }
@@ -180,12 +187,15 @@ fn read_frame_pages<D: PageDisk>(
     ensures cause { HasCause (D.failure_count disk.old) (D.failure_count disk.new) result }
 {
     let number = geometry.device_page(extent, page);
+    let there = pages_there(geometry, page, disk.pages(), number);
+    if there == 0 {
+        return Ok(None);
+    }
     let mut first = [0; 4096];
     match disk.read(number, &mut first) {
         Ok(()) => {}
         Err(fault) => return Err(fault),
     }
-    let there = usize::from(geometry.pages() - page);
     let format = geometry.format().number();
     let Ok(header) = decode_frame_header(format, FrameKind::Chunk, &first, there) else {
         return Ok(None);
@@ -245,7 +255,7 @@ fn part_of(extent: u16, page: u16, pages: &[[u8; 4096]], payload: &[u8]) -> Opti
 }
 
 /// The part whose frame begins in these pages, with its payload, if a whole one does.
-fn part_in(
+pub fn part_in(
     alloc: Global,
     extent: u16,
     page: u16,
@@ -274,7 +284,6 @@ fn any_part_at<D: PageDisk>(
     extent: u16,
     page: u16,
 ) -> Result<Option<FoundPart>, DiskFault>
-    requires { 2 + geometry.extents * geometry.pages ≤ D.page_count disk.old }
     ensures part { D.honest disk.old → IfOk result (λ found. MatchOption found
         (NoPartAt (record { geometry = geometry; whose = Whose.OfAny }) (seen (D.state disk.old)) extent page)
         (λ it. IsPart (record { geometry = geometry; whose = Whose.OfAny }) (seen (D.state disk.old)) it.part it.payload.items)) }
@@ -304,7 +313,6 @@ pub fn part_at<D: PageDisk>(
     extent: u16,
     page: u16,
 ) -> Result<Option<FoundPart>, DiskFault>
-    requires { 2 + sought.now.geometry.extents * sought.now.geometry.pages ≤ D.page_count disk.old }
     ensures part { D.honest disk.old → IfOk result (λ found. MatchOption found
         (NoPartAt sought.now (seen (D.state disk.old)) extent page)
         (λ it. IsPart sought.now (seen (D.state disk.old)) it.part it.payload.items)) }
@@ -321,90 +329,4 @@ pub fn part_at<D: PageDisk>(
         Ok(None) => Ok(None),
         Err(fault) => Err(fault),
     }
-}
-
-/// Adds the part that begins at a place to those before it, if one does.
-fn add_part_at<D: PageDisk>(
-    alloc: Global,
-    disk: &mut D,
-    sought: &Sought,
-    extent: u16,
-    page: u16,
-    parts: &mut Vec<Part>,
-) -> Result<(), DiskFault>
-    requires { 2 + sought.now.geometry.extents * sought.now.geometry.pages ≤ D.page_count disk.old }
-    ensures parts { D.honest disk.old → ArePartsBefore sought.now (seen (D.state disk.old)) extent page parts.old.items
-        → OnOk result (ArePartsBefore sought.now (seen (D.state disk.old)) extent (page + 1) parts.new.items) }
-    ensures spelled { All IsOfFrame parts.old.items → OnOk result (All IsOfFrame parts.new.items) }
-    ensures taken { AreSought sought.now parts.old.items → OnOk result (AreSought sought.now parts.new.items) }
-    ensures disk { OnlyReads D.PageDisk disk.old disk.new }
-    ensures cause { HasCause (D.failure_count disk.old) (D.failure_count disk.new) result }
-{
-    match part_at(alloc, disk, sought, extent, page) {
-        Ok(Some(found)) => Ok(parts.push(found.part)?),
-        Ok(None) => Ok(()),
-        Err(fault) => Err(fault),
-    }
-}
-
-/// Adds the parts on an extent to those before it.
-fn add_parts_on<D: PageDisk>(
-    alloc: Global,
-    disk: &mut D,
-    sought: &Sought,
-    extent: u16,
-    parts: &mut Vec<Part>,
-) -> Result<(), DiskFault>
-    requires { 2 + sought.now.geometry.extents * sought.now.geometry.pages ≤ D.page_count disk.old }
-    ensures parts { D.honest disk.old → ArePartsBefore sought.now (seen (D.state disk.old)) extent 0 parts.old.items
-        → OnOk result (ArePartsBefore sought.now (seen (D.state disk.old)) (extent + 1) 0 parts.new.items) }
-    ensures spelled { All IsOfFrame parts.old.items → OnOk result (All IsOfFrame parts.new.items) }
-    ensures taken { AreSought sought.now parts.old.items → OnOk result (AreSought sought.now parts.new.items) }
-    ensures disk { OnlyReads D.PageDisk disk.old disk.new }
-    ensures cause { HasCause (D.failure_count disk.old) (D.failure_count disk.new) result }
-{
-    let geometry = sought.geometry;
-    for page in 0..geometry.pages() {
-        match add_part_at(alloc, disk, sought, extent, page, parts) {
-            Ok(()) => {}
-            Err(fault) => return Err(fault),
-        }
-    }
-    Ok(())
-}
-
-/// All parts on a device that are sought: the whole frames of chunks whose payload ends with a head that a chunk can
-/// have. Each chunk that a put wrote has such a head. A payload that is shorter than a head has none, and format 2 has
-/// none at all. Frames of other stores are passed over, unless those of any store are sought.
-///
-/// Superblock, root and runs aren't looked at. So a chunk may have been overwritten by a later put, or deleted, or its
-/// put was never acknowledged. Each copy that a sweep made is there too.
-///
-/// Each page of each extent is read once. If a page has the header of a chunk's frame, the other pages of that frame
-/// are read once more. If a shard's bytes are pages that look like headers, each costs as many reads as it says, up to
-/// the end of its extent. Each part takes some 100 bytes of memory.
-///
-/// 1 `DeviceFault` if a read failed, 9 `OutOfMemory`. The disk holds what it held.
-pub fn find_parts<D: PageDisk>(
-    alloc: Global,
-    disk: &mut D,
-    sought: &Sought,
-) -> Result<Vec<Part>, DiskFault>
-    requires { 2 + sought.now.geometry.extents * sought.now.geometry.pages ≤ D.page_count disk.old }
-    ensures parts { D.honest disk.old → IfOk result (λ parts. AreParts sought.now (seen (D.state disk.old)) parts.items) }
-    // Whatever the disk answers, no part is made up: each is of a frame that some pages spell, and each is sought.
-    ensures spelled { IfOk result (λ parts. All IsOfFrame parts.items) }
-    ensures taken { IfOk result (λ parts. AreSought sought.now parts.items) }
-    ensures disk { OnlyReads D.PageDisk disk.old disk.new }
-    ensures cause { HasCause (D.failure_count disk.old) (D.failure_count disk.new) result }
-{
-    let geometry = sought.geometry;
-    let mut parts = Vec::new(alloc);
-    for extent in 0..geometry.extents() {
-        match add_parts_on(alloc, disk, sought, extent, &mut parts) {
-            Ok(()) => {}
-            Err(fault) => return Err(fault),
-        }
-    }
-    Ok(parts)
 }

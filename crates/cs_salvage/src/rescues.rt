@@ -1,6 +1,6 @@
 //! A store over its disk, read for what can be got of it, and why a shard isn't got.
 ghost use Rattle.std.specs.Prelude.{◌*◌, ◌+◌, ◌<◌, ◌↔◌, ◌≡◌, ◌≢◌, ◌≤◌, ◌⊎◌, Err, IfErr, IfOk, IfSome, List, MatchResult, None, Ok, OnOk, Some, length, map, option_map, ℕ};
-ghost use Rattle.std.specs.List.{AllByRecursion};
+ghost use Rattle.std.specs.List.{AllByRecursion, AllZip};
 ghost use Rattle.cs_chunk.specs.Chunks.{AreChunksIn, AreMeant};
 ghost use Rattle.cs_chunk.specs.Reads.{IsCaused, IsNoAnswer, IsReadRefusal};
 ghost use Rattle.cs_disk.specs.Disk.{Rises, page, seen};
@@ -16,13 +16,16 @@ ghost use Rattle.cs_reader.specs.Loads.{index_at};
 ghost use Rattle.cs_reader.specs.Openings.{IsOpeningRefusal};
 ghost use Rattle.cs_salvage.specs.Answers.{AreMeantBytes, AreReadBytes, IsAbsent, IsUnknown, IsWhyNoChunks, WhereTheyLie, places_of};
 ghost use Rattle.cs_salvage.specs.Founds.{IsRoomFor, NothingWaits};
+ghost use Rattle.cs_salvage.specs.Namings.{IsNaming};
 ghost use Rattle.cs_salvage.specs.Refusals.{name_of, number_of};
 ghost use Rattle.cs_salvage.specs.Rescued.{IsRescued, IsWhyNotRescued, most_taken};
 ghost use Rattle.cs_salvage.specs.Runs.{IsDamageCaused};
 ghost use Rattle.law_machine.specs.Geometry.{weigh_in};
 ghost use Rattle.law_machine.specs.Index.{entries_of, joined_bodies, named_weight};
 
+use crate::namings::Naming;
 use crate::rescued_runs::{DamagedRun, read_newest};
+use crate::whole_shards::WholeShard;
 use cs_chunk::read_chunks;
 use cs_deps::Graph;
 use cs_disk::PageDisk;
@@ -31,7 +34,7 @@ use cs_frame::{Locator, Root, ShardId};
 use cs_index::{Index, StoredRun};
 use cs_reader::{Head, are_places_located, read_head};
 use cs_refusal::Refusal;
-use std::alloc::Global;
+use std::alloc::{AllocError, Global};
 use std::marker::Model;
 use thiserror::Error;
 
@@ -54,8 +57,9 @@ impl<D: PageDisk> Model for Rescue<D> {
 
 impl<D: PageDisk> Rescue<D> {
     /// Reads the superblock section by section, then the root, whatever the sections record of it. Then reads its runs,
-    /// the newest first, up to one that can't be read. Chunks aren't read, and it isn't tested whether the places that
-    /// entries name are located.
+    /// the newest first, up to one that can't be read. If only the zeros after a run's payload are damaged, the run is
+    /// read: an opening is refused 23 for it. Chunks aren't read, and it isn't tested whether the places that entries
+    /// name are located.
     ///
     /// If the call is refused, it returns the disk. It is refused by the first test that fails:
     ///
@@ -168,6 +172,29 @@ impl<D: PageDisk> Rescue<D> {
         ensures cause { result ≡ Err (RescueRefusal.Refused Refusal.DeviceFault) → Rises (D.failure_count self.old.disk) (D.failure_count self.new.disk) }
     {
         self.found.get(alloc, &mut self.disk, id)
+    }
+
+    /// What the runs that were read say of a shard whose parts were found. Nothing is read.
+    pub fn naming(&self, shard: &WholeShard) -> Naming
+        ensures { IsNaming self.now.found shard.now result }
+    {
+        self.found.naming(shard)
+    }
+
+    /// What the runs that were read say of each of these shards, in order. Nothing is read.
+    pub fn namings(&self, alloc: Global, shards: &[WholeShard]) -> Result<Vec<Naming>, AllocError>
+        ensures { IfOk result (λ namings. AllZip (IsNaming self.now.found) shards.now namings.items) }
+    {
+        self.found.namings(alloc, shards)
+    }
+
+    /// The disk and what was read of the store, with which the rescue ends.
+    pub fn into_parts(self) -> (D, Found)
+        ensures disk { result.0 ≡ self.disk }
+        ensures found { result.1 ≡ self.found }
+    {
+        let Rescue { disk, found } = self;
+        (disk, found)
     }
 
     /// The disk, with which the rescue ends.

@@ -1,6 +1,6 @@
 //! What salvaged shards have to do with puts, and rescued ones with the map that the store had. The functions do
 //! nothing: their contracts are the laws.
-ghost use Rattle.std.specs.Prelude.{◌*◌, ◌<◌, ◌^◌, ◌≡◌, ◌≢◌, ◌≤◌, ◌⊎◌, List, None, Some, false, length, true, ℕ};
+ghost use Rattle.std.specs.Prelude.{◌*◌, ◌<◌, ◌^◌, ◌≡◌, [], ◌≢◌, ◌≤◌, ◌⊎◌, List, None, Some, false, length, true, ℕ};
 ghost use Rattle.std.specs.List.{AllZip};
 ghost use Rattle.cs_disk.specs.Disk.{Image, page, seen};
 ghost use Rattle.cs_extent.specs.State.{shape};
@@ -13,12 +13,13 @@ ghost use Rattle.cs_salvage.specs.Founds.{Found};
 ghost use Rattle.cs_salvage.specs.Frames.{IsMeant, TwoWithOneDigest};
 ghost use Rattle.cs_salvage.specs.Parts.{AreParts, EndsWith, IsIdentifier, IsPart, formats_in, shape_in};
 ghost use Rattle.cs_salvage.specs.Rescued.{IsRescued};
-ghost use Rattle.cs_salvage.specs.Shards.{AreAllOf, HasFrames, HasOnly, HasPayloads, IsWhole};
+ghost use Rattle.cs_salvage.specs.Passed.{Avoids, first_page_of, from_on, without};
+ghost use Rattle.cs_salvage.specs.Shards.{AreAllOf, HasFrames, HasOnly, HasPayloads, IsPutFound, IsWhole};
 ghost use Rattle.cs_salvage.specs.Spared.{IsSpared};
 ghost use Rattle.cs_salvage.specs.declared.parts.Part.{Part as SomePart};
 ghost use Rattle.cs_salvage.specs.declared.parts.Put.{Put as SomePut};
 ghost use Rattle.cs_salvage.specs.declared.searches.Sought.{Sought as SomeSought};
-ghost use Rattle.law_machine.specs.Element.{Damaged, Map};
+ghost use Rattle.law_machine.specs.Element.{Bytes, Damaged, Map};
 ghost use Rattle.law_machine.specs.Geometry.{heads_in, store_front};
 ghost use Rattle.law_machine.specs.Index.{joined_bodies, lookup};
 ghost use Rattle.law_machine.specs.Recovery.{Recovers};
@@ -92,4 +93,26 @@ pub fn what_newer_runs_name_is_right<D: PageDisk>()
     ensures { (disk : D) (f : Found) (whole : ℕ → List ℕ) (n : ℕ) (m : Map) (id : ℕ) → D.honest disk → IsRescued (D.honest disk) (D.page_count disk) (page (seen (D.state disk))) f
         → ArePages (D.page_count disk) whole → Recovers (shape f.extents) (formats_of (shape f.extents)) whole n m
         → IsSpared f whole (page (seen (D.state disk))) id → lookup id (index_of f.index) ≢ None → HasContent f (page (seen (D.state disk))) id (m id) }
+{}
+
+/// What a scan finds lies there. On an image of which pages hold nothing, as those that a scan passed over, the parts
+/// are those of the image of which no page is one of them. And where none was passed over and all was looked at, they
+/// are the parts of the image.
+pub fn what_is_found_lies_there()
+    ensures there { (sought : SomeSought) (image : Image) (first : ℕ) (passed : List ℕ) (part : SomePart) (payload : List ℕ)
+        → IsPart sought (without passed (from_on first image)) part payload
+        → IsPart sought image part payload × (first ≤ first_page_of sought.geometry part) × Avoids sought.geometry passed part }
+    ensures found { (sought : SomeSought) (image : Image) (first : ℕ) (passed : List ℕ) (part : SomePart) (payload : List ℕ)
+        → IsPart sought image part payload → first ≤ first_page_of sought.geometry part → Avoids sought.geometry passed part
+        → IsPart sought (without passed (from_on first image)) part payload }
+    ensures all { (sought : SomeSought) (image : Image) (parts : List SomePart) → AreParts sought (without [] (from_on 0 image)) parts → AreParts sought image parts }
+{}
+
+/// What a map has is found. If an image recovers a map that has bytes of an identifier, its chunks stand there as
+/// whole frames. Suppose that these are the chunks of a put, as each put makes them, and that it isn't ambiguous. Then
+/// it is whole among the parts of the image. So `newest_whole` has it, or a newer put of that identifier.
+pub fn what_a_map_has_is_found()
+    ensures { (g : Dimensions) (image : Image) (n : ℕ) (m : Map) (id : ℕ) (bytes : List ℕ) → IsGeometry g.format g.extents g.pages g.sections
+        → Recovers (shape_in g) (formats_in g) (page image) n m → m id ≡ Some (Bytes bytes)
+        → (payloads : List (List ℕ)) × HasFrames g image payloads × (bytes ≡ joined_bodies (formats_in g) payloads) × IsPutFound g image id bytes payloads }
 {}

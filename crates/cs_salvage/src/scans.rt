@@ -32,7 +32,6 @@ fn scan_on<D: PageDisk, P: Patience>(
     patience: &P,
     scanned: Scanned,
 ) -> Result<Scanned, DiskFault>
-    requires { 2 + sought.now.geometry.extents * sought.now.geometry.pages ≤ D.page_count disk.old }
     ensures scanned { D.honest disk.old → IsScanUpTo sought.now (seen (D.state disk.old)) extent scanned
         → IfOk result (IsScanUpTo sought.now (seen (D.state disk.old)) (extent + 1)) }
     ensures spelled { IsOfAFrame sought.now scanned.greatest → IfOk result (λ now. IsOfAFrame sought.now now.greatest) }
@@ -65,7 +64,6 @@ pub fn scan_commands<D: PageDisk, P: Patience>(
     sought: &Sought,
     patience: &P,
 ) -> Result<Scanned, DiskFault>
-    requires { 2 + sought.now.geometry.extents * sought.now.geometry.pages ≤ D.page_count disk.old }
     ensures scanned { D.honest disk.old → IfOk result (IsScanOf sought.now (seen (D.state disk.old))) }
     // Whatever the disk answers, no number is made up.
     ensures spelled { IfOk result (λ scanned. IsOfAFrame sought.now scanned.greatest) }
@@ -104,7 +102,6 @@ fn scan_at<D: PageDisk>(
     page: u16,
     scan: Scan,
 ) -> Result<Scan, DiskFault>
-    requires { 2 + sought.now.geometry.extents * sought.now.geometry.pages ≤ D.page_count disk.old }
     ensures scanned { D.honest disk.old → IsScannedTo sought.now (seen (D.state disk.old)) extent page scan.greatest scan.end
         → IfOk result (λ now. IsScannedTo sought.now (seen (D.state disk.old)) extent (page + 1) now.greatest now.end) }
     ensures spelled { IsOfAFrame sought.now scan.greatest → IfOk result (λ now. IsOfAFrame sought.now now.greatest) }
@@ -138,7 +135,6 @@ pub fn greatest_command_on<D: PageDisk>(
     sought: &Sought,
     extent: u16,
 ) -> Result<u64, DiskFault>
-    requires { 2 + sought.now.geometry.extents * sought.now.geometry.pages ≤ D.page_count disk.old }
     ensures greatest { D.honest disk.old → IfOk result (IsGreatestOn sought.now (seen (D.state disk.old)) extent) }
     // Whatever the disk answers, no number is made up: it is that of a part of a frame that some pages spell, and the
     // part is sought.

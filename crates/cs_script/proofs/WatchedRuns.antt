@@ -13,7 +13,10 @@ use Rattle.cs_script.specs.Stores.{RunsOver, RunsOverInPart, RunsOverWatched}
 use Rattle.cs_script.specs.declared.watchers.LineFault.{LineFault}
 use Rattle.cs_script.specs.declared.watchers.Onward.{Onward}
 use Rattle.cs_script.specs.declared.watchers.Onward.TheVariants.{GoOn, Stop}
-use Rattle.cs_script.specs.Watched.{GoesOnSo, Hears, RunsWatched, all_ran, ended_early, first_lines, went_on}
+use Rattle.cs_script.specs.Lines.{Said, says_put, says_get, says_delete, says_sweep, says_sync, says_step, says_plan, says_document, says_crash, says_nothing, unreadable}
+use Rattle.cs_script.specs.Scripts.{Does, said_to, status_after}
+use Rattle.cs_script.specs.declared.answers.Answer.TheVariants.{Given, Bad, Refused}
+use Rattle.cs_script.specs.Watched.{EndsStrictly, GoesOnSo, Hears, RunsToFault, RunsWatched, all_ran, all_taken, at_fault, ended_early, first_lines, next_taken, past_taken, went_on}
 
 take_yes : (x : ℕ) (xs : List ℕ) → (x == 10) ≡ true → take_through 10 (x ∷ xs) ≡ x ∷ []
 take_yes x xs e = ap (λ b. cond b (x ∷ []) (x ∷ take_through 10 xs)) e
@@ -140,3 +143,55 @@ module _ {D V : Type 0} (disks : PageDisk D) (can_crash : D → Type 0) (volatil
       → RunsOverWatched disks can_crash volatile_count meets store text watcher status told out → RunsOverInPart disks can_crash volatile_count store text status out
   over_first (Ok core) text watcher told status out (left, run) = (left, runs_first text 1 core 0 watcher left status told out run)
   over_first (Err r) text watcher told status out (is, same, printed) = (is, printed)
+
+  -- ---- where the watcher ends it at each fault
+
+  abbrev Ends : V → Type 0
+  Ends watcher = (number : ℕ) (line : List ℕ) (found : LineFault) (onward : Onward) (after : V) → meets watcher number line found onward after → onward ≡ Stop
+
+  -- a line that is taken leaves the status
+  still : (said : Said) (status : ℕ) (old new : View D) (out : List ℕ) → Does disks said old new out → status_after said status ≡ status
+  still (says_put id bytes) status old new out does = refl
+  still (says_get id) status old new out does = refl
+  still (says_delete id) status old new out does = refl
+  still (says_sweep extent) status old new out does = refl
+  still says_sync status old new out does = refl
+  still says_step status old new out does = refl
+  still says_plan status old new out does = refl
+  still says_document status old new out does = refl
+  still says_nothing status old new out does = refl
+  still (says_crash mask) status old new out does = absurd does
+  still unreadable status old new out does = absurd does
+
+  taken_still : (line : List ℕ) (old new : View D) (status after : ℕ) (out : List ℕ) → GoesOnSo disks can_crash volatile_count line old status new after None out → after ≡ status
+  taken_still line old new status after out (inl (not, ready, made, can, tells, Given, does, is, wrong)) = is ∙ still (said_to can (said_of line)) status ready new out does
+  taken_still line old new status after out (inl (not, ready, made, can, tells, Bad, does, is, (why, tests, clash))) = absurd (cc clash)
+  taken_still line old new status after out (inl (not, ready, made, can, tells, Refused r, does, is, clash)) = absurd (cc clash)
+  taken_still line old new status after out (inr (mask, is_crash, crashes, is, none)) = is
+
+  -- a line that is taken, and then the rest
+  taken_then : (text : List ℕ) (old mid : View D) (left : Option (View D)) (last : ℕ) (out rest : List ℕ) → text ≢ []
+      → GoesOnSo disks can_crash volatile_count (first_piece 10 text) old 0 mid 0 None out
+      → EndsStrictly disks can_crash volatile_count (drop_through 10 text) mid left last rest → EndsStrictly disks can_crash volatile_count text old left last (out ++ rest)
+  taken_then text old mid left last out rest some goes (inl (is, taken)) = inl (is, next_taken text old mid left out rest some goes taken)
+  taken_then text old mid left last out rest some goes (inr (inl (is, fault))) = inr (inl (is, past_taken text old mid left out rest some goes fault))
+  taken_then text old mid left last out rest some goes (inr (inr lost)) = inr (inr lost)
+
+  pub runs_strictly : (text : List ℕ) (number : ℕ) (old : View D) (status : ℕ) (watcher : V) (left : Option (View D)) (last : ℕ) (told : V) (out : List ℕ) → Ends watcher → status ≡ 0
+      → RunsWatched disks can_crash volatile_count meets text number old status watcher left last told out → EndsStrictly disks can_crash volatile_count text old left last out
+  runs_strictly t n o s w l e d p ends none (all_ran number core status watcher) = inl (none, all_taken core)
+  runs_strictly t n o s w l e d p ends none (went_on text number old mid left status after last watcher heard told first rest some (None, goes, hears) more) =
+      let line = first_piece 10 text in
+      let same : after ≡ 0 = taken_still line old mid status after first goes ∙ none in
+      let from_none = subst (λ (k : ℕ). GoesOnSo disks can_crash volatile_count line old k mid after None first) none goes in
+      let taken = subst (λ (k : ℕ). GoesOnSo disks can_crash volatile_count line old 0 mid k None first) same from_none in
+      taken_then text old mid left last first rest some taken
+      (runs_strictly (drop_through 10 text) (number + 1) mid after heard left last told rest (subst Ends (sym hears.1) ends) same more)
+  runs_strictly t n o s w l e d p ends none (went_on text number old mid left status after last watcher heard told first rest some (Some found, goes, hears) more) =
+      let clash : GoOn ≡ Stop = ends number (first_piece 10 text) found GoOn heard hears in absurd (cc clash)
+  runs_strictly t n o s w l e d p ends none (ended_early text number old left status last watcher told out some (inl (new, after, None, goes, hears, is, one))) =
+      let clash : Stop ≡ GoOn = hears.0 in absurd (cc clash)
+  runs_strictly t n o s w l e d p ends none (ended_early text number old left status last watcher told out some (inl (new, after, Some found, goes, hears, is, one))) =
+      let from_none = subst (λ (k : ℕ). GoesOnSo disks can_crash volatile_count (first_piece 10 text) old k new after (Some found) out) none goes in
+      inr (inl (one, subst (λ (o : Option (View D)). RunsToFault disks can_crash volatile_count text old o out) (sym is) (at_fault text old new after found out some from_none)))
+  runs_strictly t n o s w l e d p ends none (ended_early text number old left status last watcher told out some (inr (r, crashes, onward, met, lost, three))) = inr (inr (three, lost))

@@ -50,6 +50,23 @@ module _ {D : Type 0} (disks : PageDisk D) (can_crash : D → Type 0) (volatile_
   abbrev pub GoesOnSo : (line : List ℕ) → (old : View D) (status : ℕ) → (new : View D) (after : ℕ) → Option LineFault → List ℕ → Type 0
   GoesOnSo line old status new after found out = AnswersLine line old status new after found out ⊎ CrashesLine line old status new after found out
 
+  -- A script runs each of whose lines is taken: none is refused or can't be read, and after each crash a store is opened.
+  pub data RunsTaken : List ℕ → View D → Option (View D) → List ℕ → Type 0 where
+    all_taken : (core : View D) → RunsTaken [] core (Some core) []
+    next_taken : (text : List ℕ) (old mid : View D) (left : Option (View D)) (out rest : List ℕ)
+        → text ≢ [] → GoesOnSo (first_piece 10 text) old 0 mid 0 None out → RunsTaken (drop_through 10 text) mid left rest → RunsTaken text old left (out ++ rest)
+
+  -- A script runs up to the first line that is refused or can't be read.
+  pub data RunsToFault : List ℕ → View D → Option (View D) → List ℕ → Type 0 where
+    at_fault : (text : List ℕ) (old new : View D) (after : ℕ) (found : LineFault) (out : List ℕ)
+        → text ≢ [] → GoesOnSo (first_piece 10 text) old 0 new after (Some found) out → RunsToFault text old (Some new) out
+    past_taken : (text : List ℕ) (old mid : View D) (left : Option (View D)) (out rest : List ℕ)
+        → text ≢ [] → GoesOnSo (first_piece 10 text) old 0 mid 0 None out → RunsToFault (drop_through 10 text) mid left rest → RunsToFault text old left (out ++ rest)
+
+  -- with status 0 each line was taken, with 1 all before one that wasn't; with 3 no store was opened after a crash
+  abbrev pub EndsStrictly : List ℕ → View D → Option (View D) → (status : ℕ) → List ℕ → Type 0
+  EndsStrictly text core left status out = ((status ≡ 0) × RunsTaken text core left out) ⊎ ((status ≡ 1) × RunsToFault text core left out) ⊎ ((status ≡ 3) × (left ≡ None))
+
   module _ {V : Type 0} (meets : V → ℕ → List ℕ → LineFault → Onward → V → Type 0) where
     -- a line after which the script goes on, with what the watcher is told
     abbrev pub RunsOn : (line : List ℕ) (number : ℕ) → (old : View D) (status : ℕ) (watcher : V) → (new : View D) (after : ℕ) (told : V) → List ℕ → Type 0

@@ -26,7 +26,9 @@ pub use bad_lines::{BadLine, first_word};
 pub use checks::run_check;
 pub use cs_writeback::the_core as the_core;
 pub use outputs::{print_acknowledged, print_no_store, print_refusal};
-pub use script_laws::{a_sync_line_is_never_out_of_turn, a_watched_script_is_a_script};
+pub use script_laws::{
+    a_strict_script_takes_each_line, a_sync_line_is_never_out_of_turn, a_watched_script_is_a_script,
+};
 pub use script_stores::{run_over, run_over_watched};
 pub use scripts::{Ran, run_script, run_watched};
 pub use watchers::{LineFault, Onward, Unwatched, Watcher};

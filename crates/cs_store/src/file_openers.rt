@@ -10,7 +10,7 @@ ghost use Rattle.cs_store.specs.Devices.{IsFileRefusal};
 use crate::devices::pages_said;
 use crate::errors::OpenError;
 use cs_disk::{Access, DiskFault, FileDisk, FileFault, OpenFault, PageDisk, ReadOnly, SystemFault};
-use cs_mount::{Chosen, two_stores};
+use cs_mount::{Chosen, Remade, two_stores};
 use std::alloc::Global;
 use std::fs::File;
 use std::os::unix::fs::FileTypeExt;
@@ -39,6 +39,12 @@ impl OverFile for FileDisk {
 impl OverFile for Chosen<ReadOnly<FileDisk>> {
     fn fault(&self) -> Option<SystemFault> {
         self.below().below().last_fault()
+    }
+}
+
+impl OverFile for Remade<Chosen<ReadOnly<FileDisk>>> {
+    fn fault(&self) -> Option<SystemFault> {
+        self.below().fault()
     }
 }
 

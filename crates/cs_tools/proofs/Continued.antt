@@ -4,10 +4,7 @@ use Rattle.std.proofs.lemmas.List.{append-nil}
 use Rattle.std.specs.Prelude.{Option}
 use Rattle.std.specs.Io.KnownBytes.{Appends, Keeps}
 use Rattle.cs_tools.specs.Stats.{BeginsWith, GoesOn, dimensions_text}
-use Rattle.cs_frame.specs.declared.identities.StoreId.{StoreId}
-use Rattle.cs_tools.specs.Tellings.{GrowsWith, two_text}
-use Rattle.cs_tools.specs.declared.advices.Todo.{Todo}
-use Rattle.cs_tools.specs.declared.advices.Todo.TheVariants.{TwoStores}
+use Rattle.cs_tools.specs.Tellings.{GrowsWith}
 use Rattle.cs_tools.specs.declared.outputs.Style.{Style}
 use Rattle.cs_tools.proofs.Appended.{appends_kept, appends_same, appends_then}
 
@@ -48,10 +45,3 @@ grows_behind a b c text (more, h) (front, behind, k) =
 pub grows_on : (a b c : Option (List ℕ)) (text : List ℕ) → GrowsWith a b text → GoesOn b c → GrowsWith a c text
 grows_on a b c text (front, behind, h) (more, k) =
     (front, behind ++ more, appends_same a c ((front ++ text ++ behind) ++ more) (front ++ text ++ (behind ++ more)) (append_assoc (front ++ text) behind more) (appends_then a b c (front ++ text ++ behind) more h k))
-
--- two identities are told as they are named
-pub two_named : (todo : Todo) (f l first last : StoreId) → todo ≡ TwoStores f l → todo ≡ TwoStores first last → two_text f.0 l.0 ≡ two_text first.0 last.0
-two_named todo f l first last is told =
-    let one : f ≡ first = cc (is, told) in
-    let other : l ≡ last = cc (is, told) in
-    ap (λ (id : StoreId). two_text id.0 l.0) one ∙ ap (λ (id : StoreId). two_text first.0 id.0) other

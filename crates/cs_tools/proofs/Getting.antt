@@ -8,7 +8,9 @@ use Rattle.law_machine.specs.Element.{Bytes, Content}
 use Rattle.cs_store.specs.declared.errors.GetError.{GetError}
 use Rattle.cs_store.specs.declared.errors.GetError.TheVariants as get
 use Rattle.cs_store.specs.Errors.{get_refusal}
-use Rattle.cs_tools.specs.Gets.{Gets}
+use Rattle.cs_core.specs.Lookups.{AreMeantBytes}
+use Rattle.cs_core.specs.Stored.{Stored}
+use Rattle.cs_tools.specs.Gets.{Gets, MeansGet}
 use Rattle.cs_tools.specs.declared.outcomes.Outcome.{Outcome}
 use Rattle.cs_tools.specs.declared.outcomes.Outcome.TheVariants.{Absent, Done, Failed, Unread}
 
@@ -16,6 +18,11 @@ use Rattle.cs_tools.specs.declared.outcomes.Outcome.TheVariants.{Absent, Done, F
 pub got_out : (content : Option Content) (bytes : List ℕ) (before after : Option (List ℕ)) (o : Outcome) → content ≡ Some (Bytes bytes) → ((o ≡ Done) × Appends before after bytes) ⊎ (o ≡ Failed) → Gets content before after o
 got_out content bytes before after o is (inl h) = subst (Gets content before after) (sym h.0) (bytes, is, h.1)
 got_out content bytes before after o is (inr h) = subst (Gets content before after) (sym h) tt
+
+-- whatever the disk did
+pub meant_out : (v : Stored) (id : ℕ) (bytes : List ℕ) (before after : Option (List ℕ)) (o : Outcome) → AreMeantBytes v id bytes → ((o ≡ Done) × Appends before after bytes) ⊎ (o ≡ Failed) → MeansGet v id before after o
+meant_out v id bytes before after o meant (inl h) = subst (MeansGet v id before after) (sym h.0) (bytes, meant, h.1)
+meant_out v id bytes before after o meant (inr h) = subst (MeansGet v id before after) (sym h) tt
 
 -- ---- that there is nothing
 

@@ -1,3 +1,4 @@
+pub mod Advising
 pub mod Appended
 pub mod Changing
 pub mod Continued
@@ -12,6 +13,7 @@ pub mod Knowing
 pub mod Payloads
 pub mod Putting
 pub mod Quiet
+pub mod Readable
 pub mod Reading
 pub mod Rescuing
 pub mod Resting
@@ -19,6 +21,12 @@ pub mod Retelling
 pub mod Salvaging
 pub mod Scrubbing
 pub mod Still
+pub mod Telling
 pub mod Tidying
 pub mod Copying
 pub mod Meant
+pub mod Doctoring
+pub mod DoctorCounting
+pub mod DoctorOpening
+pub mod DoctorWriting
+pub mod Stepping

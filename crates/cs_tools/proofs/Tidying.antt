@@ -57,18 +57,19 @@ shard_read {D = D} state old new m s id bytes id_of bytes_of (Some shard) whole 
 
 module _ {D : Type 0} (disks : PageDisk D) where
   pub tidies_none : (v : View D) → Tidies disks v v
-  tidies_none v = record { ran = ran_none disks v; honest = (λ h. h, λ h. h); map = λ honest m has. has }
+  tidies_none v = record { ran = ran_none disks v; shape = refl; honest = (λ h. h, λ h. h); map = λ honest m has. has }
 
   pub tidies_then : (a b c : View D) → Tidies disks a b → Tidies disks b c → Tidies disks a c
   tidies_then a b c p q = record {
     ran = ran_then disks a b c p.ran q.ran;
+    shape = q.shape ∙ p.shape;
     honest = (λ h. q.honest.0 (p.honest.0 h), λ h. p.honest.1 (q.honest.1 h));
     map = λ honest m has. q.map (p.honest.0 honest) m (p.map honest m has);
   }
 
   -- calls that accept no command
   pub tidies_quiet : (a b : View D) → Accepts disks [] a b → Ran disks a b → Tidies disks a b
-  tidies_quiet a b accepts ran = record { ran = ran; honest = accepts.honest; map = λ honest m has. map_kept disks a b accepts m has }
+  tidies_quiet a b accepts ran = record { ran = ran; shape = accepts.same_shape; honest = accepts.honest; map = λ honest m has. map_kept disks a b accepts m has }
 
   -- reads
   pub tidies_read : (a b : View D) → b ≡ record a { disk = b.disk } → OnlyReads disks a.disk b.disk
@@ -94,6 +95,7 @@ module _ {D : Type 0} (disks : PageDisk D) where
           time = reads.time;
           crash = crash;
         });
+        shape = ap (λ (v : View D). shape v.store.extents) same;
         honest = reads.honesty;
         map = λ honest m has. subst (λ (v : View D). HasMap v m) (sym same) (record { start = has.start; found = has.found; after = has.after });
       }
@@ -129,6 +131,7 @@ module _ {D : Type 0} (disks : PageDisk D) where
       → IfOk r (λ reply. Goes disks a (Put id bytes) reply b) → IfErr r (λ refusal. IsStopped disks a [] (Put id bytes) refusal b) → IsCall disks a b → Tidies disks a b
   tidies_put a b id bytes (Ok reply) there goes stopped call = record {
     ran = ran_call disks a b call;
+    shape = (put_accepts a b id bytes reply goes).same_shape;
     honest = goes.stays_honest;
     map = λ honest m has. put_kept a b id bytes reply m (there honest m has) has (put_accepts a b id bytes reply goes);
   }

@@ -2,8 +2,11 @@
 use Rattle.std.specs.Prelude.{◌==◌, ◌&&◌, ◌||◌, ℕ, Bool, true, false, List, [], ◌∷◌, codes, nat_le}
 use Rattle.cs_refusal.specs.Refusals.{number_of}
 use Rattle.cs_refusal.specs.declared.refusals.Refusal.{Refusal}
+use Rattle.cs_frame.specs.declared.formats.FormatNumber.TheVariants.{Two}
 use Rattle.cs_tools.specs.declared.advices.Todo.{Todo}
 use Rattle.cs_tools.specs.declared.advices.Todo.TheVariants.{Length, Make, Move, Text, TwoStores, Written}
+use Rattle.cs_tools.specs.declared.knowns.Content.{Content}
+use Rattle.cs_tools.specs.declared.knowns.Content.TheVariants as content
 
 -- the text begins with this word
 abbrev pub begins : (word text : List ℕ) → Bool
@@ -48,3 +51,24 @@ says_how_to_move text =
 -- the refusal is of a page, or of a file that holds no store: 20 to 27, or 43
 abbrev pub is_of_pages : Refusal → Bool
 is_of_pages r = (nat_le 20 (number_of r) && nat_le (number_of r) 27) || number_of r == 43
+
+-- The refusal is of a store that is damaged or isn't opened, or of a page of it that can't be read: 20 to 29, or 43.
+abbrev pub is_of_store : Refusal → Bool
+is_of_store r = (nat_le 20 (number_of r) && nat_le (number_of r) 29) || number_of r == 43
+
+-- the text names a command, or an option of one, by which what is in a file is gone
+abbrev pub erases : List ℕ → Bool
+erases text = has_word (codes "--force") text || has_word (codes "--new") text || has_word (codes "`rm ") text || has_word (codes "`dd ") text
+
+-- the first step that the text names is a command that only reads
+abbrev pub asks_doctor : List ℕ → Bool
+asks_doctor text = begins (codes "First run `doctor FILE`: it only reads") text
+
+-- What is known of the file says by itself what to do about this refusal: the file is empty, or it holds pages of two
+-- stores, a store of format 3, or one of format 2 that is read in a way which it hasn't.
+abbrev pub is_clear : Refusal → Content → Bool
+is_clear r content.Empty = true
+is_clear r (content.TwoStores first last) = true
+is_clear r content.Superseded = true
+is_clear r (content.Store Two) = number_of r == 43
+is_clear r known = false

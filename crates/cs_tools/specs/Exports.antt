@@ -110,30 +110,32 @@ Exports m from failed failed_then before after (Unopened f) = ⊥
 Exports m from failed failed_then before after MayBeLost = ⊥
 Exports m from failed failed_then before after (Unread r) = ⊥
 
--- what is told of the shard with this identifier is bytes that its places in the index mean, or why they can't be read
-abbrev pub IsMeantOf : Stored → ShardId → Shard → Type 0
-IsMeantOf v id (told, Ok bytes) = (told ≡ id) × AreMeantBytes v (id_number id) bytes
-IsMeantOf v id (told, Err r) = told ≡ id
+-- What is told of the shard with this identifier is bytes that its places in the index mean, or why they can't be read: 1 only where the disk's count of failures
+-- rose from the one to the other, or stood at its end.
+abbrev pub IsMeantOf : Stored → (failed failed_then : ℕ) → ShardId → Shard → Type 0
+IsMeantOf v failed failed_then id (told, Ok bytes) = (told ≡ id) × AreMeantBytes v (id_number id) bytes
+IsMeantOf v failed failed_then id (told, Err r) = (told ≡ id) × (r ≡ DeviceFault → Rises failed failed_then)
 
--- Whatever the disk does: the script of all shards from one identifier on that have places in the index was written out, and whether all could be read.
-pub record IsMeantExport (v : Stored) (from : ℕ) (before after : Option (List ℕ)) (whole : Bool) : Type 0 where
+-- Whatever the disk does: the script of all shards from one identifier on that have places in the index was written out, and whether all could be read, with these
+-- counts of the disk's failures before and after.
+pub record IsMeantExport (v : Stored) (from failed failed_then : ℕ) (before after : Option (List ℕ)) (whole : Bool) : Type 0 where
   pub ids : List ShardId
   pub all : AreAllFrom (λ id. live_at (index_of v.index) id ≢ []) from (map id_number ids)
   pub shards : List Shard
-  pub told : AllZip (IsMeantOf v) ids shards
+  pub told : AllZip (IsMeantOf v failed failed_then) ids shards
   pub whole_is : whole ≡ list_all is_whole shards
   pub text : List ℕ
   pub script : IsScript shards text
   pub written : Appends before after text
 
 -- it is done only if all could be read
-abbrev pub MeansExport : Stored → (from : ℕ) → (before after : Option (List ℕ)) → Outcome → Type 0
-MeansExport v from before after Done = IsMeantExport v from before after true
-MeansExport v from before after Damaged = IsMeantExport v from before after false
-MeansExport v from before after (Refused r) = Unit {0}
-MeansExport v from before after Failed = Unit {0}
-MeansExport v from before after Absent = ⊥
-MeansExport v from before after (NoStore r) = ⊥
-MeansExport v from before after (Unread r) = ⊥
-MeansExport v from before after (Unopened f) = ⊥
-MeansExport v from before after MayBeLost = ⊥
+abbrev pub MeansExport : Stored → (from failed failed_then : ℕ) → (before after : Option (List ℕ)) → Outcome → Type 0
+MeansExport v from failed failed_then before after Done = IsMeantExport v from failed failed_then before after true
+MeansExport v from failed failed_then before after Damaged = IsMeantExport v from failed failed_then before after false
+MeansExport v from failed failed_then before after (Refused r) = Unit {0}
+MeansExport v from failed failed_then before after Failed = Unit {0}
+MeansExport v from failed failed_then before after Absent = ⊥
+MeansExport v from failed failed_then before after (NoStore r) = ⊥
+MeansExport v from failed failed_then before after (Unread r) = ⊥
+MeansExport v from failed failed_then before after (Unopened f) = ⊥
+MeansExport v from failed failed_then before after MayBeLost = ⊥

@@ -2,6 +2,7 @@ pub mod Changes
 pub mod Exports
 pub mod Gets
 pub mod Graphs
+pub mod Headers
 pub mod Knowns
 pub mod Outcomes
 pub mod Outputs
@@ -13,5 +14,12 @@ pub mod Scrubs
 pub mod Stats
 pub mod Repairs
 pub mod Tellings
+pub mod Texts
+pub mod Advised
 pub mod Copies
 pub mod Advices
+pub mod Doctor
+pub mod DoctorCounts
+pub mod DoctorReports
+pub mod DoctorStores
+pub mod Steps

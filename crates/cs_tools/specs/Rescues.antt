@@ -22,6 +22,19 @@ Rescues f view id before after (Ended (Unopened fault)) = ⊥
 Rescues f view id before after (Ended MayBeLost) = ⊥
 Rescues f view id before after RunLost = IsUnknown f id × (after ≡ before)
 
+-- Whatever the disk does: bytes that the identifier's places mean are written out, and nothing else; or nothing is written; or the writer failed.
+abbrev pub MeansGot : Found → (id : ℕ) → (before after : Option (List ℕ)) → Got → Type 0
+MeansGot f id before after (Ended Done) = (bytes : List ℕ) × AreMeantBytes f id bytes × Appends before after bytes
+MeansGot f id before after (Ended Absent) = after ≡ before
+MeansGot f id before after (Ended (Unread r)) = after ≡ before
+MeansGot f id before after (Ended Failed) = Unit {0}
+MeansGot f id before after (Ended Damaged) = ⊥
+MeansGot f id before after (Ended (Refused r)) = ⊥
+MeansGot f id before after (Ended (NoStore r)) = ⊥
+MeansGot f id before after (Ended (Unopened fault)) = ⊥
+MeansGot f id before after (Ended MayBeLost) = ⊥
+MeansGot f id before after RunLost = after ≡ before
+
 -- the exit status of each
 abbrev pub status_of_got : Got → ℕ
 status_of_got (Ended outcome) = status_of outcome

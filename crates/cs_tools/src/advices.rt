@@ -1,9 +1,14 @@
 //! What a refusal means, and what to do about it.
-ghost use Rattle.std.specs.Prelude.{◌≡◌, ◌≢◌, ◌<◌, false, length, true};
-ghost use Rattle.cs_tools.specs.Advices.{is_of_pages, moving_words, says_how_to_move, says_make, words_of};
+ghost use Rattle.std.specs.Prelude.{◌≡◌, ◌≢◌, ◌<◌, [], false, length, true};
+ghost use Rattle.cs_refusal.specs.declared.refusals.Refusal.{Refusal as Why};
+ghost use Rattle.cs_tools.specs.Advised.{advice_text, call_text, content_text, damage_text, format_text, loss_text, not_empty_text, run_lost_text, system_advice, todo_members, todo_text};
+ghost use Rattle.cs_tools.specs.Advices.{asks_doctor, erases, is_clear, is_of_pages, is_of_store, moving_words, says_how_to_move, says_make, words_of};
+ghost use Rattle.cs_tools.specs.Tellings.{content_members, members_of};
+ghost use Rattle.cs_tools.specs.Texts.{meaning_text, system_text};
 ghost use Rattle.cs_tools.specs.declared.advices.Todo.TheVariants.{Make};
 ghost use Rattle.cs_tools.specs.declared.advices.Todo.TheVariants as todo;
 ghost use Rattle.cs_tools.specs.declared.knowns.Content.TheVariants.{Empty, Superseded, TwoStores, Written};
+ghost use Rattle.cs_tools.specs.declared.knowns.Known.{Known as KnownFile};
 
 use crate::knowns::{Content, Known};
 use cs_disk::SystemFault;
@@ -29,19 +34,23 @@ pub enum Todo {
 
 /// Of a damaged page.
 const DAMAGED: &str =
-    "A page is damaged. A shard: put it again or delete it; others aren't affected. The whole store: restore the file from a copy, or read what is left by `--salvage`. `scrub` lists what is damaged.";
+    "First run `doctor FILE`: it only reads, and reports what is there and what to do next. A damaged shard: put it again or delete it; others aren't affected. The whole store: restore the file from a copy, or read what is left by `--salvage`. `scrub` lists what is damaged.";
 
 /// Of a whole frame that isn't the one that its place means.
 const MISPLACED: &str =
-    "A write went to a wrong page, or was lost: look to the device, and to what copies the file. A shard: put it again or delete it; others aren't affected. The whole store: restore the file from a copy, or read what is left by `--salvage`. `scrub` lists what is misplaced.";
+    "First run `doctor FILE`: it only reads, and reports what is there and what to do next. A write went to a wrong page, or was lost: look to the device, and to what copies the file. A shard: put it again or delete it; others aren't affected. The whole store: restore the file from a copy, or read what is left by `--salvage`. `scrub` lists what is misplaced.";
 
 /// Of a root that is older than one that was persistent.
 const ROOT_LOST: &str =
-    "The root is older than one that was persistent, so commands that were acknowledged would be lost. Look to the device, and to what copies the file, and restore the file from a copy. `--as-of` reads what is left.";
+    "First run `doctor FILE`: it only reads, and reports what is there and what to do next. The root is older than one that was persistent, so commands that were acknowledged would be lost. Look to the device, and to what copies the file, and restore the file from a copy. `--as-of` reads what is left.";
 
 /// Of a file in which a superblock names a store that can't be opened for its other pages.
 const NOT_WHOLE: &str =
-    "The file holds a store, but not all of it is there as it was written. Restore the file from a copy, or read what is left by `--salvage`.";
+    "First run `doctor FILE`: it only reads, and reports what is there and what to do next. The file holds a store, but not all of it is there as it was written. Restore the file from a copy, or read what is left by `--salvage`.";
+
+/// Of a page that can't be read and may be the newer one of two.
+const UNREADABLE: &str =
+    "First run `doctor FILE`: it only reads, and reports what is there and what to do next. The store has another copy of the page, and commands that only read go by it. Then `copy` the shards into another file, or add `--accept-loss` to the command, which writes over the page. Either way the commands of the last sync are lost if only the page that can't be read had them.";
 
 /// Of a store of an older format that is read in a way that it hasn't.
 const OLDER: &str =
@@ -49,19 +58,19 @@ const OLDER: &str =
 
 /// Of a store of format 2 of whose superblock or root a page isn't whole.
 const BROKEN: &str =
-    "A page is damaged that the store needs, and a store of format 2 has no other copy of it: restore the file from a copy.";
+    "First run `doctor FILE`: it only reads, and reports what is there and what to do next. A page is damaged that the store needs, and a store of format 2 has no other copy of it: restore the file from a copy.";
 
 /// Of a store of whose superblock or root neither copy is whole.
 const TORN: &str =
-    "Neither copy of a page is whole that the store needs. Copy the file before anything else is done with it, and restore it from an older copy; `export --salvage` reads the shards without the root.";
+    "First run `doctor FILE`: it only reads, and reports what is there and what to do next. Neither copy of a page is whole that the store needs. Copy the file before anything else is done with it, and restore it from an older copy; `export --salvage` reads the shards without the root.";
 
 /// Of a file with a root and no superblock.
 const LEFT: &str =
-    "The file holds what is left of a store: its root is whole, and no copy of its superblock. Copy it before anything else is done with it, and restore it from an older copy.";
+    "First run `doctor FILE`: it only reads, and reports what is there and what to do next. The file holds what is left of a store: its root is whole, and no copy of its superblock. Copy it before anything else is done with it, and restore it from an older copy.";
 
 /// Of a file that holds something else, as far as can be told.
 const FOREIGN: &str =
-    "The file holds no store, or none that can be recognised: look at its name. If it held one, restore it from a copy.";
+    "First run `doctor FILE`: it only reads, and reports what is there and what to do next. The file holds no store, or none that can be recognised: look at its name. If it held one, restore it from a copy.";
 
 /// Of a store of format 3.
 const SUPERSEDED: &str =
@@ -69,11 +78,12 @@ const SUPERSEDED: &str =
 
 /// Of a file that wasn't looked into.
 const NO_STORE: &str =
-    "The file holds no store, or not all of one: look at its name, or restore it from a copy.";
+    "First run `doctor FILE`: it only reads, and reports what is there and what to do next. The file holds no store, or not all of one: look at its name, or restore it from a copy.";
 
 /// What a refusal means, in a few words.
 pub fn meaning(refusal: Refusal) -> &'static str
-    ensures { 0 < length result.now }
+    ensures text { result.now ≡ meaning_text refusal }
+    ensures some { 0 < length result.now }
 {
     match refusal {
         Refusal::DeviceFault => "the file can't be read or written",
@@ -117,7 +127,8 @@ pub fn meaning(refusal: Refusal) -> &'static str
 
 /// Why the system refused a call, in a few words.
 pub fn system_text(fault: SystemFault) -> &'static str
-    ensures { 0 < length result.now }
+    ensures text { result.now ≡ system_text fault }
+    ensures some { 0 < length result.now }
 {
     match fault {
         SystemFault::NotThere => "there is no such file",
@@ -131,8 +142,13 @@ pub fn system_text(fault: SystemFault) -> &'static str
 }
 
 /// What to do about a refusal, by what is known of the file. Making a store is advised only if the file is
-/// empty.
+/// empty. No advice about a damaged store names a command that erases what is there.
 pub fn advice(refusal: Refusal, known: &Known) -> Todo
+    // It says exactly this, by the refusal and by what the file holds.
+    ensures text { todo_text result ≡ advice_text refusal known.now }
+    ensures members { todo_members result ≡ members_of refusal known.now }
+    // Of a store that is damaged or isn't opened no command is named that erases.
+    ensures keeps { is_of_store refusal ≡ true → erases (todo_text result) ≡ false }
     ensures make { result ≡ Make → known.now.content ≡ Empty }
     ensures words { says_make (words_of result) ≡ false }
     // Of pages of two stores both are named.
@@ -155,6 +171,7 @@ pub fn advice(refusal: Refusal, known: &Known) -> Todo
         | Refusal::OutOfOrder
         | Refusal::Misplaced
         | Refusal::RootLost => advice_of_content(refusal, known.content),
+        Refusal::Unreadable => Todo::Text(UNREADABLE),
         Refusal::NotEmpty => advice_of_written(known.content),
         _ => Todo::Text(advice_of_call(refusal)),
     }
@@ -162,6 +179,8 @@ pub fn advice(refusal: Refusal, known: &Known) -> Todo
 
 /// What to do about a file or a device that isn't empty, by what is known of it.
 fn advice_of_written(content: Content) -> Todo
+    ensures text { todo_text result ≡ not_empty_text content }
+    ensures members { todo_members result ≡ [] }
     ensures make { result ≢ Make }
     ensures moves { (text : _) → result ≢ todo.Move text }
     ensures words { says_make (words_of result) ≡ false }
@@ -175,6 +194,9 @@ fn advice_of_written(content: Content) -> Todo
 
 /// What to do about a page that isn't as it must be, by what the file holds.
 fn advice_of_content(refusal: Refusal, content: Content) -> Todo
+    ensures text { todo_text result ≡ content_text content refusal }
+    ensures members { todo_members result ≡ content_members content }
+    ensures keeps { erases (todo_text result) ≡ false }
     ensures make { result ≡ Make → content ≡ Empty }
     ensures words { says_make (words_of result) ≡ false }
     ensures two { (first last : _) → content ≡ TwoStores first last → result ≡ todo.TwoStores first last }
@@ -199,6 +221,8 @@ fn advice_of_content(refusal: Refusal, content: Content) -> Todo
 
 /// What to do about a page of a store of this format.
 fn advice_of_store(refusal: Refusal, format: FormatNumber) -> &'static str
+    ensures text { result.now ≡ damage_text refusal (format_text format) }
+    ensures keeps { erases result.now ≡ false }
     ensures some { 0 < length result.now }
     ensures words { says_make result.now ≡ false }
 {
@@ -213,6 +237,9 @@ fn advice_of_store(refusal: Refusal, format: FormatNumber) -> &'static str
 fn advice_of_damage(refusal: Refusal, other: &'static str) -> &'static str
     requires some { 0 < length other.now }
     requires words { says_make other.now ≡ false }
+    requires keeps { erases other.now ≡ false }
+    ensures text { result.now ≡ damage_text refusal other.now }
+    ensures keeps { erases result.now ≡ false }
     ensures some { 0 < length result.now }
     ensures words { says_make result.now ≡ false }
 {
@@ -226,12 +253,13 @@ fn advice_of_damage(refusal: Refusal, other: &'static str) -> &'static str
 
 /// What to do if the system refused a call for this reason.
 pub fn advice_of_system(fault: Option<SystemFault>) -> &'static str
+    ensures text { result.now ≡ system_advice fault }
     ensures some { 0 < length result.now }
     ensures words { says_make result.now ≡ false }
 {
     match fault {
         None => {
-            "The device failed, or the file can't be used: `ls -l`, `lsof` and `df` tell which."
+            "First run `doctor FILE`: it only reads, and reports what can be read. The device failed, or the file can't be used: `ls -l`, `lsof` and `df` tell which."
         }
         Some(SystemFault::NotThere) => {
             "Look at the name: `ls -l` of its folder shows what is there."
@@ -250,19 +278,20 @@ pub fn advice_of_system(fault: Option<SystemFault>) -> &'static str
             "Commands that only read need no more. For others mount the file system so that it can be written, or copy the file."
         }
         Some(SystemFault::Failed) => {
-            "Look at the system's log (`dmesg`) and at the device, and copy the file before anything else is done with it."
+            "First run `doctor FILE`: it only reads, and reports what can be read. Look at the system's log (`dmesg`) and at the device, and copy the file before anything else is done with it."
         }
     }
 }
 
 /// What to do about a refusal that isn't of a page or of the device.
 fn advice_of_call(refusal: Refusal) -> &'static str
+    ensures text { result.now ≡ call_text refusal }
     ensures some { 0 < length result.now }
     ensures words { says_make result.now ≡ false }
 {
     match refusal {
         Refusal::OddLength => {
-            "The file is cut, has something behind its end, or holds no store. Copy it, and bring the copy to a multiple of 4,096 bytes by `truncate -s /4096 COPY` (down) or `truncate -s %4096 COPY` (up): what is refused then says how many pages its superblock names."
+            "First run `doctor FILE`: it only reads, and reports what is there and what to do next. The file is cut, has something behind its end, or holds no store. Copy it, and bring the copy to a multiple of 4,096 bytes by `truncate -s /4096 COPY` (down) or `truncate -s %4096 COPY` (up): what is refused then says how many pages its superblock names."
         }
         Refusal::BadGeometry => {
             "A store has 5 to 7,680 extents of 2 to 65,535 pages, and 1 to 15 sections of at most 512 extents; one of format 2 has 4 to 2,048 of 2 to 256, and 1 to 8 sections."
@@ -295,3 +324,14 @@ fn advice_of_call(refusal: Refusal) -> &'static str
         _ => "Report it, with what led to it.",
     }
 }
+
+/// A law: what is advised loses nothing. About a damaged store the first step is a command that only reads.
+pub fn what_is_advised_loses_nothing()
+    // About a damaged store `doctor` comes first, unless what is known of the file says by itself what to do.
+    ensures first { (r : Why) (known : KnownFile) → is_of_store r ≡ true → is_clear r known.content ≡ false → asks_doctor (advice_text r known) ≡ true }
+    // A command that erases is named only about a file that isn't empty, where a store was to be made.
+    ensures keeps { (r : Why) (known : KnownFile) → r ≢ Refusal.NotEmpty → erases (advice_text r known) ≡ false }
+    // The same of a get that can't know whether there is a shard, and of a repair that stopped.
+    ensures run_lost { (asks_doctor run_lost_text ≡ true) × (erases run_lost_text ≡ false) }
+    ensures stopped { (asks_doctor loss_text ≡ true) × (erases loss_text ≡ false) }
+{}

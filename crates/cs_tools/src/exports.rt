@@ -37,8 +37,9 @@ pub fn export<D: PageDisk, P: Progress, W: Write>(
     writer: &mut W,
 ) -> Outcome
     ensures script { (m : Map) → HasMap core.old m → D.honest core.old.disk → Exports m (id_number from) (D.failure_count core.old.disk) (D.failure_count core.new.disk) (W.contents writer.old) (W.contents writer.new) result }
-    // Whatever the disk does, each `put` line has bytes that the shard's places mean, and it is done only if all shards could be read.
-    ensures meant { MeansExport core.old.store (id_number from) (W.contents writer.old) (W.contents writer.new) result }
+    // Whatever the disk does, each `put` line has bytes that the shard's places mean, a remark reports 1 only if the disk's count of
+    // failures rose, and it is done only if all shards could be read.
+    ensures meant { MeansExport core.old.store (id_number from) (D.failure_count core.old.disk) (D.failure_count core.new.disk) (W.contents writer.old) (W.contents writer.new) result }
     ensures ends { (result ≡ Done) ⊎ (result ≡ Damaged) ⊎ (result ≡ Refused Refusal.OutOfMemory) ⊎ (result ≡ Failed) }
     // Where it is refused nothing was written.
     ensures untouched { (r : Why) → result ≡ Refused r → writer.new ≡ writer.old }
@@ -69,7 +70,7 @@ fn print_shards<D: PageDisk, P: Progress, W: Write>(
         → IfOk result (λ whole. (shards : List Shard) × AreReadOf (map_now s) (D.failure_count core.old.disk) (D.failure_count core.new.disk) ids.now whole shards
         × ((text : List ℕ) × IsScript shards text × Appends (W.contents writer.old) (W.contents writer.new) text)) }
     ensures meant { AllByRecursion (λ id. live_at (index_of core.old.store.index) (id_number id) ≢ []) ids.now
-        → IfOk result (λ whole. (shards : List Shard) × AllZip (IsMeantOf core.old.store) ids.now shards × (whole ≡ list_all is_whole shards)
+        → IfOk result (λ whole. (shards : List Shard) × AllZip (IsMeantOf core.old.store (D.failure_count core.old.disk) (D.failure_count core.new.disk)) ids.now shards × (whole ≡ list_all is_whole shards)
         × ((text : List ℕ) × IsScript shards text × Appends (W.contents writer.old) (W.contents writer.new) text)) }
     ensures same { core.new ≡ record core.old { disk = core.new.disk } }
     ensures disk { OnlyReads D.PageDisk core.old.disk core.new.disk }
@@ -97,7 +98,7 @@ fn print_piece<D: PageDisk, W: Write>(
         → IfOk result (λ whole. (shards : List Shard) × AreReadOf (map_now s) (D.failure_count core.old.disk) (D.failure_count core.new.disk) ids.now whole shards
         × Appends (W.contents writer.old) (W.contents writer.new) (piece_lines shards)) }
     ensures meant { AllByRecursion (λ id. live_at (index_of core.old.store.index) (id_number id) ≢ []) ids.now
-        → IfOk result (λ whole. (shards : List Shard) × AllZip (IsMeantOf core.old.store) ids.now shards × (whole ≡ list_all is_whole shards)
+        → IfOk result (λ whole. (shards : List Shard) × AllZip (IsMeantOf core.old.store (D.failure_count core.old.disk) (D.failure_count core.new.disk)) ids.now shards × (whole ≡ list_all is_whole shards)
         × Appends (W.contents writer.old) (W.contents writer.new) (piece_lines shards)) }
     ensures same { core.new ≡ record core.old { disk = core.new.disk } }
     ensures disk { OnlyReads D.PageDisk core.old.disk core.new.disk }
@@ -122,7 +123,7 @@ fn print_shard<D: PageDisk, W: Write>(
         × Appends (W.contents writer.old) (W.contents writer.new) (shard_line shard)) }
     // Whatever the disk does, a `put` line has bytes that the shard's places mean.
     ensures meant { live_at (index_of core.old.store.index) (id_number id) ≢ []
-        → IfOk result (λ whole. (shard : Shard) × IsMeantOf core.old.store id shard × (whole ≡ is_whole shard) × Appends (W.contents writer.old) (W.contents writer.new) (shard_line shard)) }
+        → IfOk result (λ whole. (shard : Shard) × IsMeantOf core.old.store (D.failure_count core.old.disk) (D.failure_count core.new.disk) id shard × (whole ≡ is_whole shard) × Appends (W.contents writer.old) (W.contents writer.new) (shard_line shard)) }
     ensures same { core.new ≡ record core.old { disk = core.new.disk } }
     ensures disk { OnlyReads D.PageDisk core.old.disk core.new.disk }
 {

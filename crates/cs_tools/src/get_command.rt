@@ -8,7 +8,7 @@ ghost use Rattle.cs_index.specs.State.{id_number, index_of};
 ghost use Rattle.law_machine.specs.Element.{Map};
 ghost use Rattle.law_machine.specs.Index.{live_at};
 ghost use Rattle.cs_store.specs.Maps.{HasMap};
-ghost use Rattle.cs_tools.specs.Gets.{Gets};
+ghost use Rattle.cs_tools.specs.Gets.{Gets, MeansGet};
 ghost use Rattle.cs_tools.specs.declared.outcomes.Outcome.TheVariants.{Absent, Done, Failed, Unread};
 
 use crate::outcomes::Outcome;
@@ -21,6 +21,8 @@ use std::io::Write;
 /// Writes out the bytes under an identifier, and nothing else.
 pub fn get<D: PageDisk, W: Write>(store: &mut Store<D>, id: ShardId, writer: &mut W) -> Outcome
     ensures answer { (m : Map) → HasMap store.old m → D.honest store.old.disk → Gets (m (id_number id)) (W.contents writer.old) (W.contents writer.new) result }
+    // Whatever the disk does, what is written out is bytes that the shard's places mean, and it is done only then.
+    ensures meant { MeansGet store.old.store (id_number id) (W.contents writer.old) (W.contents writer.new) result }
     // Whatever the disk does, it ends as absent exactly if the index has no places of the shard's chunks.
     ensures absent { (result ≡ Absent) ↔ (live_at (index_of store.old.store.index) (id_number id) ≡ []) }
     // It reports 1 only if the disk's count of failures rose, or stood at its end.

@@ -6,9 +6,19 @@ mod benches;
 mod commits;
 mod copy_command;
 mod delete_command;
+mod diagnoses;
+mod diagnosing;
+mod diagnosis_counts;
+mod diagnosis_steps;
+mod doctor;
+mod doctor_json;
+mod doctor_report;
+mod doctor_stores;
+mod doctor_texts;
 mod exports;
 mod get_command;
 mod graph_command;
+mod headers;
 mod knowns;
 mod list_command;
 mod outcomes;
@@ -27,10 +37,19 @@ mod stats;
 mod tellings;
 mod timings;
 
-pub use advices::{Todo, advice, meaning};
+pub use advices::{Todo, advice, meaning, what_is_advised_loses_nothing};
 pub use benches::{Load, bench};
 pub use copy_command::copy;
 pub use delete_command::delete;
+pub use diagnoses::{
+    Deep, Diagnosis, FileDiagnosis, Frames, HeadFound, Looked, Opening, PairFound, Rest, RootFound,
+    RunFound, StoreFound,
+};
+pub use diagnosing::diagnose;
+pub use diagnosis_steps::{Step, steps_of};
+pub use doctor::{Depth, first_geometry, look_into};
+pub use doctor_report::report;
+pub use doctor_stores::find_store;
 pub use exports::export;
 pub use get_command::get;
 pub use graph_command::graph;
@@ -43,7 +62,7 @@ pub use put_command::{most_bytes, put};
 pub use reclaim_command::reclaim;
 pub use repairs::{may_be_lost, stop_repair};
 pub use rescues::{Got, explain_got, get_rescued, list_rescued, open_rescue};
-pub use salvages::{Salvaged, export_salvaged, salvage};
+pub use salvages::{Named, Salvaged, export_salvaged, geometry_to_salvage, look_up, salvage};
 pub use scans::greatest_command;
 pub use scrub_command::scrub;
 pub use stats::stat;
@@ -52,5 +71,5 @@ pub use tellings::{explain, print_outcome, tell, warn};
 // What callers need of the crate below.
 pub use cs_inspect::Progress;
 pub use cs_salvage as rescue;
-pub use cs_salvage::{Missing, Patience, Scanned};
+pub use cs_salvage::{Missing, Naming, Patience, Scanned, Skipping, Watcher, count_of};
 pub use cs_store as store;

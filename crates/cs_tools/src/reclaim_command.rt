@@ -1,21 +1,26 @@
 //! The command `reclaim`.
-ghost use Rattle.std.specs.Prelude.{◌≡◌, ◌⊎◌, ◌↔◌, Err, IfErr, IfOk, IsOk, MatchBool, None, OnOk};
+ghost use Rattle.std.specs.Prelude.{◌≡◌, ◌≢◌, ◌⊎◌, ◌↔◌, ℕ, Err, IfErr, IfOk, IsOk, None, Ok, OnOk};
+ghost use Rattle.std.specs.Io.KnownBytes.{Appends};
 ghost use Rattle.cs_refusal.specs.declared.refusals.Refusal.{Refusal as Why};
-ghost use Rattle.cs_writeback.specs.Syncs.{Syncs};
+ghost use Rattle.cs_core.specs.Views.{View};
+ghost use Rattle.cs_writeback.specs.Syncs.{StopsSync, Syncs};
 ghost use Rattle.law_machine.specs.Element.{Map};
 ghost use Rattle.cs_store.specs.Maps.{HasMap};
 ghost use Rattle.cs_inspect.specs.Choices.{Chooses, ReadsOn};
 ghost use Rattle.cs_tools.specs.Changes.{LeavesPrefixAt, LeavesPrefixBetween};
-ghost use Rattle.cs_tools.specs.Reclaims.{Empties, EmptiesAll, EmptiesChosen, IsPersistent, LieApart, MayRefuseReclaim, MayStop, Tidies};
-ghost use Rattle.cs_tools.specs.declared.outcomes.Outcome.TheVariants.{Done, Failed, Refused};
+ghost use Rattle.cs_tools.specs.Headers.{AreReadable, HasUnreadable, IsLeft, WasCounted, WasUnreadable};
+ghost use Rattle.cs_tools.specs.Reclaims.{Empties, EmptiesAll, EmptiesChosen, IfRefused, IsPersistent, LieApart, LieTogether, MayRefuseReclaim, MayStop, Reclaims, StopsEmptying, StopsNext, StopsReclaim, Tidies, WhetherEmptied, count_line, empty_line, emptied_line, left_text, unreadable_line};
+ghost use Rattle.cs_tools.specs.declared.outcomes.Outcome.TheVariants.{Damaged, Done, Failed, Refused};
+ghost use Rattle.cs_tools.specs.declared.reclaim_command.Sought.TheVariants.{Nothing};
 ghost use Rattle.cs_tools.specs.declared.reclaim_command.Stop.TheVariants.{Failed as StopFailed, Refused as StopRefused};
 
+use crate::headers::look_over;
 use crate::outcomes::Outcome;
 use crate::outputs::Style;
 use crate::reclaims_v2::empty_by_garbage;
 use cs_core::Core;
 use cs_disk::PageDisk;
-use cs_inspect::{Choice, SweepRule, choose_sweep};
+use cs_inspect::SweepRule;
 use cs_refusal::Refusal;
 use cs_writeback::{make_room, sweep, sync};
 use std::alloc::Global;
@@ -47,6 +52,9 @@ pub enum Stop {
 /// It empties the extent that `choose_sweep` of cs_inspect chooses, again and again until that chooses none. It does so
 /// at most twice for each extent.
 ///
+/// An extent with a chunk whose header can't be read is passed over. If there is one it is printed how many headers can't
+/// be read, and the command ends as damaged.
+///
 /// In stores of formats 1 and 2 it empties all extents of which half or more is garbage, those with most garbage first.
 /// After an open the pages above the write pointer of an extent aren't written any more, so they count as garbage.
 pub fn reclaim<D: PageDisk, W: Write>(
@@ -55,14 +63,25 @@ pub fn reclaim<D: PageDisk, W: Write>(
     style: Style,
     writer: &mut W,
 ) -> Outcome
-    ensures ends { (result ≡ Done) ⊎ ((r : Why) × (result ≡ Refused r)) ⊎ (result ≡ Failed) }
+    ensures ends { (result ≡ Done) ⊎ (result ≡ Damaged) ⊎ ((r : Why) × (result ≡ Refused r)) ⊎ (result ≡ Failed) }
     // It is refused as a sweep or a sync may be, or for want of memory.
     ensures refusals { (r : Why) → result ≡ Refused r → MayRefuseReclaim r }
     // Where it ends well all is persistent, or nothing was worth it and nothing but reads was done.
-    ensures kept { D.honest core.old.disk → result ≡ Done → IsPersistent core.new ⊎ ReadsOn D.PageDisk core.old core.new }
-    // Except in formats 1 and 2 it empties the extents that `choose_sweep` chooses. It ends when that chooses none, or after
-    // two for each extent.
-    ensures chosen { LieApart core.old → result ≡ Done → EmptiesAll D.PageDisk core.old core.new }
+    ensures kept { D.honest core.old.disk → (result ≡ Done) ⊎ (result ≡ Damaged) → IsPersistent core.new ⊎ ReadsOn D.PageDisk core.old core.new }
+    // Except in formats 1 and 2 it empties the extents that `choose_sweep` chooses, and prints a line for each. It ends when
+    // that chooses none, or after two for each extent. Then it prints how many extents are empty and how many were, and how
+    // many headers can't be read.
+    ensures chosen { LieApart core.old → (result ≡ Done) ⊎ (result ≡ Damaged)
+        → (unreadable : ℕ) × IsLeft D.PageDisk unreadable core.new × Reclaims D.PageDisk style unreadable core.old core.new (W.contents writer.old) (W.contents writer.new) }
+    // It is refused only for want of memory, or as the sweep of the extent that is chosen next is, or the sync after it.
+    ensures stopped { LieApart core.old → (r : Why) → result ≡ Refused r → StopsReclaim D.PageDisk style core.old core.new (W.contents writer.old) (W.contents writer.new) r }
+    // It is done only if the headers of all live chunks can be read then.
+    ensures readable { LieApart core.old → result ≡ Done → AreReadable D.PageDisk core.new }
+    // It ends as damaged only if one can't be read, or a read failed, as the extents were looked at last.
+    ensures unreadable { LieApart core.old → result ≡ Damaged → (last : View D) × ReadsOn D.PageDisk last core.new × HasUnreadable D.PageDisk last core.new }
+    // In format 2 both are so as the extents were looked at first.
+    ensures readable_v2 { LieTogether core.old → result ≡ Done → AreReadable D.PageDisk core.old }
+    ensures unreadable_v2 { LieTogether core.old → result ≡ Damaged → WasUnreadable D.PageDisk core.old }
     ensures map { D.honest core.old.disk → (m : Map) → HasMap core.old m → HasMap core.new m }
     ensures honest { D.honest core.old.disk ↔ D.honest core.new.disk }
     // A crash at any moment of it leaves the map after some of the commands, none of those left out that were persistent before.
@@ -78,46 +97,56 @@ pub fn reclaim<D: PageDisk, W: Write>(
     outcome_of(ended)
 }
 
-/// The outcome of a reclaim that ended so.
-fn outcome_of(ended: Result<(), Stop>) -> Outcome
-    ensures done { result ≡ Done → IsOk ended }
+/// The outcome of a reclaim that ended so: with so many headers that couldn't be read, or early.
+fn outcome_of(ended: Result<usize, Stop>) -> Outcome
+    ensures done { result ≡ Done → ended ≡ Ok 0 }
+    ensures damaged { result ≡ Damaged → (n : ℕ) × (ended ≡ Ok n) × (n ≢ 0) }
     ensures refused { (r : Why) → result ≡ Refused r → ended ≡ Err (StopRefused r) }
-    ensures ends { (result ≡ Done) ⊎ ((r : Why) × (result ≡ Refused r)) ⊎ (result ≡ Failed) }
+    ensures ends { (result ≡ Done) ⊎ (result ≡ Damaged) ⊎ ((r : Why) × (result ≡ Refused r)) ⊎ (result ≡ Failed) }
 {
     match ended {
-        Ok(()) => Outcome::Done,
+        Ok(0) => Outcome::Done,
+        Ok(_) => Outcome::Damaged,
         Err(Stop::Refused(refusal)) => Outcome::Refused(refusal),
         Err(Stop::Failed) => Outcome::Failed,
     }
 }
 
-/// Empties extents and prints how many are empty. It returns why it ended early.
+/// Empties extents, prints how many are empty, and returns how many headers couldn't be read. It returns why it ended
+/// early.
 fn reclaim_and_print<D: PageDisk, W: Write>(
     alloc: Global,
     core: &mut Core<D>,
     style: Style,
     writer: &mut W,
-) -> Result<(), Stop>
+) -> Result<usize, Stop>
     ensures kept { D.honest core.old.disk → OnOk result (IsPersistent core.new ⊎ ReadsOn D.PageDisk core.old core.new) }
-    ensures chosen { LieApart core.old → OnOk result (EmptiesAll D.PageDisk core.old core.new) }
+    ensures chosen { LieApart core.old → IfOk result (λ unreadable. Reclaims D.PageDisk style unreadable core.old core.new (W.contents writer.old) (W.contents writer.new)) }
+    ensures stopped { LieApart core.old → IfErr result (λ stop. IfRefused stop (StopsReclaim D.PageDisk style core.old core.new (W.contents writer.old) (W.contents writer.new))) }
+    ensures left { LieApart core.old → IfOk result (λ unreadable. IsLeft D.PageDisk unreadable core.new) }
+    ensures counted { LieTogether core.old → IfOk result (λ unreadable. WasCounted D.PageDisk unreadable core.old) }
     ensures refusals { IfErr result MayStop }
     ensures tidies { Tidies D.PageDisk core.old core.new }
 {
     let before = core.extents().empty_count();
-    empty_by_rule(alloc, core, style, writer)?;
+    let unreadable = empty_by_rule(alloc, core, style, writer)?;
     let after = core.extents().empty_count();
-    printed(print_empty(writer, before, after, style))
+    printed(print_left(writer, before, after, unreadable, style))?;
+    Ok(unreadable)
 }
 
-/// Empties the extents that the store's rule chooses.
+/// Empties the extents that the store's rule chooses, and returns how many headers couldn't be read.
 fn empty_by_rule<D: PageDisk, W: Write>(
     alloc: Global,
     core: &mut Core<D>,
     style: Style,
     writer: &mut W,
-) -> Result<(), Stop>
+) -> Result<usize, Stop>
     ensures kept { D.honest core.old.disk → OnOk result (IsPersistent core.new ⊎ ReadsOn D.PageDisk core.old core.new) }
-    ensures chosen { LieApart core.old → OnOk result (EmptiesAll D.PageDisk core.old core.new) }
+    ensures chosen { LieApart core.old → OnOk result (EmptiesAll D.PageDisk style core.old core.new (W.contents writer.old) (W.contents writer.new)) }
+    ensures stopped { LieApart core.old → IfErr result (λ stop. IfRefused stop (StopsReclaim D.PageDisk style core.old core.new (W.contents writer.old) (W.contents writer.new))) }
+    ensures left { LieApart core.old → IfOk result (λ unreadable. IsLeft D.PageDisk unreadable core.new) }
+    ensures counted { LieTogether core.old → IfOk result (λ unreadable. WasCounted D.PageDisk unreadable core.old) }
     ensures refusals { IfErr result MayStop }
     ensures tidies { Tidies D.PageDisk core.old core.new }
 {
@@ -127,51 +156,84 @@ fn empty_by_rule<D: PageDisk, W: Write>(
     }
 }
 
-/// Empties the extent that is chosen, until none is chosen or two were for each extent.
+/// Empties the extent that is chosen, until none is chosen or two were for each extent. It returns how many headers
+/// couldn't be read then.
 fn empty_by_choice<D: PageDisk, W: Write>(
     alloc: Global,
     core: &mut Core<D>,
     style: Style,
     writer: &mut W,
-) -> Result<(), Stop>
+) -> Result<usize, Stop>
     ensures kept { D.honest core.old.disk → OnOk result (IsPersistent core.new ⊎ ReadsOn D.PageDisk core.old core.new) }
-    ensures all { OnOk result (EmptiesAll D.PageDisk core.old core.new) }
+    ensures all { LieApart core.old → OnOk result (EmptiesAll D.PageDisk style core.old core.new (W.contents writer.old) (W.contents writer.new)) }
+    ensures stopped { LieApart core.old → IfErr result (λ stop. IfRefused stop (StopsReclaim D.PageDisk style core.old core.new (W.contents writer.old) (W.contents writer.new))) }
+    ensures left { IfOk result (λ unreadable. IsLeft D.PageDisk unreadable core.new) }
     ensures refusals { IfErr result MayStop }
     ensures tidies { Tidies D.PageDisk core.old core.new }
 {
     let most = core.extents().extent_count().saturating_mul(2);
     for _ in 0..most {
-        let more = empty_next(alloc, core, style, writer)?;
-        if !more {
-            return Ok(());
+        let sought = empty_next(alloc, core, style, writer)?;
+        match sought {
+            Sought::Emptied => {}
+            Sought::Nothing { unreadable } => return Ok(unreadable),
         }
     }
-    Ok(())
+    look_again(alloc, core)
 }
 
-/// Empties the extent that is chosen, prints what it freed, and returns whether there was one.
-fn empty_next<D: PageDisk, W: Write>(
-    alloc: Global,
-    core: &mut Core<D>,
-    style: Style,
-    writer: &mut W,
-) -> Result<bool, Stop>
-    ensures rests { D.honest core.old.disk → IfOk result (λ more. MatchBool more (IsPersistent core.new) (ReadsOn D.PageDisk core.old core.new)) }
-    ensures chosen { IfOk result (λ more. MatchBool more (EmptiesChosen D.PageDisk core.old core.new)
-        (ReadsOn D.PageDisk core.old core.new × Chooses D.PageDisk core.old core.new None)) }
+/// How many headers can't be read.
+fn look_again<D: PageDisk>(alloc: Global, core: &mut Core<D>) -> Result<usize, Stop>
+    ensures left { IfOk result (λ unreadable. IsLeft D.PageDisk unreadable core.new) }
+    ensures reads { ReadsOn D.PageDisk core.old core.new }
+    ensures memory { IfErr result (λ stop. stop ≡ StopRefused Refusal.OutOfMemory) }
     ensures refusals { IfErr result MayStop }
     ensures tidies { Tidies D.PageDisk core.old core.new }
 {
     // Called for its contract alone: what a crash leaves now.
     core.progress();
-    let Ok(choice) = choose_sweep(alloc, core) else {
+    match look_over(alloc, core) {
+        Ok(survey) => Ok(survey.unreadable),
+        Err(_) => Err(Stop::Refused(Refusal::OutOfMemory)),
+    }
+}
+
+/// What came of seeking an extent to empty.
+#[derive(Clone, Copy)]
+enum Sought {
+    /// One was chosen, and it was emptied.
+    Emptied,
+    /// None is chosen. So many headers couldn't be read.
+    Nothing { unreadable: usize },
+}
+
+/// Empties the extent that is chosen, and prints what it freed, if there is one.
+fn empty_next<D: PageDisk, W: Write>(
+    alloc: Global,
+    core: &mut Core<D>,
+    style: Style,
+    writer: &mut W,
+) -> Result<Sought, Stop>
+    ensures rests { D.honest core.old.disk → IfOk result (λ sought. WhetherEmptied sought (IsPersistent core.new) (ReadsOn D.PageDisk core.old core.new)) }
+    ensures chosen { LieApart core.old → IfOk result (λ sought. WhetherEmptied sought (EmptiesChosen D.PageDisk style core.old core.new (W.contents writer.old) (W.contents writer.new))
+        (ReadsOn D.PageDisk core.old core.new × Chooses D.PageDisk core.old core.new None × (W.contents writer.new ≡ W.contents writer.old))) }
+    ensures stopped { LieApart core.old → IfErr result (λ stop. IfRefused stop (λ r. StopsNext D.PageDisk core.old core.new r × (W.contents writer.new ≡ W.contents writer.old))) }
+    ensures left { (unreadable : ℕ) → result ≡ Ok (Nothing unreadable) → IsLeft D.PageDisk unreadable core.new }
+    ensures refusals { IfErr result MayStop }
+    ensures tidies { Tidies D.PageDisk core.old core.new }
+{
+    // Called for its contract alone: what a crash leaves now.
+    core.progress();
+    let Ok(survey) = look_over(alloc, core) else {
         return Err(Stop::Refused(Refusal::OutOfMemory));
     };
-    let Some(Choice { extent, dead }) = choice else {
-        return Ok(false);
+    let Some(choice) = survey.choice else {
+        return Ok(Sought::Nothing {
+            unreadable: survey.unreadable,
+        });
     };
-    empty_one(core, extent, dead, style, writer)?;
-    Ok(true)
+    empty_one(core, choice.extent, choice.dead, style, writer)?;
+    Ok(Sought::Emptied)
 }
 
 /// Sweeps an extent, makes that persistent, and prints what it freed.
@@ -183,7 +245,8 @@ pub fn empty_one<D: PageDisk, W: Write>(
     writer: &mut W,
 ) -> Result<(), Stop>
     ensures rests { D.honest core.old.disk → OnOk result (IsPersistent core.new) }
-    ensures empties { OnOk result (Empties D.PageDisk extent core.old core.new) }
+    ensures empties { OnOk result ((moved : ℕ) × Empties D.PageDisk extent moved core.old core.new × Appends (W.contents writer.old) (W.contents writer.new) (emptied_line style extent dead moved)) }
+    ensures stopped { IfErr result (λ stop. IfRefused stop (λ r. StopsEmptying D.PageDisk extent core.old core.new r × (W.contents writer.new ≡ W.contents writer.old))) }
     ensures refusals { IfErr result MayStop }
     ensures tidies { Tidies D.PageDisk core.old core.new }
 {
@@ -200,6 +263,7 @@ pub fn empty_one<D: PageDisk, W: Write>(
 pub fn sync_all<D: PageDisk>(core: &mut Core<D>) -> Result<(), Stop>
     ensures rests { D.honest core.old.disk → OnOk result (IsPersistent core.new) }
     ensures syncs { OnOk result (Syncs D.PageDisk core.old core.new) }
+    ensures stopped { IfErr result (λ stop. IfRefused stop (λ r. StopsSync D.PageDisk core.old r core.new)) }
     ensures refusals { IfErr result MayStop }
     ensures tidies { Tidies D.PageDisk core.old core.new }
 {
@@ -216,7 +280,8 @@ pub fn sync_all<D: PageDisk>(core: &mut Core<D>) -> Result<(), Stop>
 /// Sweeps an extent, makes that persistent, and returns how many chunks were moved. A long history is dropped first.
 fn sweep_and_sync<D: PageDisk>(core: &mut Core<D>, extent: usize) -> Result<usize, Stop>
     ensures rests { D.honest core.old.disk → OnOk result (IsPersistent core.new) }
-    ensures empties { OnOk result (Empties D.PageDisk extent core.old core.new) }
+    ensures empties { IfOk result (λ moved. Empties D.PageDisk extent moved core.old core.new) }
+    ensures stopped { IfErr result (λ stop. IfRefused stop (StopsEmptying D.PageDisk extent core.old core.new)) }
     ensures refusals { IfErr result MayStop }
     ensures tidies { Tidies D.PageDisk core.old core.new }
 {
@@ -231,7 +296,8 @@ fn sweep_and_sync<D: PageDisk>(core: &mut Core<D>, extent: usize) -> Result<usiz
 
 /// Why printing a line ended the command, if it did.
 fn printed(line: io::Result<()>) -> Result<(), Stop>
-    ensures { IfErr result (λ stop. stop ≡ StopFailed) }
+    ensures done { OnOk result (IsOk line) }
+    ensures failed { IfErr result (λ stop. stop ≡ StopFailed) }
 {
     match line {
         Ok(()) => Ok(()),
@@ -239,8 +305,18 @@ fn printed(line: io::Result<()>) -> Result<(), Stop>
     }
 }
 
+/// Prints the line of an extent that was emptied.
+fn print_emptied<W: Write>(writer: &mut W, emptied: Emptied, style: Style) -> io::Result<()>
+    ensures { OnOk result (Appends (W.contents writer.old) (W.contents writer.new) (emptied_line style emptied.extent emptied.dead emptied.moved)) }
+{
+    print_emptied_line(writer, emptied, style)?;
+    writer.flush()
+}
+
 /// The line of an extent that was emptied.
-fn print_emptied<W: Write>(writer: &mut W, emptied: Emptied, style: Style) -> io::Result<()> {
+fn print_emptied_line<W: Write>(writer: &mut W, emptied: Emptied, style: Style) -> io::Result<()>
+    ensures { OnOk result (Appends (W.contents writer.old) (W.contents writer.new) (emptied_line style emptied.extent emptied.dead emptied.moved)) }
+{
     let Emptied {
         extent,
         dead,
@@ -250,25 +326,60 @@ fn print_emptied<W: Write>(writer: &mut W, emptied: Emptied, style: Style) -> io
         Style::Text => writeln!(
             writer,
             "extent {extent} emptied: dead pages {dead}, chunks moved {moved}"
-        )?,
+        ),
         Style::Json => writeln!(
             writer,
             "{{\"extent\":{extent},\"dead\":{dead},\"moved\":{moved}}}"
-        )?,
+        ),
     }
+}
+
+/// Prints how many extents are empty, and if there are any, how many headers couldn't be read.
+fn print_left<W: Write>(
+    writer: &mut W,
+    before: usize,
+    after: usize,
+    unreadable: usize,
+    style: Style,
+) -> io::Result<()>
+    ensures { OnOk result (Appends (W.contents writer.old) (W.contents writer.new) (left_text style before after unreadable)) }
+{
+    print_empty(writer, before, after, style)?;
+    print_unreadable(writer, unreadable, style)?;
     writer.flush()
 }
 
-/// The line of how many extents are empty.
+/// The line of how many extents are empty, and how many were before.
 fn print_empty<W: Write>(
     writer: &mut W,
     before: usize,
     after: usize,
     style: Style,
-) -> io::Result<()> {
+) -> io::Result<()>
+    ensures { OnOk result (Appends (W.contents writer.old) (W.contents writer.new) (empty_line style before after)) }
+{
     match style {
-        Style::Text => writeln!(writer, "empty {after}, before {before}")?,
-        Style::Json => writeln!(writer, "{{\"empty\":{after},\"before\":{before}}}")?,
+        Style::Text => writeln!(writer, "empty {after}, before {before}"),
+        Style::Json => writeln!(writer, "{{\"empty\":{after},\"before\":{before}}}"),
     }
-    writer.flush()
+}
+
+/// The line of how many headers couldn't be read, if there are any.
+fn print_unreadable<W: Write>(writer: &mut W, unreadable: usize, style: Style) -> io::Result<()>
+    ensures { OnOk result (Appends (W.contents writer.old) (W.contents writer.new) (unreadable_line style unreadable)) }
+{
+    if unreadable == 0 {
+        return Ok(());
+    }
+    print_count(writer, unreadable, style)
+}
+
+/// The line of how many headers couldn't be read.
+fn print_count<W: Write>(writer: &mut W, unreadable: usize, style: Style) -> io::Result<()>
+    ensures { OnOk result (Appends (W.contents writer.old) (W.contents writer.new) (count_line style unreadable)) }
+{
+    match style {
+        Style::Text => writeln!(writer, "unreadable {unreadable}"),
+        Style::Json => writeln!(writer, "{{\"unreadable\":{unreadable}}}"),
+    }
 }

@@ -7,8 +7,10 @@ ghost use Rattle.cs_index.specs.State.{id_number};
 ghost use Rattle.law_machine.specs.Element.{Bytes as Held, Map};
 ghost use Rattle.cs_store.specs.Maps.{HasMap};
 ghost use Rattle.cs_inspect.specs.Choices.{ReadsOn};
+ghost use Rattle.cs_tools.specs.Headers.{WasCounted};
 ghost use Rattle.cs_tools.specs.Reclaims.{IsPersistent, MayStop, Tidies};
 
+use crate::headers::count_unreadable;
 use crate::outputs::Style;
 use crate::reclaim_command::{Stop, empty_one, sync_all};
 use cs_core::{Bytes, Core, Event};
@@ -22,14 +24,15 @@ use std::alloc::Global;
 use std::io::Write;
 
 /// Empties the extents of which half or more is garbage, and prints of each what it freed. If there was one, a shard is
-/// put again.
+/// put again. It returns how many headers couldn't be read before.
 pub fn empty_by_garbage<D: PageDisk, W: Write>(
     alloc: Global,
     core: &mut Core<D>,
     style: Style,
     writer: &mut W,
-) -> Result<(), Stop>
+) -> Result<usize, Stop>
     ensures kept { D.honest core.old.disk → OnOk result (IsPersistent core.new ⊎ ReadsOn D.PageDisk core.old core.new) }
+    ensures counted { IfOk result (λ unreadable. WasCounted D.PageDisk unreadable core.old) }
     ensures refusals { IfErr result MayStop }
     ensures tidies { Tidies D.PageDisk core.old core.new }
 {
@@ -39,12 +42,14 @@ pub fn empty_by_garbage<D: PageDisk, W: Write>(
     let Ok(mut uses) = uses(alloc, core) else {
         return Err(Stop::Refused(Refusal::OutOfMemory));
     };
+    let unreadable = count_unreadable(&uses);
     give_up(&mut uses, pages);
     let count = empty_all(core, &mut uses, pages, style, writer)?;
     if count == 0 {
-        return Ok(());
+        return Ok(unreadable);
     }
-    put_again(alloc, core)
+    put_again(alloc, core)?;
+    Ok(unreadable)
 }
 
 /// Counts the rest of each extent that isn't empty as given.

@@ -1,5 +1,5 @@
 //! The commands `get` and `list` over a damaged store, of which what is left is read.
-ghost use Rattle.std.specs.Prelude.{◌≡◌, ◌≢◌, ◌⊎◌, ◌↔◌, ◌+◌, ◌<◌, ◌≤◌, [], Err, IfErr, IfOk, List, MatchResult, None, flat_map, map};
+ghost use Rattle.std.specs.Prelude.{◌≡◌, ◌≢◌, ◌⊎◌, ◌↔◌, ◌+◌, ◌<◌, ◌≤◌, [], Err, IfErr, IfOk, List, MatchBool, MatchResult, None, OnOk, codes, false, flat_map, map, true};
 ghost use Rattle.std.specs.Io.KnownBytes.{Appends};
 ghost use Rattle.cs_chunk.specs.Reads.{IsNoAnswer};
 ghost use Rattle.cs_reader.specs.Openings.{IsOpeningRefusal};
@@ -15,8 +15,11 @@ ghost use Rattle.cs_mount.specs.Identities.{AreOfTwo};
 ghost use Rattle.cs_salvage.specs.Answers.{IsAbsent, IsUnknown};
 ghost use Rattle.cs_salvage.specs.Rescued.{IsRescued, IsWhyNotRescued};
 ghost use Rattle.cs_inspect.specs.Listings.{AreFirst};
+ghost use Rattle.cs_tools.specs.Advised.{run_lost_text, todo_members, todo_text};
+ghost use Rattle.cs_tools.specs.Advices.{erases};
 ghost use Rattle.cs_tools.specs.Outputs.{id_line};
-ghost use Rattle.cs_tools.specs.Rescues.{Rescues, status_of_got};
+ghost use Rattle.cs_tools.specs.Rescues.{MeansGot, Rescues, status_of_got};
+ghost use Rattle.cs_tools.specs.Tellings.{got_text};
 ghost use Rattle.cs_tools.specs.declared.outcomes.Outcome.TheVariants.{Absent, Damaged, Done, Failed, Refused, Unread};
 ghost use Rattle.cs_tools.specs.declared.rescues.Got.TheVariants.{Ended, RunLost};
 
@@ -26,7 +29,7 @@ use crate::knowns::Known;
 use crate::list_command::print_ids;
 use crate::outcomes::Outcome;
 use crate::outputs::Style;
-use crate::tellings::{Reason, explain, tell_reason};
+use crate::tellings::{Errors, Reason, print_outcome, print_reason};
 use cs_disk::PageDisk;
 use cs_frame::ShardId;
 use cs_inspect::ids_from;
@@ -34,11 +37,12 @@ use cs_mount::{Finding, Mounted, open_pairs};
 use cs_refusal::Refusal;
 use cs_salvage::{Rescue, RescueRefusal};
 use std::alloc::Global;
+use std::io;
 use std::io::Write;
 
 /// What to do if it isn't known whether there is a shard.
 const RUN_LOST: &str =
-    "No run of the index that can be read names it, and older ones can't be read. `export --salvage` reads the frames themselves, but not in format 2. Else restore the file from a copy.";
+    "First run `doctor FILE`: it only reads, and reports what is there and what to do next. No run of the index that can be read names the shard, and older ones can't be read. `export --salvage` reads the frames themselves, but not in format 2. Else restore the file from a copy.";
 
 /// How a get ended.
 #[derive(Clone, Copy)]
@@ -47,6 +51,19 @@ pub enum Got {
     Ended(Outcome),
     /// No run that was read names it, and there is one that couldn't be read. Status 5.
     RunLost,
+}
+
+impl Got {
+    /// The exit status.
+    fn status(self) -> u8
+        ensures status { result ≡ status_of_got self }
+        ensures most { result ≤ 7 }
+    {
+        match self {
+            Got::Ended(outcome) => outcome.status(),
+            Got::RunLost => cs_words::DAMAGED,
+        }
+    }
 }
 
 /// Opens a damaged store to read what is left of it, and returns what it found in the pages that are there twice.
@@ -65,6 +82,8 @@ pub fn open_rescue<D: PageDisk + Drop>(
     ensures findings { D.honest disk → IfOk result (λ opened. opened.1.items ≡ findings_on (D.page_count disk) (seen (D.state disk))) }
     ensures why { D.honest disk → IfErr result (λ refused. IsNoAnswer refused.0 ⊎ ((refused.0 ≡ Refusal.NotAStore) × AreOfTwo (D.page_count disk) (seen (D.state disk)))
         ⊎ IsWhyNotRescued (D.page_count disk) (page (shown_on (D.page_count disk) (seen (D.state disk)))) refused.0) }
+    // It reports 1 only if the disk's count of failures rose, or stood at its end.
+    ensures cause { IfErr result (λ refused. refused.0 ≡ Refusal.DeviceFault → Rises (D.failure_count disk) (D.failure_count refused.1)) }
     // Of two stores none is opened: it is refused 43, unless the device failed or memory ran out.
     ensures two { D.honest disk → AreOfTwo (D.page_count disk) (seen (D.state disk)) → MatchResult result (λ _. ⊥) (λ refused. IsNoAnswer refused.0 ⊎ (refused.0 ≡ Refusal.NotAStore)) }
     ensures small { D.page_count disk < 10 → result ≡ Err (Refusal.NotAStore, disk) }
@@ -97,6 +116,8 @@ pub fn get_rescued<D: PageDisk, W: Write>(
     writer: &mut W,
 ) -> Got
     ensures answer { D.honest rescue.old.disk → Rescues rescue.old.found (page (seen (D.state rescue.old.disk))) (id_number id) (W.contents writer.old) (W.contents writer.new) result }
+    // Whatever the disk does, what is written out is bytes that the identifier's places mean, and it is done only then.
+    ensures meant { MeansGot rescue.old.found (id_number id) (W.contents writer.old) (W.contents writer.new) result }
     // Whatever the disk does.
     ensures absent { (result ≡ Ended Absent) ↔ IsAbsent rescue.old.found (id_number id) }
     ensures run_lost { (result ≡ RunLost) ↔ IsUnknown rescue.old.found (id_number id) }
@@ -113,8 +134,15 @@ pub fn get_rescued<D: PageDisk, W: Write>(
     }
 }
 
+/// Whether the store may have other shards than the readable runs name: a run couldn't be read, or a newer root is lost.
+fn is_unsure<D: PageDisk>(rescue: &Rescue<D>) -> bool
+    ensures { MatchBool result ((rescue.now.found.damaged ≢ None) ⊎ (rescue.now.found.lost ≡ true)) ((rescue.now.found.damaged ≡ None) × (rescue.now.found.lost ≡ false)) }
+{
+    rescue.damaged().is_some() || rescue.root_lost()
+}
+
 /// Prints the identifiers of the first so many shards that the readable runs name, from one on, in order, one a line.
-/// There may be others if a run couldn't be read.
+/// If a run couldn't be read, or a newer root is lost, there may be others, and it ends as damaged.
 pub fn list_rescued<D: PageDisk, W: Write>(
     alloc: Global,
     rescue: &Rescue<D>,
@@ -125,8 +153,8 @@ pub fn list_rescued<D: PageDisk, W: Write>(
 ) -> Outcome
     ensures lines { (result ≡ Done) ⊎ (result ≡ Damaged) → (ids : List Id) × AreFirst (λ id. live_at (index_of rescue.now.found.index) id ≢ []) (id_number from) most (map id_number ids)
         × Appends (W.contents writer.old) (W.contents writer.new) (flat_map (id_line style) ids) }
-    ensures done { result ≡ Done → rescue.now.found.damaged ≡ None }
-    ensures damaged { result ≡ Damaged → rescue.now.found.damaged ≢ None }
+    ensures done { result ≡ Done → (rescue.now.found.damaged ≡ None) × (rescue.now.found.lost ≡ false) }
+    ensures damaged { result ≡ Damaged → (rescue.now.found.damaged ≢ None) ⊎ (rescue.now.found.lost ≡ true) }
     ensures ends { (result ≡ Done) ⊎ (result ≡ Damaged) ⊎ (result ≡ Refused Refusal.OutOfMemory) ⊎ (result ≡ Failed) }
     // Where it is refused nothing was written.
     ensures untouched { (r : Why) → result ≡ Refused r → writer.new ≡ writer.old }
@@ -135,9 +163,20 @@ pub fn list_rescued<D: PageDisk, W: Write>(
         return Outcome::Refused(Refusal::OutOfMemory);
     };
     match print_ids(writer, &ids, style) {
-        Ok(()) if rescue.damaged().is_some() => Outcome::Damaged,
+        Ok(()) if is_unsure(rescue) => Outcome::Damaged,
         Ok(()) => Outcome::Done,
         Err(_) => Outcome::Failed,
+    }
+}
+
+/// Prints why a get was refused, if it was, and what to do.
+pub fn print_got<W: Write>(writer: &mut W, got: Got, known: &Known, style: Style) -> io::Result<()>
+    // It prints exactly this.
+    ensures { OnOk result (Appends (W.contents writer.old) (W.contents writer.new) (got_text style got known.now)) }
+{
+    match got {
+        Got::Ended(outcome) => print_outcome(writer, outcome, known, style),
+        Got::RunLost => print_reason(writer, &reason_of_run(), style),
     }
 }
 
@@ -146,17 +185,21 @@ pub fn explain_got<R: Eprint>(rt: &R, got: Got, known: &Known, style: Style) -> 
     ensures status { result ≡ status_of_got got }
     ensures most { result ≤ 7 }
 {
-    match got {
-        Got::Ended(outcome) => explain(rt, outcome, known, style),
-        Got::RunLost => {
-            tell_reason(rt, &reason_of_run(), style);
-            cs_words::DAMAGED
-        }
-    }
+    let _ = print_got(&mut Errors { rt }, got, known, style);
+    got.status()
 }
 
 /// The reason of a get that can't know whether there is a shard.
-fn reason_of_run() -> Reason {
+fn reason_of_run() -> Reason
+    ensures number { result.number ≡ 28 }
+    ensures name { result.name.now ≡ codes "RunLost" }
+    ensures text { result.text.now ≡ codes "a run of the index that may name it can't be read" }
+    ensures system { result.system ≡ None }
+    ensures advice { todo_text result.advice ≡ run_lost_text }
+    ensures members { todo_members result.advice ≡ [] }
+    // No command is named that erases.
+    ensures keeps { erases (todo_text result.advice) ≡ false }
+{
     let refusal = RescueRefusal::RunLost;
     Reason {
         number: refusal.number(),

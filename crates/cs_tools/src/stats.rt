@@ -5,10 +5,12 @@ ghost use Rattle.cs_disk.specs.Reads.{OnlyReads};
 ghost use Rattle.cs_extent.specs.State.{shape};
 ghost use Rattle.law_machine.specs.Device.{Shape};
 ghost use Rattle.cs_frame.specs.FormatNumbers.{counted_as, number_in};
+ghost use Rattle.cs_tools.specs.Headers.{AreReadable, HasUnreadable, NoneIsUnreadable, SomeIsUnreadable};
 ghost use Rattle.cs_tools.specs.Stats.{BeginsWith, GoesOn, dimensions_text, geometry_text, number_text, store_text};
-ghost use Rattle.cs_tools.specs.declared.outcomes.Outcome.TheVariants.{Done, Failed, Refused};
+ghost use Rattle.cs_tools.specs.declared.outcomes.Outcome.TheVariants.{Damaged, Done, Failed, Refused};
 ghost use Rattle.cs_tools.specs.declared.outputs.Style.TheVariants.{Json, Text};
 
+use crate::headers::count_unreadable;
 use crate::outcomes::Outcome;
 use crate::outputs::{Style, print_identity};
 use crate::stat_objects::print_object;
@@ -63,18 +65,22 @@ pub fn bytes_of(pages: usize) -> usize {
     pages.saturating_mul(4096)
 }
 
-/// Prints how a store lies on its disk and how full it is.
+/// Prints how a store lies on its disk and how full it is. It ends as damaged if the header of a chunk couldn't be read.
 pub fn stat<D: PageDisk, W: Write>(
     alloc: Global,
     core: &mut Core<D>,
     style: Style,
     writer: &mut W,
 ) -> Outcome
-    ensures ends { (result ≡ Done) ⊎ (result ≡ Refused Refusal.OutOfMemory) ⊎ (result ≡ Failed) }
+    ensures ends { (result ≡ Done) ⊎ (result ≡ Damaged) ⊎ (result ≡ Refused Refusal.OutOfMemory) ⊎ (result ≡ Failed) }
+    // It is done only if the headers of all live chunks can be read.
+    ensures readable { result ≡ Done → AreReadable D.PageDisk core.old }
+    // It ends as damaged only if one can't be read, or a read failed.
+    ensures unreadable { result ≡ Damaged → HasUnreadable D.PageDisk core.old core.new }
     ensures same { core.new ≡ record core.old { disk = core.new.disk } }
     ensures disk { OnlyReads D.PageDisk core.old.disk core.new.disk }
     // What is printed begins with the dimensions of the store, its format among them, and with its identity.
-    ensures geometry { result ≡ Done → let S : Shape = shape core.old.store.extents in
+    ensures geometry { (result ≡ Done) ⊎ (result ≡ Damaged) → let S : Shape = shape core.old.store.extents in
         BeginsWith (W.contents writer.old) (W.contents writer.new) (geometry_text style S.extents S.pages S.sections S.format) }
 {
     let geometry = core.extents().geometry();
@@ -98,12 +104,25 @@ fn report<W: Write>(
     style: Style,
     writer: &mut W,
 ) -> Outcome
-    ensures ends { (result ≡ Done) ⊎ (result ≡ Failed) }
-    ensures geometry { result ≡ Done → BeginsWith (W.contents writer.old) (W.contents writer.new) (geometry_text style geometry.extents geometry.pages geometry.sections geometry.format) }
+    ensures ends { (result ≡ Done) ⊎ (result ≡ Damaged) ⊎ (result ≡ Failed) }
+    ensures readable { result ≡ Done → NoneIsUnreadable stats.now.extents.items }
+    ensures unreadable { result ≡ Damaged → SomeIsUnreadable stats.now.extents.items }
+    ensures geometry { (result ≡ Done) ⊎ (result ≡ Damaged) → BeginsWith (W.contents writer.old) (W.contents writer.new) (geometry_text style geometry.extents geometry.pages geometry.sections geometry.format) }
 {
     match print_all(geometry, kept, stats, style, writer) {
-        Ok(()) => Outcome::Done,
+        Ok(()) => outcome_of(&stats.extents),
         Err(_) => Outcome::Failed,
+    }
+}
+
+/// How `stat` ends whose lines were written: as damaged if a header on these extents couldn't be read.
+fn outcome_of(uses: &[ExtentUse]) -> Outcome
+    ensures { ((result ≡ Done) × NoneIsUnreadable uses.now) ⊎ ((result ≡ Damaged) × SomeIsUnreadable uses.now) }
+{
+    if count_unreadable(uses) == 0 {
+        Outcome::Done
+    } else {
+        Outcome::Damaged
     }
 }
 

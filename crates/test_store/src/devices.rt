@@ -3,8 +3,8 @@
 use cs_disk::{MemoryDisk, PageDisk};
 use cs_frame::{ChunkHead, Geometry, StoreId, encode_chunk};
 use cs_salvage::{
-    Part, Put, Sought, WholeShard, Whose, ambiguous, find_parts, missing_puts, newest_whole,
-    read_whole,
+    Finds, Part, Put, Skipping, Sought, Unwatched, WholeShard, Whose, ambiguous, find_parts,
+    missing_puts, newest_whole, read_whole,
 };
 use std::process::Abort;
 
@@ -22,7 +22,12 @@ pub fn geometry_of(rt: &impl Abort, store: StoreId) -> Geometry {
 
 /// A device of zeros.
 pub fn new_device(rt: &(impl Abort + AllocGlobal), geometry: Geometry) -> Device {
-    let disk = MemoryDisk::new(rt.alloc(), geometry.device_pages()).expect(rt, "memory");
+    sized_device(rt, geometry, geometry.device_pages())
+}
+
+/// A device of zeros of so many pages, whatever the geometry asks for.
+pub fn sized_device(rt: &(impl Abort + AllocGlobal), geometry: Geometry, pages: u64) -> Device {
+    let disk = MemoryDisk::new(rt.alloc(), pages).expect(rt, "memory");
     Device { disk, geometry }
 }
 
@@ -80,14 +85,34 @@ pub fn parts(rt: &(impl Abort + AllocGlobal), device: &mut Device) -> Vec<Part> 
 
 /// All parts on the device of its store, or of any.
 pub fn parts_of(rt: &(impl Abort + AllocGlobal), device: &mut Device, whose: Whose) -> Vec<Part> {
-    let pages = device.disk.pages();
-    let needed = 2 + u64::from(device.geometry.extents()) * u64::from(device.geometry.pages());
-    assert!(rt; needed <= pages);
     let sought = Sought {
         geometry: device.geometry,
         whose,
     };
-    find_parts(rt.alloc(), &mut device.disk, &sought).expect(rt, "memory")
+    find_parts(rt.alloc(), &mut device.disk, &sought, 0, &Unwatched)
+        .expect(rt, "memory")
+        .parts
+}
+
+/// What is found on a device of which these pages can't be read, from a page on. Each of those that is looked at fails
+/// twice.
+pub fn found_without(
+    rt: &(impl Abort + AllocGlobal),
+    device: Device,
+    unreadable: &[u64],
+    from_page: u64,
+) -> Finds {
+    let sought = Sought {
+        geometry: device.geometry,
+        whose: Whose::OfStore,
+    };
+    let pages = Vec::from_slice(rt.alloc(), unreadable).expect(rt, "memory");
+    let mut disk = Skipping::new(device.disk, pages);
+    let finds = find_parts(rt.alloc(), &mut disk, &sought, from_page, &Unwatched).expect(
+        rt, "memory",
+    );
+    assert!(rt; disk.failures() == (finds.unreadable.len() as u64).saturating_mul(2));
+    finds
 }
 
 /// The bytes of a shard, where its parts are as they were found.
@@ -96,9 +121,6 @@ pub fn bytes(
     device: &mut Device,
     shard: &WholeShard,
 ) -> Option<Vec<u8>> {
-    let pages = device.disk.pages();
-    let needed = 2 + u64::from(device.geometry.extents()) * u64::from(device.geometry.pages());
-    assert!(rt; needed <= pages);
     let sought = Sought {
         geometry: device.geometry,
         whose: Whose::OfStore,

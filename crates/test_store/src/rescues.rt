@@ -6,13 +6,20 @@ use cs_core::{Core, Event};
 use cs_disk::MemoryDisk;
 use cs_frame::{FormatNumber, Geometry, Locator, decode_root};
 use cs_refusal::Refusal;
-use cs_salvage::{Rescue, RescueRefusal};
+use cs_salvage::{
+    Naming, Rescue, RescueRefusal, Sought, Unwatched, WholeShard, Whose, count_of, find_parts,
+    lacking, newest_whole,
+};
 use std::process::Abort;
 
-/// A new store of 8 extents of 4 pages.
+/// The geometry of a store of 8 extents of 4 pages.
+fn geometry(rt: &impl Abort) -> Geometry {
+    Geometry::for_file(STORE, 8, 4, Some(2)).expect(rt, "a geometry")
+}
+
+/// A new store of this geometry.
 fn new_core(rt: &(impl Abort + AllocGlobal)) -> Core<MemoryDisk> {
-    let geometry = Geometry::for_file(STORE, 8, 4, Some(2)).expect(rt, "a geometry");
-    new_core_of(rt, geometry, 1000)
+    new_core_of(rt, geometry(rt), 1000)
 }
 
 /// Puts one byte under each of these identifiers, the same for all.
@@ -108,6 +115,48 @@ fn what_each_run_has(rt: HostRuntime) {
     for last in [1, 2, 3, 4, 5, 10] {
         assert_eq!(rt; got(&rt, &mut rescue, last), 1028, "{last}");
     }
+}
+
+/// The shards that frames on a disk spell.
+fn shards(rt: &(impl Abort + AllocGlobal), disk: &mut MemoryDisk) -> Vec<WholeShard> {
+    let sought = Sought {
+        geometry: geometry(rt),
+        whose: Whose::OfStore,
+    };
+    let finds = find_parts(rt.alloc(), disk, &sought, 0, &Unwatched).expect(rt, "memory");
+    newest_whole(rt.alloc(), &finds.parts).expect(rt, "memory")
+}
+
+/// Asserts of how many shards the runs that can be read have the parts, of how many a deletion, and of how many it
+/// isn't known.
+fn names(
+    rt: &(impl Abort + AllocGlobal),
+    rescue: &Rescue<MemoryDisk>,
+    shards: &[WholeShard],
+    counts: (usize, usize, usize),
+) {
+    let namings = rescue.namings(rt.alloc(), shards).expect(rt, "memory");
+    assert!(rt; count_of(&namings, Naming::AsItIs) == counts.0);
+    assert!(rt; count_of(&namings, Naming::Deleted) == counts.1);
+    assert!(rt; count_of(&namings, Naming::Unknown) == counts.2);
+    assert!(rt; namings.len() == shards.len());
+}
+
+#[test]
+fn what_the_index_says_of_shards(rt: HostRuntime) {
+    let mut disk = two_runs(&rt);
+    let places = runs(&rt, &mut disk);
+    let found = shards(&rt, &mut disk);
+    let rescue = rescued(&rt, disk);
+    names(&rt, &rescue, &found, (8, 1, 0));
+    let mut disk = rescue.into_disk();
+
+    assert!(rt; places.len() == 2);
+    damage(&rt, &mut disk, places[0]);
+    let rescue = rescued(&rt, disk);
+    names(&rt, &rescue, &found, (2, 1, 6));
+    assert!(rt; lacking(&[id(1), id(5), id(9)], &found) == 0);
+    assert!(rt; lacking(&[id(0), id(5), id(10)], &found) == 2);
 }
 
 /// The root of before is put back, after more was made persistent.

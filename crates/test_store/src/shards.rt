@@ -1,6 +1,7 @@
 //! What is salvaged of a device.
 use crate::devices::{
-    Device, bytes, damage, geometry_of, missing, new_device, parts, parts_of, put, salvaged,
+    Device, bytes, damage, found_without, geometry_of, missing, new_device, parts, parts_of, put,
+    salvaged, sized_device,
 };
 use crate::stores::{STORE, id};
 use cs_frame::{ChunkHead, Geometry, StoreId};
@@ -136,4 +137,63 @@ fn a_part_that_is_written_over_is_gone(rt: HostRuntime) {
     }
     whole_shards_are_what_was_put();
     what_stands_is_whole();
+}
+
+/// Asserts how many parts are found on a device with two shards of which these pages can't be read, from a page on, and
+/// how many pages are named.
+fn finds(
+    rt: &(impl Abort + AllocGlobal),
+    unreadable: &[u64],
+    from_page: u64,
+    parts: usize,
+    named: usize,
+) {
+    let finds = found_without(rt, two_shards(rt), unreadable, from_page);
+    assert!(rt; finds.parts.len() == parts);
+    assert!(rt; finds.unreadable.len() == named);
+    for page in &finds.unreadable {
+        assert!(rt; unreadable.contains(page));
+    }
+}
+
+#[test]
+fn a_page_that_cannot_be_read_is_passed_over(rt: HostRuntime) {
+    finds(&rt, &[], 0, 6, 0);
+    // The second page of a part, and one on which none lies.
+    finds(&rt, &[12], 0, 5, 1);
+    finds(&rt, &[3, 16], 0, 6, 2);
+    // Superblock and root, and what comes after the extents, aren't looked at.
+    finds(&rt, &[0, 1, 17], 0, 6, 0);
+    finds(
+        &rt,
+        &[2, 3, 4, 5, 6, 7, 8, 9, 10, 11, 12, 13, 14, 15, 16],
+        0,
+        0,
+        15,
+    );
+}
+
+#[test]
+fn a_scan_goes_on_from_a_page(rt: HostRuntime) {
+    finds(&rt, &[3, 6], 5, 3, 1);
+    finds(&rt, &[], 6, 3, 0);
+    finds(&rt, &[], 12, 0, 0);
+    finds(&rt, &[], 100, 0, 0);
+}
+
+/// A device of so many pages has two parts, one on the first page and one on page 8, as far as it goes.
+fn has_parts(rt: &(impl Abort + AllocGlobal), pages: u64, parts: usize) {
+    let mut device = sized_device(rt, geometry_of(rt, STORE), pages);
+    put(rt, &mut device, (0, 0), head(1, 0, 1, 7), &[5]);
+    if pages > 8 {
+        put(rt, &mut device, (2, 0), head(2, 0, 1, 8), &[6]);
+    }
+    assert!(rt; found_without(rt, device, &[], 0).parts.len() == parts);
+}
+
+#[test]
+fn a_device_of_another_length_is_scanned_as_far_as_it_goes(rt: HostRuntime) {
+    has_parts(&rt, 3, 1);
+    has_parts(&rt, 9, 2);
+    has_parts(&rt, 100, 2);
 }

@@ -1,14 +1,13 @@
-use Rattle.std.proofs.Common.{◌≡◌, ◌≢◌, ◌⊎◌, inl, inr, ⊎_elim, true, false, ap, sym, subst, ◌∙◌, refl}
-use Rattle.cs_core.specs.cs_chunk.Reads.{IsNoAnswer}
+use Rattle.std.proofs.Common.{inl, inr, ⊎_elim, ap, sym, subst, ◌∙◌, refl}
 use Rattle.cs_core.specs.cs_extent.State.{shape}
-use Rattle.cs_disk.specs.Disk.{State, page, seen}
+use Rattle.cs_disk.specs.Disk.{page, seen}
 use Rattle.cs_frame.specs.Formats.{formats_of}
 use Rattle.law_machine.specs.Geometry.{twins_in}
 use Rattle.law_machine.specs.Recovery.{Recovers}
 use Rattle.cs_reader.proofs.Loading.{passed}
 use Rattle.cs_twin.specs.Laws.{only_pairs}
 use Rattle.cs_twin.specs.Paired.{state_shown}
-use Rattle.cs_mount.specs.Seals.{IsQuiet, IsSealing, IsWhyUnsealed, seal_calls}
+use Rattle.cs_mount.specs.Seals.{IsQuiet}
 use Rattle.cs_mount.specs.StorePairs.{store_version}
 use Rattle.cs_mount.proofs.Closing.{done_again, done_recovers, honest_there, not_done_recovers, not_unsettled, seal_left, seal_refused, seal_state, still_left}
 use Rattle.cs_mount.proofs.seals.seal.Goals as goal

@@ -7,9 +7,8 @@ use Rattle.cs_disk.specs.Disk.{State, page, seen}
 use Rattle.cs_extent.specs.State.{shape}
 use Rattle.cs_frame.specs.declared.locators.Locator.{Locator}
 use Rattle.cs_frame.specs.Runs.{IsRun}
-use Rattle.cs_reader.specs.ImageReads.{IsRunRead}
 use Rattle.cs_index.specs.declared.stored_runs.StoredRun.{StoredRun}
-use Rattle.cs_salvage.specs.Runs.{IsWhyNoRun}
+use Rattle.cs_salvage.specs.Runs.{IsRunRescued, IsWhyNoRun}
 use Rattle.cs_salvage.proofs.Newest.{listed_more, listed_none, newest_all, newest_stopped, told_caused, told_runs}
 use Rattle.cs_salvage.proofs.rescued_runs.read_newest.Goals as goal
 
@@ -18,7 +17,7 @@ loop-k-init g c = record {
   disk = reads_none g.D.PageDisk c.args.disk.now;
   listed = listed_none c.args.places.now c.no_runs-runs.result.items c.no_runs-runs.ensures;
   runs = subst (λ (rs : List StoredRun). AllByRecursion (λ run. IsRun (shape c.args.extents.now).format (record { entries = run.entries })) rs) (sym c.no_runs-runs.ensures) tt;
-  read = λ h. subst (λ (rs : List StoredRun). AllByRecursion (IsRunRead c.args.extents.now (page (seen (g.D.PageDisk.state c.args.disk.now)))) rs) (sym c.no_runs-runs.ensures) tt;
+  read = λ h. subst (λ (rs : List StoredRun). AllByRecursion (IsRunRescued c.args.extents.now (page (seen (g.D.PageDisk.state c.args.disk.now)))) rs) (sym c.no_runs-runs.ensures) tt;
 }
 
 pub loop-k-preserved : goal.loop-k-preserved
@@ -33,8 +32,8 @@ loop-k-preserved g c =
       listed = subst (λ (rs : List StoredRun). map (λ run. run.place) rs ≡ drop (length places - (c.loop-k.k + 1)) places) (sym items)
           (listed_more places c.loop-k.k (length places - 1 - c.loop-k.k) run c.loop-k.runs.items c.loop-k-test.true refl at c.loop-k.invariant.listed);
       runs = subst (λ (rs : List StoredRun). AllByRecursion (λ run. IsRun (shape c.args.extents.now).format (record { entries = run.entries })) rs) (sym items) (c.in-Ok.ensures.run, c.loop-k.invariant.runs);
-      read = λ h. subst (λ (rs : List StoredRun). AllByRecursion (IsRunRead c.args.extents.now (page (seen (g.D.PageDisk.state c.args.disk.now)))) rs) (sym items) (
-        subst (λ (s : State). IsRunRead c.args.extents.now (page (seen s)) run) (c.loop-k.invariant.disk.same h) (c.in-Ok.ensures.read (c.loop-k.invariant.disk.honesty.0 h)),
+      read = λ h. subst (λ (rs : List StoredRun). AllByRecursion (IsRunRescued c.args.extents.now (page (seen (g.D.PageDisk.state c.args.disk.now)))) rs) (sym items) (
+        subst (λ (s : State). IsRunRescued c.args.extents.now (page (seen s)) run) (c.loop-k.invariant.disk.same h) (c.in-Ok.ensures.read (c.loop-k.invariant.disk.honesty.0 h)),
         c.loop-k.invariant.read h,
       );
     }

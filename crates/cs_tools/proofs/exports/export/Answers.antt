@@ -32,15 +32,19 @@ returns-in-Ok-false-clause-script g c m has honest =
 pub returns-in-Ok-true-clause-meant : goal.returns-in-Ok-true-clause-meant
 returns-in-Ok-true-clause-meant g c =
     let contents = g.W.Write.contents in
-    subst (IsMeantExport c.args.core.now.store (id_number c.args.from) (contents c.args.writer.now) (contents c.print_shards.new.writer)) c.in-Ok-true.field-0-test
-    (meant_listed c.args.core.now.store (id_number c.args.from) c.index.result.now c.index.ensures.index c.in-Ok.ids.items c.deref.result.now c.deref.ensures.value
+    let x = g.D.PageDisk.failure_count c.args.core.now.disk in
+    let y = g.D.PageDisk.failure_count c.print_shards.new.core.disk in
+    subst (IsMeantExport c.args.core.now.store (id_number c.args.from) x y (contents c.args.writer.now) (contents c.print_shards.new.writer)) c.in-Ok-true.field-0-test
+    (meant_listed c.args.core.now.store (id_number c.args.from) x y c.index.result.now c.index.ensures.index c.in-Ok.ids.items c.deref.result.now c.deref.ensures.value
     (all_from _ _ _ (map id_number c.in-Ok.ids.items) (omega (arith, length-map c.in-Ok.ids.items id_number, c.in-Ok.ids.ok.0, c.in-Ok.ids.ok.1, c.in-Ok.ids.small)) c.in-Ok.ensures)
     c.in-Ok-true.field-0 (contents c.args.writer.now) (contents c.print_shards.new.writer) c.in-Ok-true.ensures.meant)
 
 pub returns-in-Ok-false-clause-meant : goal.returns-in-Ok-false-clause-meant
 returns-in-Ok-false-clause-meant g c =
     let contents = g.W.Write.contents in
-    subst (IsMeantExport c.args.core.now.store (id_number c.args.from) (contents c.args.writer.now) (contents c.print_shards.new.writer)) c.in-Ok-false.field-0-test
-    (meant_listed c.args.core.now.store (id_number c.args.from) c.index.result.now c.index.ensures.index c.in-Ok.ids.items c.deref.result.now c.deref.ensures.value
+    let x = g.D.PageDisk.failure_count c.args.core.now.disk in
+    let y = g.D.PageDisk.failure_count c.print_shards.new.core.disk in
+    subst (IsMeantExport c.args.core.now.store (id_number c.args.from) x y (contents c.args.writer.now) (contents c.print_shards.new.writer)) c.in-Ok-false.field-0-test
+    (meant_listed c.args.core.now.store (id_number c.args.from) x y c.index.result.now c.index.ensures.index c.in-Ok.ids.items c.deref.result.now c.deref.ensures.value
     (all_from _ _ _ (map id_number c.in-Ok.ids.items) (omega (arith, length-map c.in-Ok.ids.items id_number, c.in-Ok.ids.ok.0, c.in-Ok.ids.ok.1, c.in-Ok.ids.small)) c.in-Ok.ensures)
     c.in-Ok-false.field-0 (contents c.args.writer.now) (contents c.print_shards.new.writer) c.in-Ok-false.ensures.meant)

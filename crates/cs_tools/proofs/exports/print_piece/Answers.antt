@@ -26,7 +26,7 @@ loop-id-preserved g c =
           (one_told (map_now s) (failures now.disk) (failures c.print_shard.new.core.disk) _ c.in_ok-read.read (contents c.loop-id.writer) (contents c.print_shard.new.writer)
           (c.in_ok-read.ensures.line s (stays_in disks first now was.same was.disk honest s is) (was.disk.honesty.0 honest)
           (all_at _ c.args.ids.now c.loop-id.id-index _ c.loop-id-test.true (same_live disks first now was.same was.disk c.args.ids.now live))));
-      meant = λ live. shard_meant first.store now.store (store_read first now was.same) c.args.ids.now c.loop-id.id-index _ c.loop-id.whole c.in_ok-read.read (contents c.args.writer.now) (contents c.loop-id.writer) (contents c.print_shard.new.writer)
+      meant = λ live. shard_meant first.store now.store (failures first.disk) (failures now.disk) (failures c.print_shard.new.core.disk) was.disk.failures c.in_ok-read.ensures.disk.failures (store_read first now was.same) c.args.ids.now c.loop-id.id-index _ c.loop-id.whole c.in_ok-read.read (contents c.args.writer.now) (contents c.loop-id.writer) (contents c.print_shard.new.writer)
           c.loop-id-test.true live (was.meant live) c.in_ok-read.ensures.meant;
     }
 
@@ -47,7 +47,8 @@ pub returns-clause-meant : goal.returns-clause-meant
 returns-clause-meant g c live =
     let contents = g.W.Write.contents in
     let start = contents c.args.writer.now in
-    let meant = IsMeantOf c.args.core.now.store in
+    let failures = g.D.PageDisk.failure_count in
+    let meant = IsMeantOf c.args.core.now.store (failures c.args.core.now.disk) (failures c.loop-id.core.disk) in
     synced meant c.args.ids.now c.loop-id.whole start (contents c.loop-id.writer) (contents c.writeln.new.self)
     (subst (λ (ids : List ShardId). ArePrinted meant ids c.loop-id.whole start (contents c.loop-id.writer)) (take_all c.loop-id.id-index c.args.ids.now c.loop-id-test.false) (c.loop-id.invariant.meant live))
     c.in_ok-writeln.ensures.bytes

@@ -18,5 +18,5 @@ invariant-loop-id g l = record {
   lines : (s : State) → IsIn g.D.PageDisk.state l.fn.core s → g.D.PageDisk.honest l.fn.core.disk
       → AllByRecursion (λ id. live_at (index_of l.fn.core.store.index) (id_number id) ≢ []) l.ids
       → ArePrinted (IsTold (map_now s) (g.D.PageDisk.failure_count l.fn.core.disk) (g.D.PageDisk.failure_count l.core.disk)) (take l.id-index l.ids) l.whole (g.W.Write.contents l.fn.writer) (g.W.Write.contents l.writer);
-  meant : AllByRecursion (IsLive l.fn.core.store) l.ids → ArePrinted (IsMeantOf l.fn.core.store) (take l.id-index l.ids) l.whole (g.W.Write.contents l.fn.writer) (g.W.Write.contents l.writer);
+  meant : AllByRecursion (IsLive l.fn.core.store) l.ids → ArePrinted (IsMeantOf l.fn.core.store (g.D.PageDisk.failure_count l.fn.core.disk) (g.D.PageDisk.failure_count l.core.disk)) (take l.id-index l.ids) l.whole (g.W.Write.contents l.fn.writer) (g.W.Write.contents l.writer);
 }

@@ -32,4 +32,5 @@ returns-in_ok-print_put-in-Ok-Some-clause-meant g c live =
     )
 
 pub returns-in_ok-print_remark-in-Err-clause-meant : goal.returns-in_ok-print_remark-in-Err-clause-meant
-returns-in_ok-print_remark-in-Err-clause-meant g c live = ((c.args.id, Err c.in-Err.refusal), refl, refl, c.in_ok-print_remark-in-Err.ensures)
+returns-in_ok-print_remark-in-Err-clause-meant g c live =
+    ((c.args.id, Err c.in-Err.refusal), (refl, λ device. c.in-Err.ensures.cause.failed (ap (λ (r : Refusal). Err r) device)), refl, c.in_ok-print_remark-in-Err.ensures)

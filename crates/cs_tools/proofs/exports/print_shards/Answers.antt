@@ -22,7 +22,7 @@ loop-piece-init g c =
       same = refl;
       disk = reads_none g.D.PageDisk c.args.core.now.disk;
       lines = λ s is honest live. subst (λ (ids : List ShardId). IsPrintedUpTo (IsTold (map_now s) failed failed) c.args.ids.now ids true contents contents) (sym rest) (nothing_printed (IsTold (map_now s) failed failed) c.args.ids.now contents);
-      meant = λ live. subst (λ (ids : List ShardId). IsPrintedUpTo (IsMeantOf c.args.core.now.store) c.args.ids.now ids true contents contents) (sym rest) (nothing_printed (IsMeantOf c.args.core.now.store) c.args.ids.now contents);
+      meant = λ live. subst (λ (ids : List ShardId). IsPrintedUpTo (IsMeantOf c.args.core.now.store failed failed) c.args.ids.now ids true contents contents) (sym rest) (nothing_printed (IsMeantOf c.args.core.now.store failed failed) c.args.ids.now contents);
     }
 
 pub loop-piece-preserved : goal.loop-piece-preserved
@@ -49,7 +49,7 @@ loop-piece-preserved g c =
           (piece_told (map_now s) (failures now.disk) (failures c.print_piece.new.core.disk) piece c.in_ok-read.read (contents c.loop-piece.writer) (contents c.print_piece.new.writer)
           (c.in_ok-read.ensures.lines s (stays_in disks first now was.same was.disk honest s is) (was.disk.honesty.0 honest)
           (same_live disks first now was.same was.disk piece (piece_of _ (IsTold (map_now s) (failures first.disk) (failures now.disk)) ids rest piece left c.loop-piece.whole (contents c.args.writer.now) (contents c.loop-piece.writer) so_far step.1.0 live))));
-      meant = λ live. piece_meant first.store now.store (store_read first now was.same) c.loop-piece.piece-iterator.size ids rest piece left c.loop-piece.whole c.in_ok-read.read (contents c.args.writer.now) (contents c.loop-piece.writer) (contents c.print_piece.new.writer)
+      meant = λ live. piece_meant first.store now.store (failures first.disk) (failures now.disk) (failures c.print_piece.new.core.disk) was.disk.failures c.in_ok-read.ensures.disk.failures (store_read first now was.same) c.loop-piece.piece-iterator.size ids rest piece left c.loop-piece.whole c.in_ok-read.read (contents c.args.writer.now) (contents c.loop-piece.writer) (contents c.print_piece.new.writer)
           was.size live (was.meant live) step.1.0 step.1.1 step.1.2 c.in_ok-read.ensures.meant;
     }
 
@@ -65,5 +65,6 @@ returns-clause-script g c s is honest live =
 pub returns-clause-meant : goal.returns-clause-meant
 returns-clause-meant g c live =
     let contents = g.W.Write.contents in
-    all_printed (IsMeantOf c.args.core.now.store) c.args.ids.now c.loop-piece.piece-iterator.rest.now c.loop-piece.whole (contents c.args.writer.now) (contents c.loop-piece.writer) (contents c.flush.new.self)
+    let failures = g.D.PageDisk.failure_count in
+    all_printed (IsMeantOf c.args.core.now.store (failures c.args.core.now.disk) (failures c.loop-piece.core.disk)) c.args.ids.now c.loop-piece.piece-iterator.rest.now c.loop-piece.whole (contents c.args.writer.now) (contents c.loop-piece.writer) (contents c.flush.new.self)
     (c.loop-piece.invariant.meant live) c.in-None.ensures.steps.1.0 c.in_ok-flush.ensures.bytes

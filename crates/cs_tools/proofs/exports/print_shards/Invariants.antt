@@ -19,5 +19,5 @@ invariant-loop-piece g l = record {
   lines : (s : State) → IsIn g.D.PageDisk.state l.fn.core s → g.D.PageDisk.honest l.fn.core.disk
       → AllByRecursion (λ id. live_at (index_of l.fn.core.store.index) (id_number id) ≢ []) l.ids
       → IsPrintedUpTo (IsTold (map_now s) (g.D.PageDisk.failure_count l.fn.core.disk) (g.D.PageDisk.failure_count l.core.disk)) l.ids l.piece-iterator.rest.now l.whole (g.W.Write.contents l.fn.writer) (g.W.Write.contents l.writer);
-  meant : AllByRecursion (IsLive l.fn.core.store) l.ids → IsPrintedUpTo (IsMeantOf l.fn.core.store) l.ids l.piece-iterator.rest.now l.whole (g.W.Write.contents l.fn.writer) (g.W.Write.contents l.writer);
+  meant : AllByRecursion (IsLive l.fn.core.store) l.ids → IsPrintedUpTo (IsMeantOf l.fn.core.store (g.D.PageDisk.failure_count l.fn.core.disk) (g.D.PageDisk.failure_count l.core.disk)) l.ids l.piece-iterator.rest.now l.whole (g.W.Write.contents l.fn.writer) (g.W.Write.contents l.writer);
 }

@@ -1,9 +1,9 @@
-use Rattle.std.proofs.Common.{◌≡◌, Some, refl, subst, sym}
+use Rattle.std.proofs.Common.{◌≡◌, ℕ, List, Some, refl, subst, sym}
 use Rattle.std.specs.Prelude.{Err, Ok}
-use Rattle.cs_core.specs.Lookups.{IsReading}
+use Rattle.cs_core.specs.Lookups.{AreMeantBytes, IsReading}
 use Rattle.cs_index.specs.State.{id_number}
 use Rattle.law_machine.specs.Element.{Bytes}
-use Rattle.cs_tools.proofs.Getting.{absent_none, absent_some, absent_unread, got_out, no_refusal, told_fault}
+use Rattle.cs_tools.proofs.Getting.{absent_none, absent_some, absent_unread, got_out, meant_out, no_refusal, told_fault}
 use Rattle.cs_tools.proofs.get_command.get.Goals as goal
 
 pub returns-in-Ok-Some-clause-answer : goal.returns-in-Ok-Some-clause-answer
@@ -21,6 +21,14 @@ returns-in-Ok-None-clause-answer g c m has honest =
 pub returns-in-Err-clause-answer : goal.returns-in-Err-clause-answer
 returns-in-Err-clause-answer g c m has honest =
     (subst (λ r. IsReading (m (id_number c.args.id)) (Err r)) (sym c.refusal.ensures) (c.in-Err.ensures.answer m has honest), refl)
+
+pub returns-in-Ok-Some-clause-meant : goal.returns-in-Ok-Some-clause-meant
+returns-in-Ok-Some-clause-meant g c =
+    let contents = g.W.Write.contents in
+    let v = c.args.store.now.store in
+    let id = id_number c.args.id in
+    let meant = rw c.in-Ok-Some.field-0-is at c.in-Ok-Some.ensures.meant in
+    meant_out v id c.deref.result.now (contents c.args.writer.now) (contents c.write_out.new.writer) c.write_out.result (subst (λ (bytes : List ℕ). AreMeantBytes v id bytes) (sym c.deref.ensures.value) meant) c.write_out.ensures
 
 pub returns-in-Ok-Some-clause-absent : goal.returns-in-Ok-Some-clause-absent
 returns-in-Ok-Some-clause-absent g c =

@@ -1,56 +1,94 @@
-use Rattle.std.proofs.Common.{◌≡◌, ◌*◌, ◌<◌, ◌≤◌, None, arith, inl, inr, refl, subst}
-use Rattle.std.specs.Prelude.{MatchBool}
+use Rattle.std.proofs.Common.{◌≡◌, ◌∙◌, ◌*◌, ◌<◌, ◌≤◌, ℕ, List, None, ap, arith, inl, inr, refl, subst, sym}
+use Rattle.std.specs.Prelude.{Option}
 use Rattle.cs_extent.specs.State.{shape}
 use Rattle.cs_inspect.specs.Choices.{Chooses, ReadsOn}
-use Rattle.cs_tools.specs.Reclaims.{EmptiesChosen, IsPersistent}
-use Rattle.cs_tools.proofs.Emptying.{one_more, two_each}
-use Rattle.cs_tools.proofs.Resting.{rest_at_last, rest_then}
+use Rattle.cs_tools.specs.Reclaims.{EmptiesChosen, EmptiesTimes, IsPersistent, StopsNext, StopsReclaim, WhetherEmptied}
+use Rattle.cs_tools.specs.declared.reclaim_command.Sought.{Sought}
+use Rattle.cs_tools.proofs.Appended.{whatever}
+use Rattle.cs_tools.proofs.Emptying.{apart_still, no_memory, one_more, passed_on, refused_so, two_each}
+use Rattle.cs_tools.proofs.Resting.{rest_then}
 use Rattle.cs_tools.proofs.Tidying.{tidies_none, tidies_then}
 use Rattle.cs_tools.proofs.reclaim_command.empty_by_choice.Goals as goal
 
-pub returns-in_err-more-clause-tidies : goal.returns-in_err-more-clause-tidies
-returns-in_err-more-clause-tidies g c = tidies_then g.D.PageDisk c.args.core.now c.loop.core c.empty_next.new.core c.loop.invariant.tidies c.empty_next.ensures.tidies
+-- ---- it is refused, or the writer failed
 
-pub returns-then-not-more-clause-tidies : goal.returns-then-not-more-clause-tidies
-returns-then-not-more-clause-tidies g c = tidies_then g.D.PageDisk c.args.core.now c.loop.core c.empty_next.new.core c.loop.invariant.tidies c.empty_next.ensures.tidies
+pub returns-in_err-sought-clause-tidies : goal.returns-in_err-sought-clause-tidies
+returns-in_err-sought-clause-tidies g c = tidies_then g.D.PageDisk c.args.core.now c.loop.core c.empty_next.new.core c.loop.invariant.tidies c.empty_next.ensures.tidies
 
-pub returns-then-not-more-clause-kept : goal.returns-then-not-more-clause-kept
-returns-then-not-more-clause-kept g c honest =
+pub returns-in_err-sought-clause-stopped : goal.returns-in_err-sought-clause-stopped
+returns-in_err-sought-clause-stopped g c apart =
+    let contents = g.W.Write.contents in
+    let disks = g.D.PageDisk in
+    let start = contents c.args.writer.now in
+    let before = contents c.loop.writer in
+    let after = contents c.empty_next.new.writer in
+    let times = EmptiesTimes disks c.args.style c.loop.counter c.args.core.now c.loop.core start in
+    let new = c.empty_next.new.core in
+    let stop = c.in_err-sought.field-0.0 in
+    passed_on (StopsReclaim disks c.args.style c.args.core.now new start after) c.from_residual.result stop c.from_residual.ensures.1
+    (refused_so (λ r. StopsNext disks c.loop.core new r × (after ≡ before)) (StopsReclaim disks c.args.style c.args.core.now new start after)
+    (λ r stops. (c.loop.counter, c.loop.core, subst (λ (end : Option (List ℕ)). times end) (sym stops.1) (c.loop.invariant.times apart), stops.0)) stop
+    (c.in_err-sought.ensures.stopped (apart_still c.args.core.now c.loop.core c.loop.invariant.tidies.shape apart)))
+
+-- ---- none is chosen
+
+pub returns-in-Nothing-clause-tidies : goal.returns-in-Nothing-clause-tidies
+returns-in-Nothing-clause-tidies g c = tidies_then g.D.PageDisk c.args.core.now c.loop.core c.empty_next.new.core c.loop.invariant.tidies c.empty_next.ensures.tidies
+
+pub returns-in-Nothing-clause-kept : goal.returns-in-Nothing-clause-kept
+returns-in-Nothing-clause-kept g c honest =
     let old = c.loop.core in
     let new = c.empty_next.new.core in
     rest_then g.D.PageDisk c.args.core.now old new
-    (subst (λ b. MatchBool b (IsPersistent new) (ReadsOn g.D.PageDisk old new)) c.if-not-more.true (c.in_ok-more.ensures.rests (c.loop.invariant.tidies.honest.0 honest)))
+    (subst (λ (s : Sought). WhetherEmptied s (IsPersistent new) (ReadsOn g.D.PageDisk old new)) c.in-Nothing.is (c.in_ok-sought.ensures.rests (c.loop.invariant.tidies.honest.0 honest)))
     (c.loop.invariant.so_far honest)
 
-pub returns-then-not-more-clause-all : goal.returns-then-not-more-clause-all
-returns-then-not-more-clause-all g c =
+pub returns-in-Nothing-clause-all : goal.returns-in-Nothing-clause-all
+returns-in-Nothing-clause-all g c apart =
     let disks = g.D.PageDisk in
+    let contents = g.W.Write.contents in
+    let style = c.args.style in
     let old = c.loop.core in
-    let new = c.empty_next.new.core in (
+    let new = c.empty_next.new.core in
+    let before = contents c.loop.writer in
+    let after = contents c.empty_next.new.writer in
+    let found = subst (λ (s : Sought). WhetherEmptied s (EmptiesChosen disks style old new before after) (ReadsOn disks old new × Chooses disks old new None × (after ≡ before))) c.in-Nothing.is
+    (c.in_ok-sought.ensures.chosen (apart_still c.args.core.now old c.loop.invariant.tidies.shape apart)) in (
       c.loop.counter,
       c.loop.invariant.few,
       old,
-      c.loop.invariant.times,
-      inl (subst (λ b. MatchBool b (EmptiesChosen disks old new) (ReadsOn disks old new × Chooses disks old new None)) c.if-not-more.true c.in_ok-more.ensures.chosen),
+      subst (λ (end : Option (List ℕ)). EmptiesTimes disks style c.loop.counter c.args.core.now old (contents c.args.writer.now) end) (sym found.2) (c.loop.invariant.times apart),
+      inl (found.0, found.1),
     )
 
+-- ---- two were chosen for each extent
+
+pub returns-clause-tidies : goal.returns-clause-tidies
+returns-clause-tidies g c = tidies_then g.D.PageDisk c.args.core.now c.loop.core c.look_again.new.core c.loop.invariant.tidies c.look_again.ensures.tidies
+
 pub returns-clause-kept : goal.returns-clause-kept
-returns-clause-kept g c honest = rest_at_last g.D.PageDisk c.args.core.now c.loop.core (c.loop.invariant.so_far honest)
+returns-clause-kept g c honest = whatever c.look_again.result (rest_then g.D.PageDisk c.args.core.now c.loop.core c.look_again.new.core c.look_again.ensures.reads (c.loop.invariant.so_far honest))
 
 pub returns-clause-all : goal.returns-clause-all
-returns-clause-all g c =
+returns-clause-all g c apart =
     let first = c.args.core.now in
     let most : c.saturating_mul-most.result ≡ 2 * (shape first.store.extents).extents =
     two_each c.extents.result.now first.store.extents c.extent_count.result c.saturating_mul-most.result c.extents.ensures c.extent_count.ensures.whole c.extent_count.ensures.count c.saturating_mul-most.ensures in
     let enough : c.saturating_mul-most.result ≤ c.loop.counter = c.loop-test.false in
     let few : c.loop.counter ≤ 2 * (shape first.store.extents).extents = c.loop.invariant.few in
-    (c.loop.counter, few, c.loop.core, c.loop.invariant.times, inr (omega (arith, most, enough, few), refl))
+    whatever c.look_again.result (c.loop.counter, few, c.loop.core, c.loop.invariant.times apart, inr (omega (arith, most, enough, few), c.look_again.ensures.reads))
+
+pub returns-clause-stopped : goal.returns-clause-stopped
+returns-clause-stopped g c apart =
+    let contents = g.W.Write.contents in
+    no_memory (StopsReclaim g.D.PageDisk c.args.style c.args.core.now c.look_again.new.core (contents c.args.writer.now) (contents c.loop.writer)) c.look_again.result
+    (c.loop.counter, c.loop.core, c.loop.invariant.times apart, inl (refl, c.look_again.ensures.reads)) c.look_again.ensures.memory
 
 pub loop-init : goal.loop-init
 loop-init g c = record {
   tidies = tidies_none g.D.PageDisk c.args.core.now;
   so_far = λ honest. inl refl;
-  times = refl;
+  times = λ apart. (refl, refl);
   few = omega arith;
 }
 
@@ -63,10 +101,15 @@ loop-preserved g c =
     let most : c.saturating_mul-most.result ≡ 2 * (shape first.store.extents).extents =
     two_each c.extents.result.now first.store.extents c.extent_count.result c.saturating_mul-most.result c.extents.ensures c.extent_count.ensures.whole c.extent_count.ensures.count c.saturating_mul-most.ensures in
     let within : c.loop.counter < c.saturating_mul-most.result = c.loop-test.true in
+    let contents = g.W.Write.contents in
+    let start = contents c.args.writer.now in
+    let before = contents c.loop.writer in
+    let after = contents c.empty_next.new.writer in
     record {
       tidies = tidies_then disks first old new c.loop.invariant.tidies c.empty_next.ensures.tidies;
-      so_far = λ honest. inr (subst (λ b. MatchBool b (IsPersistent new) (ReadsOn disks old new)) c.if-not-more.false (c.in_ok-more.ensures.rests (c.loop.invariant.tidies.honest.0 honest)));
-      times = one_more disks c.loop.counter first old new c.loop.invariant.times
-          (subst (λ b. MatchBool b (EmptiesChosen disks old new) (ReadsOn disks old new × Chooses disks old new None)) c.if-not-more.false c.in_ok-more.ensures.chosen);
+      so_far = λ honest. inr (subst (λ (s : Sought). WhetherEmptied s (IsPersistent new) (ReadsOn disks old new)) c.in-Emptied.is (c.in_ok-sought.ensures.rests (c.loop.invariant.tidies.honest.0 honest)));
+      times = λ apart. one_more disks c.args.style c.loop.counter first old new start before after (c.loop.invariant.times apart)
+          (subst (λ (s : Sought). WhetherEmptied s (EmptiesChosen disks c.args.style old new before after) (ReadsOn disks old new × Chooses disks old new None × (after ≡ before))) c.in-Emptied.is
+          (c.in_ok-sought.ensures.chosen (apart_still first old c.loop.invariant.tidies.shape apart)));
       few = omega (arith, most, within);
     }

@@ -1,10 +1,10 @@
 use Rattle.std.proofs.Common.{◌∙◌, ◌≡◌, ◌⊎◌, ℕ, ap, inr, subst, sym}
 use Rattle.cs_chunk.specs.Reads.{IsNoAnswer}
-use Rattle.cs_disk.specs.Disk.{Image, flushed, page, seen}
+use Rattle.cs_disk.specs.Disk.{Image, Rises, flushed, page, seen}
 use Rattle.cs_twin.specs.Paired.{disk_below, state_shown}
 use Rattle.cs_mount.specs.Showing.{shown_on}
 use Rattle.cs_salvage.specs.Rescued.{IsRescued, IsWhyNotRescued}
-use Rattle.cs_tools.proofs.Rescuing.{no_store, of_pairs, of_rescue, rescued_by}
+use Rattle.cs_tools.proofs.Rescuing.{no_store, of_pairs, of_rescue, rescued_by, rises_below}
 use Rattle.cs_tools.proofs.rescues.open_rescue.Goals as goal
 
 pub returns-in-Ok-open-clause-found : goal.returns-in-Ok-open-clause-found
@@ -52,3 +52,12 @@ returns-in-Err-open-clause-two g c = λ h two. absurd (two (c.in-Ok.ensures.one 
 
 pub returns-in-Err-clause-two : goal.returns-in-Err-clause-two
 returns-in-Err-clause-two g c = λ h two. no_store (c.in-Err.ensures.why h)
+
+pub returns-in-Err-open-clause-cause : goal.returns-in-Err-open-clause-cause
+returns-in-Err-open-clause-cause g c is =
+    let D = g.D.PageDisk in
+    let paired = c.in-Ok.paired in
+    let refused = c.in-Err-open.paired in
+    let unrefused = (c.in-Err-open.ensures.disk.sound c.in-Ok.ensures.sound).1 in
+    subst (λ below. Rises (D.failure_count c.args.disk) (D.failure_count below)) (sym c.into_disk.ensures)
+    (rises_below (D.failure_count c.args.disk) (D.failure_count paired.disk) (D.failure_count refused.disk) paired.notes.refused refused.notes.refused c.in-Ok.ensures.failures c.in-Ok.ensures.refusals unrefused (c.in-Err-open.ensures.cause is))

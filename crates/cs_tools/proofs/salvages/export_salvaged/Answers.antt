@@ -8,11 +8,11 @@ returns-in-Ok-clause-script g c honest is =
     let contents = g.W.Write.contents in
     let found = c.args.found.now in
     let image = seen (disks.state c.args.disk.now) in
-    salvages image found (disks.failure_count c.args.disk.now) (disks.failure_count c.print_shards.new.disk) (contents c.args.writer.now) (contents c.print_shards.new.writer) c.in-Ok.whole c.outcome_of.result
-    (c.in-Ok.ensures.script honest (all_stand image found is)) (rw c.deref-in-Ok.ensures.value at (rw c.deref.ensures.value at c.outcome_of.ensures))
+    salvages image found c.args.named.now (disks.failure_count c.args.disk.now) (disks.failure_count c.print_shards.new.disk) (contents c.args.writer.now) (contents c.print_shards.new.writer) c.in-Ok.whole c.outcome_of.result
+    (c.in-Ok.ensures.script honest (all_stand image found is)) c.outcome_of.ensures
 
 pub returns-in-Ok-clause-meant : goal.returns-in-Ok-clause-meant
 returns-in-Ok-clause-meant g c =
     let contents = g.W.Write.contents in
-    means_salvage c.args.found.now (contents c.args.writer.now) (contents c.print_shards.new.writer) c.in-Ok.whole c.outcome_of.result c.in-Ok.ensures.meant
-    (rw c.deref-in-Ok.ensures.value at (rw c.deref.ensures.value at c.outcome_of.ensures))
+    means_salvage c.args.found.now c.args.named.now (g.D.PageDisk.failure_count c.args.disk.now) (g.D.PageDisk.failure_count c.print_shards.new.disk) (contents c.args.writer.now) (contents c.print_shards.new.writer) c.in-Ok.whole c.outcome_of.result c.in-Ok.ensures.meant
+    c.outcome_of.ensures

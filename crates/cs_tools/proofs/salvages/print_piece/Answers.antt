@@ -15,6 +15,6 @@ loop-shard-preserved g c =
       lines = λ honest stand. shard_told c.args.sought.now (disks.failure_count first) (disks.failure_count here) (disks.failure_count then_) (disks.state first) (disks.state here) c.args.shards.now c.loop-shard.shard-index c.shard-item.result c.loop-shard.whole c.in_ok-read.read
           (contents c.args.writer.now) (contents c.loop-shard.writer) (contents c.print_shard.new.writer) was.disk.failures c.in_ok-read.ensures.disk.failures (was.disk.same honest) c.loop-shard-test.true c.shard-item.is stand (was.lines honest stand)
           (c.in_ok-read.ensures.line (was.disk.honesty.0 honest));
-      meant = shard_meant c.args.sought.now c.args.shards.now c.loop-shard.shard-index c.shard-item.result c.loop-shard.whole c.in_ok-read.read (contents c.args.writer.now) (contents c.loop-shard.writer) (contents c.print_shard.new.writer)
+      meant = shard_meant c.args.sought.now (disks.failure_count first) (disks.failure_count here) (disks.failure_count then_) was.disk.failures c.in_ok-read.ensures.disk.failures c.args.shards.now c.loop-shard.shard-index c.shard-item.result c.loop-shard.whole c.in_ok-read.read (contents c.args.writer.now) (contents c.loop-shard.writer) (contents c.print_shard.new.writer)
           c.loop-shard-test.true c.shard-item.is was.meant c.in_ok-read.ensures.meant;
     }

@@ -3,7 +3,7 @@ use Rattle.std.specs.Prelude.{Err, Ok}
 use Rattle.std.specs.Io.KnownBytes.{Appends}
 use Rattle.cs_refusal.specs.declared.refusals.Refusal.TheVariants.{Misplaced}
 use Rattle.cs_tools.specs.Exports.{put_line}
-use Rattle.cs_tools.proofs.Salvaging.{why_not}
+use Rattle.cs_tools.proofs.Salvaging.{caused, why_not}
 use Rattle.cs_tools.proofs.salvages.print_shard.Goals as goal
 
 pub returns-in_ok-print_put-in-Ok-Some-clause-line : goal.returns-in_ok-print_put-in-Ok-Some-clause-line
@@ -39,7 +39,14 @@ returns-in_ok-print_put-in-Ok-Some-clause-meant g c =
     )
 
 pub returns-in_ok-print_remark-in-Err-clause-meant : goal.returns-in_ok-print_remark-in-Err-clause-meant
-returns-in_ok-print_remark-in-Err-clause-meant g c = ((c.args.shard.now.put.id, Err c.refusal_of_disk.result), refl, refl, c.in_ok-print_remark-in-Err.ensures)
+returns-in_ok-print_remark-in-Err-clause-meant g c =
+    let failures = g.D.PageDisk.failure_count in
+    let r = c.refusal_of_disk.result in (
+      (c.args.shard.now.put.id, Err r),
+      (refl, caused (failures c.args.disk.now) (failures c.read_whole.new.disk) c.in-Err.fault r c.read_whole.result c.in-Err.is c.refusal_of_disk.ensures c.read_whole.ensures.cause),
+      refl,
+      c.in_ok-print_remark-in-Err.ensures,
+    )
 
 pub returns-in_ok-print_remark-in-Ok-None-clause-meant : goal.returns-in_ok-print_remark-in-Ok-None-clause-meant
-returns-in_ok-print_remark-in-Ok-None-clause-meant g c = ((c.args.shard.now.put.id, Err Misplaced), refl, refl, c.in_ok-print_remark-in-Ok-None.ensures)
+returns-in_ok-print_remark-in-Ok-None-clause-meant g c = ((c.args.shard.now.put.id, Err Misplaced), (refl, λ device. absurd (cc device)), refl, c.in_ok-print_remark-in-Ok-None.ensures)

@@ -21,7 +21,7 @@ loop-piece-init g c =
       size = ap (λ (items : Chunks WholeShard). items.size) same ∙ c.chunks-piece-items.ensures.size;
       disk = reads_none disks c.args.disk.now;
       lines = λ honest stand. subst (λ (shards : List WholeShard). IsPrintedUpTo told found.shards.items shards true contents contents) (sym rest) (nothing_printed told found.shards.items contents);
-      meant = subst (λ (shards : List WholeShard). IsPrintedUpTo (IsMeantBy found.sought) found.shards.items shards true contents contents) (sym rest) (nothing_printed (IsMeantBy found.sought) found.shards.items contents);
+      meant = subst (λ (shards : List WholeShard). IsPrintedUpTo (IsMeantBy found.sought failed failed) found.shards.items shards true contents contents) (sym rest) (nothing_printed (IsMeantBy found.sought failed failed) found.shards.items contents);
     }
 
 pub loop-piece-preserved : goal.loop-piece-preserved
@@ -40,7 +40,7 @@ loop-piece-preserved g c =
       lines = λ honest stand. piece_told found.sought (disks.failure_count first) (disks.failure_count here) (disks.failure_count then_) (disks.state first) (disks.state here) c.loop-piece.piece-iterator.size found.shards.items
           c.loop-piece.piece-iterator.rest.now c.in-Some.piece.now c.next.new.self.rest.now c.loop-piece.whole c.in_ok-read.read (contents c.args.writer.now) (contents c.loop-piece.writer) (contents c.print_piece.new.writer)
           was.disk.failures c.in_ok-read.ensures.disk.failures (was.disk.same honest) was.size stand (was.lines honest stand) step.1.0 step.1.1 step.1.2 (c.in_ok-read.ensures.lines (was.disk.honesty.0 honest));
-      meant = piece_meant found.sought c.loop-piece.piece-iterator.size found.shards.items c.loop-piece.piece-iterator.rest.now c.in-Some.piece.now c.next.new.self.rest.now c.loop-piece.whole c.in_ok-read.read
+      meant = piece_meant found.sought (disks.failure_count first) (disks.failure_count here) (disks.failure_count then_) was.disk.failures c.in_ok-read.ensures.disk.failures c.loop-piece.piece-iterator.size found.shards.items c.loop-piece.piece-iterator.rest.now c.in-Some.piece.now c.next.new.self.rest.now c.loop-piece.whole c.in_ok-read.read
           (contents c.args.writer.now) (contents c.loop-piece.writer) (contents c.print_piece.new.writer) was.size was.meant step.1.0 step.1.1 step.1.2 c.in_ok-read.ensures.meant;
     }
 
@@ -60,6 +60,8 @@ pub returns-clause-meant : goal.returns-clause-meant
 returns-clause-meant g c =
     let contents = g.W.Write.contents in
     let found = c.args.found.now in
-    means_whole found (contents c.args.writer.now) (contents c.flush.new.self) c.loop-piece.whole
-    (all_printed (IsMeantBy found.sought) found.shards.items c.loop-piece.piece-iterator.rest.now c.loop-piece.whole
+    let x = g.D.PageDisk.failure_count c.args.disk.now in
+    let y = g.D.PageDisk.failure_count c.loop-piece.disk in
+    means_whole found x y (contents c.args.writer.now) (contents c.flush.new.self) c.loop-piece.whole
+    (all_printed (IsMeantBy found.sought x y) found.shards.items c.loop-piece.piece-iterator.rest.now c.loop-piece.whole
     (contents c.args.writer.now) (contents c.loop-piece.writer) (contents c.flush.new.self) c.loop-piece.invariant.meant c.in-None.ensures.steps.1.0 c.in_ok-flush.ensures.bytes)

@@ -12,5 +12,5 @@ invariant-loop-piece g l = record {
   disk : OnlyReads g.D.PageDisk l.fn.disk l.disk;
   lines : g.D.PageDisk.honest l.fn.disk → AllByRecursion (Stands l.found.sought (seen (g.D.PageDisk.state l.fn.disk))) l.found.shards.items
       → IsPrintedUpTo (IsToldOf l.found.sought (seen (g.D.PageDisk.state l.fn.disk)) (g.D.PageDisk.failure_count l.fn.disk) (g.D.PageDisk.failure_count l.disk)) l.found.shards.items l.piece-iterator.rest.now l.whole (g.W.Write.contents l.fn.writer) (g.W.Write.contents l.writer);
-  meant : IsPrintedUpTo (IsMeantBy l.found.sought) l.found.shards.items l.piece-iterator.rest.now l.whole (g.W.Write.contents l.fn.writer) (g.W.Write.contents l.writer);
+  meant : IsPrintedUpTo (IsMeantBy l.found.sought (g.D.PageDisk.failure_count l.fn.disk) (g.D.PageDisk.failure_count l.disk)) l.found.shards.items l.piece-iterator.rest.now l.whole (g.W.Write.contents l.fn.writer) (g.W.Write.contents l.writer);
 }

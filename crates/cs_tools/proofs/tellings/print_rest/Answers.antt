@@ -1,18 +1,14 @@
-use Rattle.cs_tools.specs.Tellings.{two_text}
 use Rattle.std.proofs.lemmas.Result.{on_ok_weaker}
-use Rattle.cs_tools.proofs.Continued.{goes_then, grows_behind}
+use Rattle.cs_tools.specs.Advised.{todo_members, todo_text}
+use Rattle.cs_tools.specs.Tellings.{rest_text, what_text}
+use Rattle.cs_tools.proofs.Appended.{appends_then}
 use Rattle.cs_tools.proofs.tellings.print_rest.Goals as goal
 
-pub returns-clause-more : goal.returns-clause-more
-returns-clause-more g c =
+pub returns : goal.returns
+returns g c =
     let contents = g.W.Write.contents in
+    let reason = c.args.reason.now in
     on_ok_weaker c.print_advice.result
-    (λ ended. goes_then (contents c.args.writer.now) (contents c.print_text.new.writer) (contents c.print_advice.new.writer) c.in_ok-print_text.ensures ended)
-    c.print_advice.ensures.more
-
-pub returns-clause-two : goal.returns-clause-two
-returns-clause-two g c f l is =
-    let contents = g.W.Write.contents in
-    on_ok_weaker c.print_advice.result
-    (λ ended. grows_behind (contents c.args.writer.now) (contents c.print_text.new.writer) (contents c.print_advice.new.writer) (two_text f.0 l.0) c.in_ok-print_text.ensures ended)
-    (c.print_advice.ensures.two f l is)
+    (λ ended. appends_then (contents c.args.writer.now) (contents c.print_text.new.writer) (contents c.print_advice.new.writer)
+    (what_text reason.text.now reason.system) (rest_text c.args.style (todo_text reason.advice) (todo_members reason.advice)) c.in_ok-print_text.ensures ended)
+    c.print_advice.ensures
