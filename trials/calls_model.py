@@ -1,5 +1,5 @@
 """The typed store by the rules of docs/API.md, over the store of store_model.py: what its calls answer, with the count of its events, its device calls, of
-which one may fail, and its openings. It answers the lines of `calls` of crates/trial_programs, and shares nothing with that program."""
+which one may fail, and its openings. It answers the lines of `calls` of trials/program, and shares nothing with that program."""
 from rules import (BAD_GEOMETRY, DEVICE_FAULT, HALTED, HISTORY_FULL, NOT_SWEEPABLE, RULES, Refused, frame_pages, head_bytes, most_weight, run_bytes,
                    run_pages)
 from store_model import Store, bytes_of

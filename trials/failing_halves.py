@@ -143,8 +143,10 @@ class Damaged:
     def refused(self):
         for words in (["list"], ["get", NAMES[0]], ["stat"], ["scrub"], ["put", NEW], ["del", NAMES[0]], ["reclaim"], ["scrub", "--repair"], ["run", "--file"]):
             ran = self.run(*words)
-            right = ran.status == NO_STORE and prints_nothing(ran) and numbers(ran) == {27} and self.made.path.read_bytes() == self.image
-            self.see("each command is refused 27, and writes nothing", right, (words, ran))
+            # Of a page that can't be read a writer doesn't know what it holds.
+            why = {29} if self.gone and words[0] in ("put", "del", "reclaim", "run") or "--repair" in words and self.gone else {27}
+            right = ran.status == NO_STORE and prints_nothing(ran) and numbers(ran) in ({27}, why) and self.made.path.read_bytes() == self.image
+            self.see("each command is refused 27 (a writer 29 where a page can't be read), and writes nothing", right, (words, ran))
         ran = self.run("export", "--as-of")
         found = {line.split()[1]: line.split()[2] for line in ran.text.splitlines() if line.startswith("put ")}
         left = holes.Left(self.image, self.gone, as_of=True).shards()

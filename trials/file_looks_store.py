@@ -157,6 +157,16 @@ LOOKS = [
         files(a=EIGHT[:-100], b=EIGHT),
         hold(a=EIGHT[:-100], b=EIGHT, c=None),
     ),
+    Look(
+        "of a file of an odd length the whole pages are opened, and it stays as it is",
+        """
+        open_whole_pages a > open 7 > open a rw, lock a
+        read 6 > bytes 7 7 > read a 6+1
+        open_whole_pages c > System(NotThere) > close a, open c rw ENOENT
+        """,
+        files(a=EIGHT[:-100]),
+        hold(a=EIGHT[:-100], c=None),
+    ),
     # What is under a name.
     Look("a pipe is special, and no file, folder or device is", "is_special pipe > true > -\nis_special a > false > -\nis_special sub > false\nis_special none > false\nis_special /dev/null > true", nodes),
     Look("a block device is one, and nothing else", "is_block_device pipe > false > -\nis_block_device a > false\nis_block_device sub > false\nis_block_device none > false", nodes),

@@ -131,6 +131,42 @@ class Left:
         return found
 
 
+def is_there(record, place):
+    """Whether an extent with this record has had the frame at a place."""
+    return place.generation == record[1] and place.page < record[0]
+
+
+def sections_made(image):
+    """The pages of a store of format 4 on which a section is made from the index, and the store that opens by them. Raises `Refused`
+    if none is lost, or if the store doesn't open by them."""
+    left, found, made = Left(image), pairs.pairs_of(image), []
+    if left.form == 2:
+        raise Refused(43)
+    named = [*left.root.runs, *(place for places in left.entries.values() for place in places)]
+    for own, newest, other in found.newest():
+        if own == pairs.ROOT:
+            continue
+        if found.version(own, newest) > 0:
+            section = reader.section(found.page(newest), 4)
+            records = dict(enumerate(section.records, section_start(left, section.number)))
+            its = [place for place in named if place.extent in records]
+            is_past = any(place.generation < records[place.extent][1] for place in its)
+            if section.recorded > left.root.version or is_past or all(is_there(records[place.extent], place) for place in its):
+                continue
+        lost = [page for page in (newest, other) if found.version(own, page) == 0]
+        if not lost:
+            raise Refused(43)
+        made += lost
+    if not made:
+        raise Refused(43)
+    return sorted(made), left
+
+
+def section_start(store, number):
+    """The first extent whose record stands in a section."""
+    return number * reader.geometry_of(4, store.extents, store.pages, store.sections)
+
+
 class Uses(NamedTuple):
     """What the pages of a store are for: its pairs, the runs that its root names, each shard's chunks, and their first pages."""
 

@@ -357,7 +357,7 @@ def run(path, chains, seed):
 
 def main(options):
     if not os.access(options.trials, os.X_OK):
-        raise SystemExit(f"tears: there is no {options.trials}: `rt run -- graph` in crates/trial_programs builds it")
+        raise SystemExit(f"tears: there is no {options.trials}: `trials/build trials/program` builds it")
     counts, wrong = run(options.trials, options.chains, options.seed)
     print(", ".join(f"{count} {what}" for what, count in counts.items()))
     if wrong:

@@ -4,7 +4,7 @@ ghost use Rattle.std.specs.Prelude.{◌≤◌, IfErr};
 use crate::creates::{FILE, geometry_asked, hex_of, identity_made, mode_given, plural_of};
 use crate::files::{OverFile, Place, Read, Written, disk_to_open, new_disk, sync_folder};
 use crate::manners::Manner;
-use crate::openings::{Shown, Unopened, open_typed};
+use crate::openings::{Shown, Unopened, open_store};
 use crate::progress::Told;
 use crate::warnings::{explain_unopened, warn_of, warn_text};
 use clap::ArgMatches;
@@ -62,7 +62,7 @@ pub fn copy_file<R: AllocGlobal + Clock + Files<File = File> + RandomSource + Pr
         return explain(rt, refused, &Known::nothing(), manner.style);
     }
     let disk = disk_to_open(rt, place, manner.style);
-    let opened = match open_typed::<Mounted<Remade<Read>>, R>(rt, disk) {
+    let opened = match open_store::<Mounted<Remade<Read>>, R>(rt, disk) {
         Ok(opened) => opened,
         Err(unopened) => return explain_unopened(rt, &unopened, manner.style),
     };

@@ -5,15 +5,14 @@ use crate::files::{OverFile, Place, Read, Written, identity_on, pages_made, whol
 use crate::manners::Manner;
 use crate::openings::Unopened;
 use crate::progress::Told;
-use crate::sections::{made_for, pages_of};
-use crate::warnings::{explain_unopened, warn_of_made, warn_of_other};
+use crate::warnings::{explain_unopened, warn_of_other};
 use cs_disk::{Access, FileFault, PageDisk, ReadOnly, SystemFault, refusal_of_disk};
 use cs_frame::StoreId;
 use cs_mount::Chosen;
 use cs_refusal::Refusal;
 use cs_tools::store::file_openers::first_pages;
 use cs_tools::{
-    Depth, FileDiagnosis, Known, Outcome, Style, diagnose, explain, first_geometry, report, warn,
+    Depth, FileDiagnosis, Known, Outcome, Style, diagnose, explain, first_geometry, report,
 };
 use std::alloc::AllocError;
 use std::fs::File;
@@ -90,29 +89,8 @@ fn found_on<R: AllocGlobal + Clock + Files<File = File> + Eprint>(
     let shown = shown_of(rt, disk, place, manner.style)?;
     let told = Told::new(rt, manner);
     match diagnose(rt.alloc(), shown, file_pages, depth, &told) {
-        Ok((found, disk)) => {
-            let found = FileDiagnosis::Found(found);
-            warn_of_lost(rt, &found, disk, manner.style);
-            Ok(found)
-        }
+        Ok((found, _)) => Ok(FileDiagnosis::Found(found)),
         Err(_) => Err(refused(rt, Refusal::OutOfMemory, None)),
-    }
-}
-
-/// If the store doesn't open as it lies there, but with sections that are made from its index, that is reported.
-fn warn_of_lost<R: AllocGlobal + Eprint>(rt: &R, found: &FileDiagnosis, disk: Read, style: Style) {
-    if found.status() != cs_words::NO_STORE {
-        return;
-    }
-    let mut disk = disk;
-    let made = made_for(rt.alloc(), Refusal::NotAStore, &mut disk);
-    if !made.is_empty() {
-        warn_of_made(rt, &pages_of(rt.alloc(), &made), style);
-        warn(
-            rt,
-            "commands open the store with these sections, and `scrub --repair` writes them",
-            style,
-        );
     }
 }
 

@@ -2,14 +2,14 @@
 
 use crate::files::{OverFile, Place, Written, disk_without_loss};
 use crate::kept_pages::keep_pages;
-use crate::openings::{Opened, Shown, Unopened, open_core, open_typed};
+use crate::openings::{Opened, Shown, Unopened, open_store};
 use crate::sections::disk_with_sections;
 use crate::skips::without_extent;
 use crate::warnings::warn_of;
 use cs_mount::the_core::Core;
 use cs_mount::{Finding, Mounted, fence};
 use cs_refusal::Refusal;
-use cs_tools::store::Store;
+use cs_tools::store::{Loss, Store};
 use cs_tools::{Outcome, Style};
 use std::fs::File;
 use std::rt::Files;
@@ -18,83 +18,72 @@ use std::time::Clock;
 /// Opens the store in a file to write it, and warns of its damaged pages. If it has some they are fenced first: each is
 /// kept beside the store, and filled with bytes of 255. So what was lost there can't be completed by a later write. A page
 /// that can't be read is dealt with as `disk_without_loss` says. An extent is left out if the place names one.
-pub fn open_core_to_write<R: AllocGlobal + Clock + Files<File = File> + Eprint>(
+pub fn open_to_write<R: AllocGlobal + Clock + Files<File = File> + Eprint>(
     rt: &R,
     place: Place,
     style: Style,
-) -> Result<Core<Mounted<Written>>, Unopened> {
-    let core = open_core_fenced(rt, place, style)?;
+) -> Result<Store<Mounted<Written>>, Unopened> {
+    let store = open_fenced(rt, place, style)?;
     match place.skipped {
-        Some(extent) => without_extent(rt, core, extent, style),
-        None => Ok(core),
-    }
-}
-
-/// Opens the store in a file to write it, after sections that it had lost were made and written.
-pub fn open_core_whole<R: AllocGlobal + Clock + Files<File = File> + Eprint>(
-    rt: &R,
-    place: Place,
-    style: Style,
-) -> Result<Opened<Core<Mounted<Written>>>, Unopened> {
-    match open_core::<Mounted<Written>, R>(rt, disk_without_loss(rt, place, style)) {
-        Ok(opened) => Ok(opened),
-        Err(unopened) => {
-            let disk = disk_with_sections(rt, place, unopened, style)?;
-            open_core::<Mounted<Written>, R>(rt, Ok(disk))
+        Some(extent) => {
+            let core = without_extent(rt, store.into_core(), extent, style)?;
+            let disk = core.into_disk().into_below();
+            unless_refused(rt, Mounted::<Written>::open_over(rt.alloc(), disk))
         }
+        None => Ok(store),
     }
 }
 
-/// The same as a typed store.
-fn open_typed_whole<R: AllocGlobal + Clock + Files<File = File> + Eprint>(
+/// A store that was opened to be written, and the pages of sections that were made for that.
+pub type Whole = (Opened<Store<Mounted<Written>>>, Vec<u64>);
+
+/// Opens the store in a file to write it as it lies there.
+pub fn open_as_it_lies<R: AllocGlobal + Clock + Files<File = File> + Eprint>(
     rt: &R,
     place: Place,
     style: Style,
 ) -> Result<Opened<Store<Mounted<Written>>>, Unopened> {
-    match open_typed::<Mounted<Written>, R>(rt, disk_without_loss(rt, place, style)) {
+    open_store::<Mounted<Written>, R>(rt, disk_without_loss(rt, place, style))
+}
+
+/// Opens the store in a file that wasn't opened as it lies there, after sections that it had lost were made and written,
+/// which is reported.
+pub fn open_with_sections<R: AllocGlobal + Clock + Files<File = File> + Eprint>(
+    rt: &R,
+    place: Place,
+    unopened: Unopened,
+    loss: Loss,
+    style: Style,
+) -> Result<Whole, Unopened> {
+    let (disk, made) = disk_with_sections(rt, place, unopened, loss, style)?;
+    match open_store::<Mounted<Written>, R>(rt, Ok(disk)) {
+        Ok(opened) => Ok((opened, made)),
+        Err(unopened) => Err(unopened),
+    }
+}
+
+/// Opens the store in a file to write it, after sections that it had lost were made and written.
+fn open_whole<R: AllocGlobal + Clock + Files<File = File> + Eprint>(
+    rt: &R,
+    place: Place,
+    style: Style,
+) -> Result<Opened<Store<Mounted<Written>>>, Unopened> {
+    match open_as_it_lies(rt, place, style) {
         Ok(opened) => Ok(opened),
         Err(unopened) => {
-            let disk = disk_with_sections(rt, place, unopened, style)?;
-            open_typed::<Mounted<Written>, R>(rt, Ok(disk))
+            let (opened, _) = open_with_sections(rt, place, unopened, Loss::Accepted, style)?;
+            Ok(opened)
         }
     }
 }
 
 /// Opens the store in a file to write it, with its damaged pages fenced.
-fn open_core_fenced<R: AllocGlobal + Clock + Files<File = File> + Eprint>(
-    rt: &R,
-    place: Place,
-    style: Style,
-) -> Result<Core<Mounted<Written>>, Unopened> {
-    let opened = open_core_whole(rt, place, style)?;
-    let (commands, _) = opened.store.opened();
-    warn_of(rt, &opened, commands, style);
-    if !are_passed_over(&opened.findings) {
-        return Ok(opened.store);
-    }
-    let Opened {
-        store,
-        findings,
-        ..
-    } = opened;
-    let disk = store.into_disk().into_below();
-    let disk = fenced(rt, place.path, disk, &findings, style)?;
-    unless_refused(rt, Mounted::<Written>::open_core(rt.alloc(), disk))
-}
-
-/// Opens the store in a file to write it as a typed store, as `open_core_to_write`.
-pub fn open_typed_to_write<R: AllocGlobal + Clock + Files<File = File> + Eprint>(
+fn open_fenced<R: AllocGlobal + Clock + Files<File = File> + Eprint>(
     rt: &R,
     place: Place,
     style: Style,
 ) -> Result<Store<Mounted<Written>>, Unopened> {
-    if place.skipped.is_some() {
-        let disk = open_core_to_write(rt, place, style)?
-            .into_disk()
-            .into_below();
-        return unless_refused(rt, Mounted::<Written>::open_typed(rt.alloc(), disk));
-    }
-    let opened = open_typed_whole(rt, place, style)?;
+    let opened = open_whole(rt, place, style)?;
     let (commands, _) = opened.store.found();
     warn_of(rt, &opened, commands, style);
     if !are_passed_over(&opened.findings) {
@@ -107,7 +96,7 @@ pub fn open_typed_to_write<R: AllocGlobal + Clock + Files<File = File> + Eprint>
     } = opened;
     let disk = store.close().into_below();
     let disk = fenced(rt, place.path, disk, &findings, style)?;
-    unless_refused(rt, Mounted::<Written>::open_typed(rt.alloc(), disk))
+    unless_refused(rt, Mounted::<Written>::open_over(rt.alloc(), disk))
 }
 
 /// Whether a page was passed over.
@@ -118,10 +107,10 @@ fn are_passed_over(findings: &[Finding]) -> bool {
 }
 
 /// The store that was opened, without what was found; or why it wasn't opened.
-fn unless_refused<S: Drop, R: AllocGlobal>(
+fn unless_refused<R: AllocGlobal>(
     rt: &R,
-    opened: Result<(S, Vec<Finding>), (Refusal, Written)>,
-) -> Result<S, Unopened> {
+    opened: Result<(Store<Mounted<Written>>, Vec<Finding>), (Refusal, Written)>,
+) -> Result<Store<Mounted<Written>>, Unopened> {
     match opened {
         Ok((store, _)) => Ok(store),
         Err((refusal, mut disk)) => Err(Unopened::of_disk(rt.alloc(), refusal, &mut disk)),
@@ -139,7 +128,8 @@ pub fn open_kept<R: AllocGlobal + Files<File = File> + Eprint>(
     if !keep_pages(rt, path, &mut disk, findings, style) {
         return Err(Unopened::of_outcome(rt.alloc(), Outcome::MayBeLost, disk.fault()));
     }
-    unless_refused(rt, Mounted::<Written>::open_core(rt.alloc(), disk))
+    let store = unless_refused(rt, Mounted::<Written>::open_over(rt.alloc(), disk))?;
+    Ok(store.into_core())
 }
 
 /// The disk of a store, after each of its damaged pages was kept beside it and filled.

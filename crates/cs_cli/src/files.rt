@@ -8,13 +8,13 @@ use cs_frame::{Geometry, StoreId};
 use cs_mount::{Chosen, Remade, find_geometry, two_stores, unreadable_halves};
 use cs_refusal::Refusal;
 use cs_tools::store::file_openers::{
-    create_emptied, create_new, first_pages, open_device, open_waiting,
+    create_emptied, create_new, first_pages, open_device, open_waiting, open_whole_pages,
 };
 pub use cs_tools::store::file_openers::{
     FileToRead as Read, FileToWrite as Written, OverFile, is_block_device, is_special, sync_folder,
 };
 use cs_tools::store::{Loss, pages_said, ready_to_write};
-use cs_tools::{Content, Outcome, Style};
+use cs_tools::{Content, Outcome, Style, warn};
 use std::alloc::Global;
 use std::fs::File;
 use std::rt::Files;
@@ -85,6 +85,21 @@ fn first_of<R: AllocGlobal + Eprint>(
     }
 }
 
+/// The pages of a disk that its store had when it was made; all of them if that isn't known.
+fn pages_of_store<R: AllocGlobal + Eprint>(
+    rt: &R,
+    disk: Written,
+    place: Place,
+    style: Style,
+) -> Written {
+    let mut disk = disk;
+    let pages = match place.device_pages {
+        Some(pages) => Some(pages),
+        None => pages_made(rt.alloc(), &mut disk),
+    };
+    first_of(rt, disk, pages, style)
+}
+
 /// The file at a place, to be read and written as its access says. One that is opened for reading refuses each write
 /// itself.
 pub fn disk_to_write<R: AllocGlobal + Clock + Files<File = File> + Eprint>(
@@ -93,27 +108,26 @@ pub fn disk_to_write<R: AllocGlobal + Clock + Files<File = File> + Eprint>(
     style: Style,
 ) -> Result<Written, Unopened> {
     match whole_disk(rt, place) {
-        Ok(mut disk) => {
-            let pages = match place.device_pages {
-                Some(pages) => Some(pages),
-                None => pages_made(rt.alloc(), &mut disk),
-            };
-            Ok(first_of(rt, disk, pages, style))
-        }
+        Ok(disk) => Ok(pages_of_store(rt, disk, place, style)),
         Err(fault) => Err(Unopened::of_file(rt.alloc(), fault)),
     }
 }
 
-/// The file at a place, to be read alone.
-pub fn disk_to_read<R: AllocGlobal + Clock + Files<File = File> + Eprint>(
+/// What is read of a disk, if its file was opened.
+fn read_on<R: AllocGlobal + Eprint>(
     rt: &R,
+    disk: Result<Written, FileFault>,
     place: Place,
     style: Style,
 ) -> Result<Read, Unopened> {
+    let disk = match disk {
+        Ok(disk) => disk,
+        Err(fault) => return Err(Unopened::of_file(rt.alloc(), fault)),
+    };
     match place.id {
-        Some(id) => disk_of_store(rt, place, id, style),
+        Some(id) => disk_of_store(rt, disk, place, id, style),
         None => {
-            let disk = disk_to_write(rt, place, style)?;
+            let disk = pages_of_store(rt, disk, place, style);
             readable_of(rt, disk, None, style)
         }
     }
@@ -125,18 +139,60 @@ pub fn disk_to_open<R: AllocGlobal + Clock + Files<File = File> + Eprint>(
     place: Place,
     style: Style,
 ) -> Result<Remade<Read>, Unopened> {
-    let disk = disk_to_read(rt, place, style)?;
+    let disk = read_on(rt, whole_disk(rt, place), place, style)?;
     Ok(Remade::new(disk, Vec::new(rt.alloc())))
 }
 
-/// The file at a place, to be read alone, all of it. No page is looked at.
-pub fn disk_to_scan<R: AllocGlobal + Clock + Files<File = File>>(
+/// The file at a place, to be read alone for what can be salvaged of it. If its length is odd, it ends with its last
+/// whole page, which is reported. If neither page of a pair can be read, no page is hidden.
+pub fn disk_to_salvage<R: AllocGlobal + Clock + Files<File = File> + Eprint>(
     rt: &R,
     place: Place,
+    style: Style,
 ) -> Result<Read, Unopened> {
-    match whole_disk(rt, place) {
+    let read = read_on(rt, whole_pages(rt, place, style), place, style);
+    if place.id.is_none() && is_refused_by_device(&read) {
+        return disk_to_scan(rt, place, style);
+    }
+    read
+}
+
+/// Whether a disk wasn't opened since the device refused a read.
+fn is_refused_by_device(read: &Result<Read, Unopened>) -> bool {
+    match read {
+        Ok(_) => false,
+        Err(unopened) => unopened.outcome == Outcome::NoStore(Refusal::DeviceFault),
+    }
+}
+
+/// The same, all of it. No page is looked at.
+pub fn disk_to_scan<R: AllocGlobal + Clock + Files<File = File> + Eprint>(
+    rt: &R,
+    place: Place,
+    style: Style,
+) -> Result<Read, Unopened> {
+    match whole_pages(rt, place, style) {
         Ok(disk) => Ok(Chosen::all(rt.alloc(), ReadOnly::new(disk))),
         Err(fault) => Err(Unopened::of_file(rt.alloc(), fault)),
+    }
+}
+
+/// The whole pages of the file at a place.
+fn whole_pages<R: AllocGlobal + Clock + Files<File = File> + Eprint>(
+    rt: &R,
+    place: Place,
+    style: Style,
+) -> Result<Written, FileFault> {
+    match whole_disk(rt, place) {
+        Err(FileFault::OddLength) => {
+            warn(
+                rt,
+                "the length of the file is no multiple of 4096 bytes: what comes after its last whole page is left out",
+                style,
+            );
+            open_whole_pages(rt, rt.alloc(), place.path)
+        }
+        opened => opened,
     }
 }
 
@@ -186,16 +242,13 @@ fn readable_of<R: AllocGlobal + Eprint>(
 }
 
 /// The same, of which only the store with this identity shows. If it isn't there, no store is.
-fn disk_of_store<R: AllocGlobal + Clock + Files<File = File> + Eprint>(
+fn disk_of_store<R: AllocGlobal + Eprint>(
     rt: &R,
+    disk: Written,
     place: Place,
     id: StoreId,
     style: Style,
 ) -> Result<Read, Unopened> {
-    let disk = match whole_disk(rt, place) {
-        Ok(disk) => disk,
-        Err(fault) => return Err(Unopened::of_file(rt.alloc(), fault)),
-    };
     let (disk, pages) = match place.device_pages {
         Some(pages) => (disk, Some(pages)),
         None => {

@@ -23,6 +23,7 @@ mod queries;
 mod repairs;
 mod runs;
 mod salvages;
+mod seals;
 mod sections;
 mod shards;
 mod skips;

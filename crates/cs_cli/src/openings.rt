@@ -4,8 +4,7 @@ use crate::files::{OverFile, Read, Written};
 use crate::heads::scan;
 use crate::sections::{Section, made_for, pages_of};
 use cs_disk::{FileFault, PageDisk, SystemFault};
-use cs_mount::the_core::Core;
-use cs_mount::{AsOf, Finding, MountOptions, Mounted, Remade, look};
+use cs_mount::{AsOf, Finding, Mounted, Remade, look};
 use cs_refusal::Refusal;
 use cs_tools::store::{OpenOptions, Store};
 use cs_tools::{Known, Outcome, Scanned, known_of, may_be_lost};
@@ -45,13 +44,7 @@ pub trait Shown: PageDisk {
     type Below: Remaking;
 
     /// The store on the disk below, and what the pages hold that it has twice.
-    fn open_core(
-        alloc: Global,
-        disk: Self::Below,
-    ) -> Result<(Core<Self>, Vec<Finding>), (Refusal, Self::Below)>;
-
-    /// The same as a typed store.
-    fn open_typed(
+    fn open_over(
         alloc: Global,
         disk: Self::Below,
     ) -> Result<(Store<Self>, Vec<Finding>), (Refusal, Self::Below)>;
@@ -63,11 +56,7 @@ pub trait Shown: PageDisk {
 impl<D: Remaking> Shown for Mounted<D> {
     type Below = D;
 
-    fn open_core(alloc: Global, disk: D) -> Result<(Core<Mounted<D>>, Vec<Finding>), (Refusal, D)> {
-        MountOptions::new(alloc).open(disk)
-    }
-
-    fn open_typed(
+    fn open_over(
         alloc: Global,
         disk: D,
     ) -> Result<(Store<Mounted<D>>, Vec<Finding>), (Refusal, D)> {
@@ -82,14 +71,7 @@ impl<D: Remaking> Shown for Mounted<D> {
 impl<D: Remaking> Shown for AsOf<Mounted<D>> {
     type Below = D;
 
-    fn open_core(
-        alloc: Global,
-        disk: D,
-    ) -> Result<(Core<AsOf<Mounted<D>>>, Vec<Finding>), (Refusal, D)> {
-        MountOptions::new(alloc).open_older(disk)
-    }
-
-    fn open_typed(
+    fn open_over(
         alloc: Global,
         disk: D,
     ) -> Result<(Store<AsOf<Mounted<D>>>, Vec<Finding>), (Refusal, D)> {
@@ -101,7 +83,7 @@ impl<D: Remaking> Shown for AsOf<Mounted<D>> {
     }
 }
 
-/// A store that was opened: its core, or the typed store.
+/// A store that was opened, or what can be got of one.
 #[derive(Drop)]
 pub struct Opened<S> {
     pub store: S,
@@ -162,6 +144,20 @@ impl Unopened {
         }
     }
 
+    /// A repair stopped since it could make a loss final.
+    pub fn stopped(self) -> Self {
+        let Unopened {
+            outcome: _,
+            known,
+            findings,
+        } = self;
+        Unopened {
+            outcome: Outcome::MayBeLost,
+            known,
+            findings,
+        }
+    }
+
     /// What is on this disk is refused so.
     pub fn of_disk<D: OverFile>(alloc: Global, refusal: Refusal, disk: &mut D) -> Self {
         let system = disk.fault();
@@ -176,26 +172,30 @@ impl Unopened {
 
 /// Opens the store in a file. If the newest root may be the one that is damaged, the device is scanned first for the
 /// commands that are on it.
-pub fn open_core<E: Shown + Drop, R: AllocGlobal + Clock>(
+pub fn open_store<E: Shown + Drop, R: AllocGlobal + Clock>(
     rt: &R,
     disk: Result<E::Below, Unopened>,
-) -> Result<Opened<Core<E>>, Unopened> {
-    let opened = core_on::<E>(rt.alloc(), disk?, None)?;
+) -> Result<Opened<Store<E>>, Unopened> {
+    let opened = store_on::<E>(rt.alloc(), disk?, None)?;
     if !may_be_lost(&opened.findings) {
         return Ok(opened);
     }
-    let mut disk = opened.store.into_disk().into_below();
+    let Opened { store, made, .. } = opened;
+    let mut disk = store.close().into_below();
     let scanned = scan(rt, &mut disk);
-    core_on::<E>(rt.alloc(), disk, scanned)
+    // The disk shows the sections that were made.
+    let mut opened = store_on::<E>(rt.alloc(), disk, scanned)?;
+    opened.made = made;
+    Ok(opened)
 }
 
 /// The store on a disk, of which a scan found this.
-fn core_on<E: Shown + Drop>(
+fn store_on<E: Shown + Drop>(
     alloc: Global,
     disk: E::Below,
     scanned: Option<Scanned>,
-) -> Result<Opened<Core<E>>, Unopened> {
-    match E::open_core(alloc, disk) {
+) -> Result<Opened<Store<E>>, Unopened> {
+    match E::open_over(alloc, disk) {
         Ok((store, findings)) => Ok(Opened {
             store,
             findings,
@@ -204,71 +204,13 @@ fn core_on<E: Shown + Drop>(
         }),
         Err((refusal, mut disk)) => {
             let made = made_for(alloc, refusal, &mut disk);
-            core_with::<E>(alloc, refusal, disk, made, scanned)
+            store_with::<E>(alloc, refusal, disk, made, scanned)
         }
     }
 }
 
 /// The store on a disk that was refused so, with these sections in place of those that are lost.
-fn core_with<E: Shown + Drop>(
-    alloc: Global,
-    refusal: Refusal,
-    disk: E::Below,
-    made: Vec<Section>,
-    scanned: Option<Scanned>,
-) -> Result<Opened<Core<E>>, Unopened> {
-    let pages = pages_of(alloc, &made);
-    let shown = match disk.with(made) {
-        Ok(shown) => shown,
-        Err(mut disk) => return Err(Unopened::of_disk(alloc, refusal, &mut disk)),
-    };
-    match E::open_core(alloc, shown) {
-        Ok((store, findings)) => Ok(Opened {
-            store,
-            findings,
-            scanned,
-            made: pages,
-        }),
-        Err((refusal, mut disk)) => Err(Unopened::of_disk(alloc, refusal, &mut disk)),
-    }
-}
-
-/// Opens the store in a file as a typed store, as `open_core`.
-pub fn open_typed<E: Shown + Drop, R: AllocGlobal + Clock>(
-    rt: &R,
-    disk: Result<E::Below, Unopened>,
-) -> Result<Opened<Store<E>>, Unopened> {
-    let opened = typed_on::<E>(rt.alloc(), disk?, None)?;
-    if !may_be_lost(&opened.findings) {
-        return Ok(opened);
-    }
-    let mut disk = opened.store.close().into_below();
-    let scanned = scan(rt, &mut disk);
-    typed_on::<E>(rt.alloc(), disk, scanned)
-}
-
-/// The typed store on a disk, of which a scan found this.
-fn typed_on<E: Shown + Drop>(
-    alloc: Global,
-    disk: E::Below,
-    scanned: Option<Scanned>,
-) -> Result<Opened<Store<E>>, Unopened> {
-    match E::open_typed(alloc, disk) {
-        Ok((store, findings)) => Ok(Opened {
-            store,
-            findings,
-            scanned,
-            made: Vec::new(alloc),
-        }),
-        Err((refusal, mut disk)) => {
-            let made = made_for(alloc, refusal, &mut disk);
-            typed_with::<E>(alloc, refusal, disk, made, scanned)
-        }
-    }
-}
-
-/// The typed store on a disk that was refused so, as `core_with`.
-fn typed_with<E: Shown + Drop>(
+fn store_with<E: Shown + Drop>(
     alloc: Global,
     refusal: Refusal,
     disk: E::Below,
@@ -280,7 +222,7 @@ fn typed_with<E: Shown + Drop>(
         Ok(shown) => shown,
         Err(mut disk) => return Err(Unopened::of_disk(alloc, refusal, &mut disk)),
     };
-    match E::open_typed(alloc, shown) {
+    match E::open_over(alloc, shown) {
         Ok((store, findings)) => Ok(Opened {
             store,
             findings,

@@ -1,18 +1,20 @@
 //! The commands over the whole of a store in a file: `list`, `stat`, `scrub`, `reclaim`, `export`.
 ghost use Rattle.std.specs.Prelude.{◌≤◌};
 
-use crate::fences::open_core_to_write;
+use crate::fences::open_to_write;
 use crate::files::{OverFile, Place, Read, Written, disk_to_open};
 use crate::manners::{End, Manner};
-use crate::openings::{Opened, Shown, Unopened, open_core};
+use crate::openings::{Opened, Shown, Unopened, open_store};
 use crate::progress::Told;
-use crate::warnings::{explain_unopened, warn_of, warn_of_older, warn_of_unsealed};
+use crate::seals::end_written;
+use crate::warnings::{explain_unopened, warn_of, warn_of_older};
 use clap::ArgMatches;
 use cs_disk::PageDisk;
 use cs_frame::ShardId;
 use cs_mount::the_core::Core;
-use cs_mount::{AsOf, Finding, Mounted, Remade, seal};
+use cs_mount::{AsOf, Mounted, Remade};
 use cs_options::{Listing, from_of, listing_of};
+use cs_tools::store::Store;
 use cs_tools::{
     FoundPages, Known, Outcome, Progress, Style, explain, export, list, reclaim, scrub, stat,
 };
@@ -58,14 +60,14 @@ pub fn ask_file<R: AllocGlobal + Clock + Files<File = File> + Print + Eprint>(
     };
     if older {
         let disk = disk_to_open(rt, place, manner.style);
-        let opened = open_core::<AsOf<Mounted<Remade<Read>>>, R>(rt, disk);
+        let opened = open_store::<AsOf<Mounted<Remade<Read>>>, R>(rt, disk);
         if opened.is_ok() {
             warn_of_older(rt, manner.style);
         }
         return ask_opened(rt, opened, query, manner, &mut writer);
     }
     let disk = disk_to_open(rt, place, manner.style);
-    let opened = open_core::<Mounted<Remade<Read>>, R>(rt, disk);
+    let opened = open_store::<Mounted<Remade<Read>>, R>(rt, disk);
     ask_opened(rt, opened, query, manner, &mut writer)
 }
 
@@ -81,39 +83,18 @@ pub fn reclaim_file<R: AllocGlobal + Clock + Files<File = File> + Print + Eprint
     let Ok(mut writer) = BufWriter::new(rt.alloc(), io::writer(rt)) else {
         return explain(rt, Outcome::Failed, &Known::nothing(), manner.style);
     };
-    let mut core = match open_core_to_write(rt, place, manner.style) {
-        Ok(core) => core,
+    let mut core = match open_to_write(rt, place, manner.style) {
+        Ok(store) => store.into_core(),
         Err(unopened) => return explain_unopened(rt, &unopened, manner.style),
     };
     let outcome = reclaim(rt.alloc(), &mut core, manner.style, &mut writer);
-    let known = Known::of_system(ended(rt, core, end, manner).into_below().fault());
-    explain(rt, outcome, &known, manner.style)
-}
-
-/// The disk of a store that was written to, after the store was sealed, unless that isn't wanted. If it can't be sealed
-/// that is reported.
-fn ended<R: AllocGlobal + Eprint>(
-    rt: &R,
-    core: Core<Mounted<Written>>,
-    end: End,
-    manner: Manner,
-) -> Mounted<Written> {
-    if end == End::Unsealed {
-        return core.into_disk();
-    }
-    match seal(rt.alloc(), core) {
-        Ok(disk) => disk,
-        Err((refusal, disk)) => {
-            warn_of_unsealed(rt, refusal, manner.style);
-            disk
-        }
-    }
+    end_written(rt, core, outcome, end, manner)
 }
 
 /// Asks the store that was opened, if it was, and gives the exit status.
 fn ask_opened<E: Shown + Drop, R: AllocGlobal + Clock + Eprint, W: Write>(
     rt: &R,
-    opened: Result<Opened<Core<E>>, Unopened>,
+    opened: Result<Opened<Store<E>>, Unopened>,
     query: Query,
     manner: Manner,
     writer: &mut W,
@@ -124,21 +105,27 @@ fn ask_opened<E: Shown + Drop, R: AllocGlobal + Clock + Eprint, W: Write>(
         Ok(opened) => opened,
         Err(unopened) => return explain_unopened(rt, &unopened, manner.style),
     };
-    let (commands, _) = opened.store.opened();
+    let (commands, _) = opened.store.found();
     warn_of(rt, &opened, commands, manner.style);
     let Opened {
         store,
         findings,
+        made,
         ..
     } = opened;
-    ask_core(rt, store, &findings, query, manner, writer)
+    let pages = FoundPages {
+        findings: &findings,
+        made: &made,
+        mended: false,
+    };
+    ask_core(rt, store.into_core(), &pages, query, manner, writer)
 }
 
 /// Asks a store of whose pages this was found, and gives the exit status.
 fn ask_core<E: Shown + Drop, R: AllocGlobal + Clock + Eprint, W: Write>(
     rt: &R,
     mut core: Core<E>,
-    findings: &[Finding],
+    pages: &FoundPages,
     query: Query,
     manner: Manner,
     writer: &mut W,
@@ -146,7 +133,7 @@ fn ask_core<E: Shown + Drop, R: AllocGlobal + Clock + Eprint, W: Write>(
     ensures { result ≤ 7 }
 {
     let told = Told::new(rt, manner);
-    let outcome = ask(rt.alloc(), &mut core, findings, query, &told, writer);
+    let outcome = ask(rt.alloc(), &mut core, pages, query, &told, writer);
     let known = Known::of_system(core.into_disk().into_below().fault());
     explain(rt, outcome, &known, manner.style)
 }
@@ -155,7 +142,7 @@ fn ask_core<E: Shown + Drop, R: AllocGlobal + Clock + Eprint, W: Write>(
 fn ask<D: PageDisk, P: Progress, W: Write>(
     alloc: Global,
     core: &mut Core<D>,
-    findings: &[Finding],
+    pages: &FoundPages,
     query: Query,
     progress: &P,
     writer: &mut W,
@@ -163,13 +150,7 @@ fn ask<D: PageDisk, P: Progress, W: Write>(
     match query {
         Query::List(listing) => list_of(alloc, core, listing, writer),
         Query::Stat(style) => stat(alloc, core, style, writer),
-        Query::Scrub(style) => {
-            let pages = FoundPages {
-                findings,
-                mended: false,
-            };
-            scrub(alloc, core, &pages, progress, style, writer)
-        }
+        Query::Scrub(style) => scrub(alloc, core, pages, progress, style, writer),
         Query::Export(from) => export(alloc, core, from, progress, writer),
     }
 }

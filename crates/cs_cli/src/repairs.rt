@@ -1,7 +1,7 @@
 //! The command `scrub --repair`.
 ghost use Rattle.std.specs.Prelude.{◌≤◌};
 
-use crate::fences::{open_core_whole, open_kept};
+use crate::fences::{Whole, open_as_it_lies, open_kept, open_with_sections};
 use crate::files::{OverFile, Place, Written};
 use crate::manners::Manner;
 use crate::openings::{Opened, Shown, Unopened};
@@ -18,8 +18,13 @@ use std::io::BufWriter;
 use std::rt::Files;
 use std::time::Clock;
 
-/// What is scrubbed: a store of whose pages this was found before they were written anew.
-type Mended = (Core<Mounted<Written>>, Vec<Finding>);
+/// A store whose damaged pages were written anew.
+#[derive(Drop)]
+struct MendedStore {
+    core: Core<Mounted<Written>>,
+    /// What was found of its pages before.
+    findings: Vec<Finding>,
+}
 
 /// Writes the damaged pages of the superblock and of the root anew from their other copies, scrubs the store in a file,
 /// and gives the exit status.
@@ -30,30 +35,49 @@ pub fn repair_file<R: AllocGlobal + Clock + Files<File = File> + Print + Eprint>
 ) -> u8
     ensures { result ≤ 7 }
 {
-    let opened = match open_core_whole(rt, place, manner.style) {
+    let (opened, made) = match open_to_repair(rt, place, manner) {
         Ok(opened) => opened,
         Err(unopened) => return explain_unopened(rt, &unopened, manner.style),
     };
-    let (commands, _) = opened.store.opened();
+    let (commands, _) = opened.store.found();
     warn_of(rt, &opened, commands, manner.style);
-    if place.loss == Loss::Refused && may_be_lost(&opened.findings) {
-        let outcome = stop(rt, &opened, manner);
+    let Opened {
+        store,
+        findings,
+        ..
+    } = opened;
+    let core = store.into_core();
+    if place.loss == Loss::Refused && may_be_lost(&findings) {
+        let outcome = stop(rt, &core, &findings, manner);
         return explain(rt, outcome, &Known::nothing(), manner.style);
     }
-    match mended(rt, place, opened, manner) {
-        Ok(mended) => scrub_mended(rt, mended, manner),
+    match mended(rt, place, core, findings, manner) {
+        Ok(mended) => scrub_mended(rt, mended, &made, manner),
         Err(unopened) => explain_unopened(rt, &unopened, manner.style),
+    }
+}
+
+/// Opens the store in a file to repair it. If a section is lost it is made and written first, as `disk_with_sections` says.
+fn open_to_repair<R: AllocGlobal + Clock + Files<File = File> + Eprint>(
+    rt: &R,
+    place: Place,
+    manner: Manner,
+) -> Result<Whole, Unopened> {
+    match open_as_it_lies(rt, place, manner.style) {
+        Ok(opened) => Ok((opened, Vec::new(rt.alloc()))),
+        Err(unopened) => open_with_sections(rt, place, unopened, place.loss, manner.style),
     }
 }
 
 /// Prints that a repair could make a loss final, and stops.
 fn stop<R: AllocGlobal + Print>(
     rt: &R,
-    opened: &Opened<Core<Mounted<Written>>>,
+    core: &Core<Mounted<Written>>,
+    findings: &[Finding],
     manner: Manner,
 ) -> Outcome {
     match BufWriter::new(rt.alloc(), io::writer(rt)) {
-        Ok(mut writer) => stop_repair(&opened.store, &opened.findings, manner.style, &mut writer),
+        Ok(mut writer) => stop_repair(core, findings, manner.style, &mut writer),
         Err(_) => Outcome::Failed,
     }
 }
@@ -63,54 +87,45 @@ fn stop<R: AllocGlobal + Print>(
 fn mended<R: AllocGlobal + Files<File = File> + Eprint>(
     rt: &R,
     place: Place,
-    opened: Opened<Core<Mounted<Written>>>,
+    core: Core<Mounted<Written>>,
+    findings: Vec<Finding>,
     manner: Manner,
-) -> Result<Mended, Unopened> {
-    let Opened {
-        store,
-        findings,
-        ..
-    } = opened;
+) -> Result<MendedStore, Unopened> {
     let core = match place.loss {
-        Loss::Refused => store,
+        Loss::Refused => core,
         Loss::Accepted => {
-            let disk = store.into_disk().into_below();
+            let disk = core.into_disk().into_below();
             open_kept(rt, place.path, disk, &findings, manner.style)?
         }
     };
     match mend(core) {
-        Ok(disk) => reopened(rt, Core::open(rt.alloc(), disk, LIMITS), findings),
-        Err(refused) => reopened(rt, Err(refused), findings),
+        Ok(disk) => match Core::open(rt.alloc(), disk, LIMITS) {
+            Ok(core) => Ok(MendedStore { core, findings }),
+            Err((refusal, disk)) => Err(unmended(rt, refusal, disk)),
+        },
+        Err((refusal, disk)) => Err(unmended(rt, refusal, disk)),
     }
 }
 
-/// The store that was opened again, with what was found before.
-fn reopened<R: AllocGlobal>(
-    rt: &R,
-    core: Result<Core<Mounted<Written>>, (Refusal, Mounted<Written>)>,
-    findings: Vec<Finding>,
-) -> Result<Mended, Unopened> {
-    match core {
-        Ok(core) => Ok((core, findings)),
-        Err((refusal, disk)) => {
-            let mut disk = disk.into_below();
-            Err(Unopened::of_disk(rt.alloc(), refusal, &mut disk))
-        }
-    }
+/// The store wasn't repaired, or wasn't opened after it, since that was refused so.
+fn unmended<R: AllocGlobal>(rt: &R, refusal: Refusal, disk: Mounted<Written>) -> Unopened {
+    let mut disk = disk.into_below();
+    Unopened::of_disk(rt.alloc(), refusal, &mut disk)
 }
 
-/// Scrubs a store whose damaged pages were written anew, and gives the exit status.
+/// Scrubs a store whose damaged pages were written anew, and these of sections that were made, and gives the exit status.
 fn scrub_mended<R: AllocGlobal + Clock + Print + Eprint>(
     rt: &R,
-    mended: Mended,
+    mended: MendedStore,
+    made: &[u64],
     manner: Manner,
 ) -> u8
     ensures { result ≤ 7 }
 {
-    let (core, findings) = mended;
-    let mut core = core;
+    let MendedStore { mut core, findings } = mended;
     let pages = FoundPages {
         findings: &findings,
+        made,
         mended: true,
     };
     let told = Told::new(rt, manner);

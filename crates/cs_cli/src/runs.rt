@@ -2,11 +2,11 @@
 ghost use Rattle.std.specs.Prelude.{◌≤◌};
 
 use crate::creates::NO_RANDOM;
-use crate::fences::open_core_to_write;
+use crate::fences::open_to_write;
 use crate::files::{Place, Written, disk_to_write, emptied_disk, loss_of};
 use crate::lefts::{Left, left_in, tell_left};
 use crate::manners::Manner;
-use crate::openings::{Opened, Shown, Unopened, open_core};
+use crate::openings::{Opened, Shown, Unopened, open_store};
 use crate::progress::{tell_ended, tell_making};
 use crate::warnings::{tell_unopened, warn_of, warn_of_older};
 use crate::watchers::Reporter;
@@ -17,7 +17,7 @@ use cs_mount::{AsOf, MountOptions, Mounted};
 use cs_options::script::{Onward, print_no_store, run_over_watched};
 use cs_options::{device_pages_of, geometry_of, skipped_of, wait_of};
 use cs_refusal::Refusal;
-use cs_tools::store::{NO_IDENTITY, new_identity};
+use cs_tools::store::{NO_IDENTITY, Store, new_identity};
 use cs_tools::{Known, Outcome, Style, tell, warn};
 use std::fs::File;
 use std::io;
@@ -131,8 +131,8 @@ fn in_old_file<R: AllocGlobal + Clock + Files<File = File> + Eprint>(
     place: Place,
     manner: Manner,
 ) -> Result<Core<Mounted<Written>>, Refusal> {
-    match open_core_to_write(rt, place, manner.style) {
-        Ok(core) => Ok(core),
+    match open_to_write(rt, place, manner.style) {
+        Ok(store) => Ok(store.into_core()),
         Err(unopened) => untold(rt, &unopened, manner),
     }
 }
@@ -143,7 +143,10 @@ fn in_older_file<R: AllocGlobal + Clock + Files<File = File> + Eprint>(
     place: Place,
     manner: Manner,
 ) -> Result<Core<AsOf<Mounted<Written>>>, Refusal> {
-    let opened = open_core::<AsOf<Mounted<Written>>, R>(rt, disk_to_write(rt, place, manner.style));
+    let opened = open_store::<AsOf<Mounted<Written>>, R>(
+        rt,
+        disk_to_write(rt, place, manner.style),
+    );
     if opened.is_ok() {
         warn_of_older(rt, manner.style);
     }
@@ -153,14 +156,14 @@ fn in_older_file<R: AllocGlobal + Clock + Files<File = File> + Eprint>(
 /// The core of a store that was opened, with warnings of its damaged pages, or the refusal, after it was explained.
 fn core_told<E: Shown + Drop, R: AllocGlobal + Eprint>(
     rt: &R,
-    opened: Result<Opened<Core<E>>, Unopened>,
+    opened: Result<Opened<Store<E>>, Unopened>,
     manner: Manner,
 ) -> Result<Core<E>, Refusal> {
     match opened {
         Ok(opened) => {
-            let (commands, _) = opened.store.opened();
+            let (commands, _) = opened.store.found();
             warn_of(rt, &opened, commands, manner.style);
-            Ok(opened.store)
+            Ok(opened.store.into_core())
         }
         Err(unopened) => untold(rt, &unopened, manner),
     }

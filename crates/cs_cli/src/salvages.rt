@@ -1,14 +1,16 @@
 //! The commands over what can be read of a store in a file that is damaged.
 ghost use Rattle.std.specs.Prelude.{◌≤◌};
 
-use crate::files::{OverFile, Place, Read, disk_to_read, disk_to_scan};
+use crate::files::{OverFile, Place, Read, disk_to_open, disk_to_salvage, disk_to_scan};
 use crate::heads::scan;
 use crate::manners::Manner;
-use crate::openings::{Opened, Shown, Unopened};
+use crate::openings::{Opened, Remaking, Shown, Unopened};
 use crate::progress::{Scanning, Told};
+use crate::sections::{Section, made_for, pages_of};
 use crate::warnings::{explain_unopened, warn_of, warn_of_rescue, warn_of_salvage};
+use cs_disk::PageDisk;
 use cs_frame::{Geometry, ShardId};
-use cs_mount::Mounted;
+use cs_mount::{Mounted, Remade, two_stores};
 use cs_options::Listing;
 use cs_refusal::Refusal;
 use cs_tools::rescue::{Rescue, Sought, Whose};
@@ -96,12 +98,26 @@ fn salvaged_by<R: AllocGlobal + Clock + Files<File = File> + Eprint>(
     manner: Manner,
 ) -> Result<(Read, Geometry), Unopened> {
     if let Some(geometry) = given {
-        return Ok((disk_to_scan(rt, place)?, geometry));
+        return Ok((disk_to_scan(rt, place, manner.style)?, geometry));
     }
-    let mut disk = disk_to_read(rt, place, manner.style)?;
+    let mut disk = disk_to_salvage(rt, place, manner.style)?;
+    if are_two(rt.alloc(), &mut disk) {
+        return Err(Unopened::of_disk(rt.alloc(), Refusal::NotAStore, &mut disk));
+    }
     match geometry_to_salvage(rt.alloc(), &mut disk) {
         Ok(geometry) => Ok((disk, geometry)),
         Err(refusal) => Err(Unopened::of_disk(rt.alloc(), refusal, &mut disk)),
+    }
+}
+
+/// Whether page 0 and the last page of a disk are of two stores, so that it isn't known which one is meant.
+fn are_two(alloc: Global, disk: &mut Read) -> bool {
+    if disk.pages() == 0 {
+        return false;
+    }
+    match two_stores(alloc, disk) {
+        Ok(Some(_)) => true,
+        _ => false,
     }
 }
 
@@ -137,13 +153,16 @@ fn named_on(alloc: Global, disk: Read, found: &Salvaged) -> (Read, Option<Named>
     }
 }
 
+/// What can be got of a store in a file.
+type Rescued = Rescue<Mounted<Remade<Read>>>;
+
 /// What can be got of the store in a file, with warnings of what can't.
 fn rescue_in_file<R: AllocGlobal + Clock + Files<File = File> + Eprint>(
     rt: &R,
     place: Place,
     manner: Manner,
-) -> Result<Rescue<Mounted<Read>>, Unopened> {
-    let opened = rescued(rt, disk_to_read(rt, place, manner.style)?)?;
+) -> Result<Rescued, Unopened> {
+    let opened = rescued(rt, disk_to_open(rt, place, manner.style)?)?;
     let rescue = &opened.store;
     warn_of(rt, &opened, rescue.commands(), manner.style);
     let root = if rescue.root_lost() {
@@ -159,29 +178,85 @@ fn rescue_in_file<R: AllocGlobal + Clock + Files<File = File> + Eprint>(
 /// first for the commands that are on it.
 fn rescued<R: AllocGlobal + Clock>(
     rt: &R,
-    disk: Read,
-) -> Result<Opened<Rescue<Mounted<Read>>>, Unopened> {
+    disk: Remade<Read>,
+) -> Result<Opened<Rescued>, Unopened> {
     let opened = rescue_on(rt.alloc(), disk, None)?;
     if !may_be_lost(&opened.findings) {
         return Ok(opened);
     }
-    let mut disk = opened.store.into_disk().into_below();
+    let Opened { store, made, .. } = opened;
+    let mut disk = store.into_disk().into_below();
     let scanned = scan(rt, &mut disk);
-    rescue_on(rt.alloc(), disk, scanned)
+    // The disk shows the sections that were made.
+    let mut opened = rescue_on(rt.alloc(), disk, scanned)?;
+    opened.made = made;
+    Ok(opened)
 }
 
 /// What can be got of the store on a disk, of which a scan found this.
 fn rescue_on(
     alloc: Global,
-    disk: Read,
+    disk: Remade<Read>,
     scanned: Option<Scanned>,
-) -> Result<Opened<Rescue<Mounted<Read>>>, Unopened> {
+) -> Result<Opened<Rescued>, Unopened> {
+    let (refusal, mut disk) = match open_rescue(alloc, disk) {
+        Ok((store, findings)) => {
+            if store.damaged().is_none() {
+                return Ok(Opened {
+                    store,
+                    findings,
+                    scanned,
+                    made: Vec::new(alloc),
+                });
+            }
+            // By an older section a run may seem to be gone.
+            (Refusal::NotAStore, store.into_disk().into_below())
+        }
+        Err(refused) => refused,
+    };
+    let made = made_for(alloc, refusal, &mut disk);
+    if made.is_empty() {
+        return rescue_as_it_lies(alloc, disk, scanned);
+    }
+    rescue_with(alloc, refusal, disk, made, scanned)
+}
+
+/// What can be got of the store on a disk by its pages as they lie there.
+fn rescue_as_it_lies(
+    alloc: Global,
+    disk: Remade<Read>,
+    scanned: Option<Scanned>,
+) -> Result<Opened<Rescued>, Unopened> {
     match open_rescue(alloc, disk) {
         Ok((store, findings)) => Ok(Opened {
             store,
             findings,
             scanned,
             made: Vec::new(alloc),
+        }),
+        Err((refusal, mut disk)) => Err(Unopened::of_disk(alloc, refusal, &mut disk)),
+    }
+}
+
+/// The same of a disk that was refused so, with these sections in place of those that are lost.
+fn rescue_with(
+    alloc: Global,
+    refusal: Refusal,
+    disk: Remade<Read>,
+    made: Vec<Section>,
+    scanned: Option<Scanned>,
+) -> Result<Opened<Rescued>, Unopened> {
+    let pages = pages_of(alloc, &made);
+    let shown = match disk.with(made) {
+        Ok(shown) => shown,
+        Err(mut disk) => return Err(Unopened::of_disk(alloc, refusal, &mut disk)),
+    };
+    match open_rescue(alloc, shown) {
+        Ok((store, findings)) => Ok(Opened {
+            store,
+            findings,
+            scanned,
+            made: pages,
         }),
         Err((refusal, mut disk)) => Err(Unopened::of_disk(alloc, refusal, &mut disk)),
     }

@@ -7,7 +7,8 @@ use crate::warnings::warn_of_made;
 use cs_disk::{PageDisk, refusal_of_disk};
 use cs_mount::{made_sections, remake};
 use cs_refusal::Refusal;
-use cs_tools::{Outcome, Style};
+use cs_tools::store::Loss;
+use cs_tools::{Outcome, Style, may_be_lost};
 use std::alloc::Global;
 use std::fs::File;
 use std::rt::Files;
@@ -63,14 +64,16 @@ fn write_made<D: PageDisk>(alloc: Global, disk: &mut D) -> Result<(), Refusal> {
     }
 }
 
-/// The disk of a store that wasn't opened, to be written, after the sections were made and written that it had lost. What
-/// was on their pages is kept beside the store first. If it has lost none, it stays unopened.
+/// The disk of a store that wasn't opened, to be written, after the sections were made and written that it had lost, and
+/// the pages of these. What was on them is kept beside the store first. If it has lost none, it stays unopened. So it does
+/// if the newest root may be lost too, and that isn't accepted: the sections would be those of an older root.
 pub fn disk_with_sections<R: AllocGlobal + Clock + Files<File = File> + Eprint>(
     rt: &R,
     place: Place,
     unopened: Unopened,
+    loss: Loss,
     style: Style,
-) -> Result<Written, Unopened> {
+) -> Result<(Written, Vec<u64>), Unopened> {
     let Outcome::NoStore(refusal) = unopened.outcome else {
         return Err(unopened);
     };
@@ -82,6 +85,9 @@ pub fn disk_with_sections<R: AllocGlobal + Clock + Files<File = File> + Eprint>(
     if made.is_empty() {
         return Err(unopened);
     }
+    if loss == Loss::Refused && may_be_lost(&unopened.findings) {
+        return Err(unopened.stopped());
+    }
     let pages = pages_of(rt.alloc(), &made);
     if !keep_listed(rt, place.path, &mut disk, &pages, style) {
         return Err(Unopened::of_outcome(rt.alloc(), Outcome::MayBeLost, disk.fault()));
@@ -89,7 +95,7 @@ pub fn disk_with_sections<R: AllocGlobal + Clock + Files<File = File> + Eprint>(
     match write_made(rt.alloc(), &mut disk) {
         Ok(()) => {
             warn_of_made(rt, &pages, style);
-            Ok(disk)
+            Ok((disk, pages))
         }
         Err(refusal) => Err(Unopened::of_disk(rt.alloc(), refusal, &mut disk)),
     }

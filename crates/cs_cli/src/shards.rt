@@ -1,14 +1,15 @@
 //! The commands over one shard of a store in a file: `get`, `put`, `del`.
 ghost use Rattle.std.specs.Prelude.{◌≤◌, IfErr};
 
-use crate::fences::open_typed_to_write;
+use crate::fences::open_to_write;
 use crate::files::{OverFile, Place, Read, Written, disk_to_open};
 use crate::inputs::bytes_left;
 use crate::manners::{End, Manner};
-use crate::openings::{Opened, Shown, Unopened, open_typed};
-use crate::warnings::{explain_unopened, warn_of, warn_of_older, warn_of_unsealed};
+use crate::openings::{Opened, Shown, Unopened, open_store};
+use crate::seals::end_written;
+use crate::warnings::{explain_unopened, warn_of, warn_of_older};
 use cs_frame::ShardId;
-use cs_mount::{AsOf, Mounted, Remade, seal};
+use cs_mount::{AsOf, Mounted, Remade};
 use cs_refusal::Refusal;
 use cs_tools::store::Store;
 use cs_tools::{Known, Outcome, delete, explain, get, most_bytes, put};
@@ -30,14 +31,14 @@ pub fn get_from_file<R: AllocGlobal + Clock + Files<File = File> + Print + Eprin
 {
     if older {
         let disk = disk_to_open(rt, place, manner.style);
-        let opened = open_typed::<AsOf<Mounted<Remade<Read>>>, R>(rt, disk);
+        let opened = open_store::<AsOf<Mounted<Remade<Read>>>, R>(rt, disk);
         if opened.is_ok() {
             warn_of_older(rt, manner.style);
         }
         return get_opened(rt, opened, id, manner);
     }
     let disk = disk_to_open(rt, place, manner.style);
-    let opened = open_typed::<Mounted<Remade<Read>>, R>(rt, disk);
+    let opened = open_store::<Mounted<Remade<Read>>, R>(rt, disk);
     get_opened(rt, opened, id, manner)
 }
 
@@ -87,7 +88,7 @@ fn store_to_write<R: AllocGlobal + Clock + Files<File = File> + Eprint>(
 ) -> Result<Store<Mounted<Written>>, u8>
     ensures { IfErr result (λ status. status ≤ 7) }
 {
-    match open_typed_to_write(rt, place, manner.style) {
+    match open_to_write(rt, place, manner.style) {
         Ok(store) => Ok(store),
         Err(unopened) => Err(explain_unopened(rt, &unopened, manner.style)),
     }
@@ -105,44 +106,6 @@ fn explain_over<E: Shown + Drop, R: Eprint>(
 {
     let known = Known::of_system(store.close().into_below().fault());
     explain(rt, outcome, &known, manner.style)
-}
-
-/// Whether a command did what it was to do.
-fn is_done(outcome: Outcome) -> bool {
-    match outcome {
-        Outcome::Done => true,
-        _ => false,
-    }
-}
-
-/// Ends a command that wrote to a store: seals the store if it was done, unless that isn't wanted, and prints how the
-/// command ended, as `explain_over`. If the store can't be sealed that is reported, and what was made persistent stays
-/// so.
-fn end_written<R: AllocGlobal + Eprint>(
-    rt: &R,
-    store: Store<Mounted<Written>>,
-    outcome: Outcome,
-    end: End,
-    manner: Manner,
-) -> u8
-    ensures { result ≤ 7 }
-{
-    if end == End::Unsealed || !is_done(outcome) {
-        return explain_over(rt, store, outcome, manner);
-    }
-    let disk = match seal(rt.alloc(), store.into_core()) {
-        Ok(disk) => disk,
-        Err((refusal, disk)) => {
-            warn_of_unsealed(rt, refusal, manner.style);
-            disk
-        }
-    };
-    explain(
-        rt,
-        outcome,
-        &Known::of_system(disk.into_below().fault()),
-        manner.style,
-    )
 }
 
 /// Puts standard input as a shard of the store in a file, and gives the exit status.
@@ -166,7 +129,7 @@ where
     } else {
         put(rt.alloc(), &mut store, id, rt.reader())
     };
-    end_written(rt, store, outcome, end, manner)
+    end_written(rt, store.into_core(), outcome, end, manner)
 }
 
 /// Whether standard input is a file with more bytes left than this.
@@ -192,5 +155,5 @@ pub fn delete_from_file<R: AllocGlobal + Clock + Files<File = File> + Eprint>(
         Err(status) => return status,
     };
     let outcome = delete(&mut store, id);
-    end_written(rt, store, outcome, end, manner)
+    end_written(rt, store.into_core(), outcome, end, manner)
 }

@@ -4,4 +4,4 @@
 pub const VERSION: &str = "0.62.0";
 
 /// The sum of the sources that it is made of, in hex; zeros where none was written here.
-pub const SOURCES: &str = "e62d4b44b535ba234e89133f77d3f51e6500e5f4c6ad56457714aedf290eddb8";
+pub const SOURCES: &str = "7a7c35c074dddd8937e4716e7ea6e3574ab65ea7e0228211afff22ccdb5d38c9";

@@ -81,12 +81,8 @@ pub fn warn_of_older_format<R: Eprint>(rt: &R, style: Style) {
     );
 }
 
-/// Warns that the newest root couldn't be put on record, and why. That something waits still is no news: the command was
-/// refused, and says so.
+/// Warns that the newest root couldn't be put on record, and why.
 pub fn warn_of_unsealed<R: AllocGlobal + Eprint>(rt: &R, refusal: Refusal, style: Style) {
-    if refusal == Refusal::Unsettled {
-        return;
-    }
     let number = refusal.number();
     let name = refusal.name();
     let text = format!(in rt.alloc();

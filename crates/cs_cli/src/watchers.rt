@@ -1,10 +1,14 @@
 //! What is printed on standard error of the lines of a script that are refused or can't be read.
 ghost use Rattle.std.specs.Prelude.{◌≡◌};
 
+use cs_disk::SystemFault;
 use cs_options::script::{BadLine, LineFault, Onward, Watcher, first_word};
+use cs_refusal::Refusal;
+use cs_tools::{Known, Todo, advice};
 use std::str;
 
-/// Prints each such line's number and what is wrong with it, and goes on, or ends the script.
+/// Prints each such line's number and what is wrong with it, and goes on, or ends the script. If the device failed it
+/// also prints what to do.
 #[derive(Drop)]
 pub struct Reporter<'a, R> {
     pub rt: &'a R,
@@ -16,6 +20,9 @@ impl<R: Eprint> Watcher for Reporter<'_, R> {
 
     fn met(&mut self, number: u64, text: &[u8], fault: LineFault) -> Onward {
         tell(self.rt, number, text, fault);
+        if let LineFault::Refused(Refusal::DeviceFault) = fault {
+            tell_device(self.rt);
+        }
         self.onward
     }
 }
@@ -34,4 +41,12 @@ fn tell<R: Eprint>(rt: &R, number: u64, text: &[u8], fault: LineFault) {
             eprintln!(rt; "line {number}: refused {code} {name}: {refusal}")
         }
     };
+}
+
+/// Prints what to do where a page can't be read or written.
+fn tell_device<R: Eprint>(rt: &R) {
+    let known = Known::of_system(Some(SystemFault::Failed));
+    if let Todo::Text(text) = advice(Refusal::DeviceFault, &known) {
+        let _ = eprintln!(rt; "{text}");
+    }
 }

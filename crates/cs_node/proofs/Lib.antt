@@ -1,8 +1,12 @@
+pub mod Accounted
 pub mod Behind
 pub mod Crosses
 pub mod Given
 pub mod Going
+pub mod Laws
 pub mod LogSteps
 pub mod Resting
 pub mod Steps
 pub mod Sums
+pub mod Tallied
+pub mod Times

@@ -6,10 +6,10 @@ use Rattle.std.proofs.lemmas.List.Elements.{All-head, All-tail}
 use Rattle.std.proofs.lemmas.List.Sums.{sum_by-cons, sum_by_more}
 use mathlib.Core.Logic.{dite}
 use native.Mathlib.Decide.{dec_le}
-use Rattle.cs_numbers.specs.declared.stretches.Stretch.{Stretch}
-use Rattle.cs_numbers.specs.Numbers.{Within, once_to, times}
-use Rattle.cs_numbers.specs.Numbers as numbers
-use Rattle.cs_numbers.proofs.Laws.{lacking-held}
+use Rattle.cs_node.specs.declared.stretches.Stretch.{Stretch}
+use Rattle.cs_node.specs.Numbers.{Within, once_to, times}
+use Rattle.cs_node.specs.Numbers as numbers
+use Rattle.cs_node.proofs.Laws.{lacking-held}
 use Rattle.cs_core.specs.declared.events.Event.{Event}
 use Rattle.cs_core.specs.declared.events.Event.TheVariants.{Abandon, Begin, BeginSweep, Delete, End, Get, Issue, MoveOne, Put, Retire, Settle, Stage}
 use Rattle.cs_core.specs.declared.events.Reply.{Reply}

@@ -1,7 +1,7 @@
 -- When purses, and what they handed in, account for a history.
 use Rattle.std.specs.Prelude.{◌≡◌, ℕ, zero, suc, ◌+◌, ◌≤◌, ◌<◌, ◌==◌, List, length, cond, All, Some, Option, MatchOption, slice_get, slice_index_or, count_by, sum_by, nat_le}
-use Rattle.cs_numbers.specs.declared.stretches.Stretch.{Stretch}
-use Rattle.cs_numbers.specs.Numbers.{Within, once_to, times}
+use Rattle.cs_node.specs.declared.stretches.Stretch.{Stretch}
+use Rattle.cs_node.specs.Numbers.{Within, once_to, times}
 use Rattle.cs_core.specs.declared.events.Event.{Event}
 use Rattle.cs_core.specs.declared.events.Event.TheVariants.{Delete, Get, Put, Settle}
 use Rattle.cs_core.specs.declared.events.Reply.{Reply}

@@ -1,6 +1,6 @@
 -- What a purse keeps, and what a call adds to it.
 use Rattle.std.specs.Prelude.{◌≡◌, ℕ, ◌+◌, ◌<◌, List, [], ◌∷◌, ◌++◌, Option, Some, None, max, nat_le, All, filter, length, slice_index_or, Bool, true, false, MatchBool}
-use Rattle.cs_numbers.specs.declared.stretches.Stretch.{Stretch}
+use Rattle.cs_node.specs.declared.stretches.Stretch.{Stretch}
 use Rattle.cs_refusal.specs.declared.refusals.Refusal.{Refusal}
 use Rattle.cs_refusal.specs.declared.refusals.Refusal.TheVariants.{OutOfMemory, HistoryFull}
 use Rattle.cs_core.specs.declared.events.Event.{Event}

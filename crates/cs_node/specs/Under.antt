@@ -1,6 +1,6 @@
 -- What contracts see under the lock, and of a node at rest.
 use Rattle.std.specs.Prelude.{ℕ, Bool, List}
-use Rattle.cs_numbers.specs.declared.stretches.Stretch.{Stretch}
+use Rattle.cs_node.specs.declared.stretches.Stretch.{Stretch}
 use Rattle.cs_core.specs.Views.{View}
 
 -- the core, and whether no event was done since the lock was taken

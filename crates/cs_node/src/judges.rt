@@ -3,16 +3,18 @@ ghost use Rattle.std.specs.Prelude.{◌≡◌, ℕ, ◌≤◌, ◌<◌, ◌+◌,
 ghost use Rattle.cs_core.specs.declared.events.Event.{Event as Asked};
 ghost use Rattle.cs_core.specs.declared.events.Reply.{Reply as Answer};
 ghost use Rattle.cs_core.specs.Views.{kept};
-ghost use Rattle.cs_numbers.specs.Numbers.{Within, times};
+ghost use Rattle.cs_node.specs.Numbers.{Within, times};
 ghost use Rattle.cs_node.specs.Accounts.{AcksWithin, AreCalls, Judges, called_at, held, Stands, times_at, wanted};
 
+use crate::accounting::account;
 use crate::boards::Naming;
 use crate::logs::Call;
+use crate::numbers::Numbers;
 use crate::purses::Purse;
+use crate::stretches::Stretch;
 use cs_core::{Core, Event, Reply};
 use cs_deps::Element;
 use cs_disk::PageDisk;
-use cs_numbers::{Numbers, Stretch, account};
 use cs_refusal::Refusal;
 use std::alloc::{AllocError, Global};
 

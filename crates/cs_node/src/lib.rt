@@ -2,6 +2,8 @@
 //! many commands are persistent.
 #![tactic(auto)]
 
+mod accounting;
+mod accounts;
 mod boards;
 mod calls;
 mod gates;
@@ -10,23 +12,29 @@ mod judges;
 mod locked;
 mod logs;
 mod nodes;
+mod numbers;
 mod pilots;
 mod purses;
 mod reclaimers;
 mod rests;
 mod streams;
+mod stretches;
 mod tickets;
 mod writebacks;
 
+pub use accounting::account;
+pub use accounts::Account;
 pub use boards::{Board, Naming};
 pub use cs_core as the_core;
 pub use gates::{Gate, Open, Step};
 pub use jobs::Job;
 pub use logs::Call;
 pub use nodes::{Look, Node, RefusedPut, Settled, Why};
+pub use numbers::Numbers;
 pub use pilots::Pilot;
 pub use purses::{Polled, Purse, the_floor_rises};
 pub use reclaimers::{Next, Reclaimer};
 pub use rests::{Closed, NotClosed, Rest, Unclosed};
 pub use streams::Stream;
+pub use stretches::Stretch;
 pub use tickets::{Ack, Dock, Ramp, Ticket, ferry};

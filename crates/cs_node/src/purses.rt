@@ -3,7 +3,7 @@ ghost use Rattle.std.specs.Prelude.{◌≡◌, ◌≤◌, ◌↔◌, [], IfErr, 
 ghost use Rattle.cs_core.specs.declared.events.Event.{Event};
 ghost use Rattle.cs_core.specs.declared.events.Reply.{Reply};
 ghost use Rattle.cs_node.specs.Mirror.{knows};
-ghost use Rattle.cs_numbers.specs.Numbers.{Gains, Within};
+ghost use Rattle.cs_node.specs.Numbers.{Gains, Within};
 ghost use Rattle.cs_node.specs.Told.{Adds, Holdings, Rising, empty, floor_of, from_place, told_by};
 ghost use Rattle.cs_node.specs.Answers.{Tells};
 ghost use Rattle.cs_node.specs.Behind.{IsFrontierOfSome};
@@ -11,9 +11,10 @@ ghost use Rattle.cs_node.specs.Behind.{IsFrontierOfSome};
 use crate::boards::{Naming, Reader};
 use crate::logs::{Call, Log, places_of};
 use crate::nodes::Node;
+use crate::numbers::Numbers;
+use crate::stretches::Stretch;
 use crate::tickets::{Ack, Ticket};
 use cs_disk::PageDisk;
-use cs_numbers::{Numbers, Stretch};
 use std::alloc::{AllocError, Global};
 use std::marker::{Model, PhantomData};
 

@@ -180,9 +180,9 @@ apart_cut g first count end passed parts from above below are = record {
       (Contains-push_cases passed end p there);
 }
 
--- twice more
-pub rises_twice : (amount before mid now : ℕ) → RisesBy (2 * amount) before mid → RisesBy 2 mid now → RisesBy (2 * (amount + 1)) before now
-rises_twice amount before mid now was more = omega (arith, was, more)
+-- once more
+pub rises_once : (amount before mid now : ℕ) → RisesBy amount before mid → RisesBy 1 mid now → RisesBy (amount + 1) before now
+rises_once amount before mid now was more = omega (arith, was, more)
 
 pub rises_on : (amount before mid now : ℕ) → RisesBy amount before mid → mid ≤ now → RisesBy amount before now
 rises_on amount before mid now was le = omega (arith, was, le)

@@ -20,7 +20,7 @@ use std::alloc::{AllocError, Global};
 pub struct Finds {
     /// The parts, in the order in which they lie.
     pub parts: Vec<Part>,
-    /// The numbers of the pages that couldn't be read, by rising numbers. Each was asked for twice. No part has one.
+    /// The numbers of the pages that couldn't be read, by rising numbers. No part has one.
     pub unreadable: Vec<u64>,
 }
 
@@ -39,7 +39,7 @@ impl Watcher for Unwatched {
 }
 
 /// The bytes of a page, if it can be read.
-fn read_once<D: PageDisk>(disk: &mut D, number: u64) -> Result<Option<[u8; 4096]>, AllocError>
+fn read_page<D: PageDisk>(disk: &mut D, number: u64) -> Result<Option<[u8; 4096]>, AllocError>
     requires { number < D.page_count disk.old }
     ensures bytes { D.honest disk.old → IfOk result (λ found. IfSome found (λ bytes. bytes ≡ device_page (seen (D.state disk.old)) number)) }
     ensures cause { IfOk result (λ found. found ≡ None → RisesBy 1 (D.failure_count disk.old) (D.failure_count disk.new)) }
@@ -50,19 +50,6 @@ fn read_once<D: PageDisk>(disk: &mut D, number: u64) -> Result<Option<[u8; 4096]
         Ok(()) => Ok(Some(bytes)),
         Err(DiskFault::DeviceFault) => Ok(None),
         Err(DiskFault::OutOfMemory) => Err(AllocError),
-    }
-}
-
-/// The bytes of a page, if it can be read. It is asked for a second time if it can't be the first time.
-fn read_twice<D: PageDisk>(disk: &mut D, number: u64) -> Result<Option<[u8; 4096]>, AllocError>
-    requires { number < D.page_count disk.old }
-    ensures bytes { D.honest disk.old → IfOk result (λ found. IfSome found (λ bytes. bytes ≡ device_page (seen (D.state disk.old)) number)) }
-    ensures cause { IfOk result (λ found. found ≡ None → RisesBy 2 (D.failure_count disk.old) (D.failure_count disk.new)) }
-    ensures disk { OnlyReads D.PageDisk disk.old disk.new }
-{
-    match read_once(disk, number)? {
-        Some(bytes) => Ok(Some(bytes)),
-        None => read_once(disk, number),
     }
 }
 
@@ -85,12 +72,12 @@ fn read_stretch<D: PageDisk>(
     requires small { first + most < 2 ^ 63 }
     ensures pages { D.honest disk.old → IfOk result (λ it. AreReadAs (seen (D.state disk.old)) first (length it.pages.items) it.pages.items) }
     ensures size { IfOk result (λ it. MatchBool it.is_cut (length it.pages.items < most) (length it.pages.items ≡ most)) }
-    ensures cause { IfOk result (λ it. it.is_cut ≡ true → RisesBy 2 (D.failure_count disk.old) (D.failure_count disk.new)) }
+    ensures cause { IfOk result (λ it. it.is_cut ≡ true → RisesBy 1 (D.failure_count disk.old) (D.failure_count disk.new)) }
     ensures disk { OnlyReads D.PageDisk disk.old disk.new }
 {
     let mut pages = Vec::with_capacity(alloc, most)?;
     for i in 0..most {
-        match read_twice(disk, first + i as u64)? {
+        match read_page(disk, first + i as u64)? {
             Some(bytes) => pages.push_reserved(bytes),
             None => return Ok(Stretch {
                 pages,
@@ -220,8 +207,8 @@ fn scan_stretch<D: PageDisk>(
         → IfOk result (λ next. AreApart sought.now.geometry first (D.page_count disk.old) next finds.new.unreadable.items finds.new.parts.items) }
     ensures spelled { All IsOfFrame finds.old.parts.items → IfOk result (λ _. All IsOfFrame finds.new.parts.items) }
     ensures taken { AreSought sought.now finds.old.parts.items → IfOk result (λ _. AreSought sought.now finds.new.parts.items) }
-    ensures cause { (before : ℕ) → RisesBy (2 * length finds.old.unreadable.items) before (D.failure_count disk.old)
-        → IfOk result (λ _. RisesBy (2 * length finds.new.unreadable.items) before (D.failure_count disk.new)) }
+    ensures cause { (before : ℕ) → RisesBy (length finds.old.unreadable.items) before (D.failure_count disk.old)
+        → IfOk result (λ _. RisesBy (length finds.new.unreadable.items) before (D.failure_count disk.new)) }
     ensures disk { OnlyReads D.PageDisk disk.old disk.new }
 {
     let place = place_at(sought.geometry, number);
@@ -251,8 +238,9 @@ fn no_finds(alloc: Global) -> Finds
 /// have. Each chunk that a put wrote has such a head. A payload that is shorter than a head has none, and format 2 has
 /// none at all. Frames of other stores are passed over, unless those of any store are sought.
 ///
-/// A page that can't be read is asked for twice, then passed over and named. A frame that has such a page isn't found,
-/// so its shard may be missing. A device that refuses every read is scanned to its end all the same.
+/// A page that can't be read is passed over and named. It is asked for once; a disk in a file asks the operating system
+/// twice. A frame that has such a page isn't found, so its shard may be missing. A device that refuses every read is
+/// scanned to its end all the same.
 ///
 /// Only pages from `from_page` on are looked at, so that a scan goes on from where one ended. A frame that begins
 /// before isn't found. From 0 on all are looked at. A device may be shorter than the geometry asks, or longer: it is
@@ -281,8 +269,8 @@ pub fn find_parts<D: PageDisk, W: Watcher>(
     ensures avoid { IfOk result (λ finds. All (Avoids sought.now.geometry finds.unreadable.items) finds.parts.items) }
     // The pages that are named are some of those that are looked at, each once.
     ensures passed { IfOk result (λ finds. ArePassed sought.now.geometry from_page (D.page_count disk.old) finds.unreadable.items) }
-    // For each page that is named the device failed twice.
-    ensures cause { IfOk result (λ finds. RisesBy (2 * length finds.unreadable.items) (D.failure_count disk.old) (D.failure_count disk.new)) }
+    // For each page that is named the device failed.
+    ensures cause { IfOk result (λ finds. RisesBy (length finds.unreadable.items) (D.failure_count disk.old) (D.failure_count disk.new)) }
     ensures disk { OnlyReads D.PageDisk disk.old disk.new }
 {
     let mut finds = no_finds(alloc);

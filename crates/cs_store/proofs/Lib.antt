@@ -15,3 +15,4 @@ pub mod Refusing
 pub mod Running
 pub mod Sizing
 pub mod Readied
+pub mod Remaking

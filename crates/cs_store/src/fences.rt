@@ -74,7 +74,7 @@ fn open_fenced<D: PageDisk + Drop>(
 }
 
 /// The refusal that a fault of the disk is.
-fn refused_by(fault: DiskFault) -> Refusal
+pub(crate) fn refused_by(fault: DiskFault) -> Refusal
     ensures number { IsNoAnswer result }
     ensures device { result ≡ Refusal.DeviceFault → fault ≡ DiskFault.DeviceFault }
 {
@@ -199,6 +199,7 @@ impl OpenOptions {
                         alloc,
                         core,
                         findings: Vec::new(alloc),
+                        made: Vec::new(alloc),
                     };
                     return Ok((store, findings));
                 }
@@ -208,6 +209,7 @@ impl OpenOptions {
                             alloc,
                             core,
                             findings: Vec::new(alloc),
+                            made: Vec::new(alloc),
                         };
                         Ok((store, findings))
                     }

@@ -16,6 +16,7 @@ mod identities;
 mod options;
 mod puts;
 mod reclaims;
+mod sections;
 mod sizes;
 mod stores;
 
@@ -26,6 +27,7 @@ pub use figures::{ExtentLook, StoreStats};
 pub use identities::{NO_IDENTITY, identified, new_identity};
 pub use options::{Loss, OpenOptions};
 pub use reclaims::Reclaimed;
+pub use sections::ready_sections;
 pub use sizes::SizeError;
 pub use stores::Store;
 

@@ -195,6 +195,7 @@ impl OpenOptions {
                 alloc,
                 core,
                 findings: Vec::new(alloc),
+                made: Vec::new(alloc),
             }),
             Err(refused) => Err(refused),
         }
@@ -239,6 +240,7 @@ impl OpenOptions {
                 alloc,
                 core,
                 findings: Vec::new(alloc),
+                made: Vec::new(alloc),
             }),
             Err(refused) => Err(refused),
         }
@@ -294,6 +296,7 @@ impl OpenOptions {
                     alloc,
                     core,
                     findings: Vec::new(alloc),
+                    made: Vec::new(alloc),
                 };
                 Ok((store, findings))
             }
@@ -349,6 +352,9 @@ impl OpenOptions {
     /// If the store has two of a page, and one of them is damaged, that one is written over with bytes of 255.
     /// `findings` reports which it was. Copy the file before if you want to look at the page.
     ///
+    /// If the store isn't opened so, and a section of its superblock is lost, the section is made of the root and its
+    /// runs, and written (`ready_sections`). `made_sections` reports its pages.
+    ///
     /// Refused 1 DeviceFault if the operating system refuses a call, for example if there is no such file or another
     /// process has it; 6 OddLength; 43 NotAStore if no store of that many pages is in it, or its first and last pages
     /// are of different stores; 20 to 26 for a page that is damaged; 27 RootLost if the root is older than one that was
@@ -368,11 +374,8 @@ impl OpenOptions {
             Ok(disk) => disk,
             Err(error) => return Err(error),
         };
-        match self.open_to_write(disk) {
-            Ok((mut store, findings, _)) => {
-                store.findings = findings;
-                Ok(store)
-            }
+        match self.open_or_remake(disk) {
+            Ok(store) => Ok(store),
             Err((refusal, _)) => Err(OpenError::of(refusal)),
         }
     }
@@ -401,6 +404,7 @@ impl OpenOptions {
                 alloc,
                 core,
                 findings: Vec::new(alloc),
+                made: Vec::new(alloc),
             }),
             Err(_) => Err(OpenError::OutOfMemory),
         }
@@ -444,6 +448,7 @@ impl OpenOptions {
                     alloc,
                     core,
                     findings: Vec::new(alloc),
+                    made: Vec::new(alloc),
                 };
                 Ok((older, findings))
             }

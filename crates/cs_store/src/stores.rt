@@ -24,6 +24,8 @@ pub struct Store<D: PageDisk> {
     pub(crate) core: Core<D>,
     /// What the pages held of which it has two, as it was opened from a file; else empty.
     pub(crate) findings: Vec<Finding>,
+    /// The pages of sections that were made, as it was opened from a file; else empty.
+    pub(crate) made: Vec<u64>,
 }
 
 impl<D: PageDisk> Model for Store<D> {
@@ -46,6 +48,23 @@ impl<D: PageDisk> Store<D> {
         &self.findings
     }
 
+    /// The pages of the sections that `open_file` made of the root and its runs, since they were lost
+    /// (`ready_sections`). The list is empty if none was, and for a store that was made or opened otherwise. The value of
+    /// a store is its core's, so no clause speaks of this list.
+    pub fn made_sections(&self) -> &[u64] {
+        &self.made
+    }
+
+    /// The store, with what an opening found beside it.
+    pub(crate) fn noted(self, findings: Vec<Finding>, made: Vec<u64>) -> Self
+        ensures { result ≡ self }
+    {
+        let mut store = self;
+        store.findings = findings;
+        store.made = made;
+        store
+    }
+
     /// The disk, with which the store ends. Nothing is written: what isn't persistent is lost, so `sync` first.
     pub fn close(self) -> D
         ensures { result ≡ self.disk }
@@ -54,6 +73,7 @@ impl<D: PageDisk> Store<D> {
             alloc: _,
             core,
             findings: _,
+            made: _,
         } = self;
         core.into_disk()
     }
@@ -66,6 +86,7 @@ impl<D: PageDisk> Store<D> {
             alloc: _,
             core,
             findings: _,
+            made: _,
         } = self;
         core
     }

@@ -1,5 +1,5 @@
 -- How many pages were passed over.
-use Rattle.std.proofs.Common.{◌≡◌, ◌≢◌, ◌⊎◌, ◌==◌, ◌<◌, ◌≤◌, ◌+◌, ◌-◌, ◌^◌, ℕ, Bool, true, false, zero, suc, List, [], ◌∷◌, None, eqb-true, get_or, length, take, inl, inr, refl, sym, subst, arith}
+use Rattle.std.proofs.Common.{◌≡◌, ◌≢◌, ◌⊎◌, ◌==◌, ◌<◌, ◌≤◌, ◌+◌, ◌-◌, ◌^◌, ◌∙◌, ℕ, Bool, true, false, true≢false, ap, zero, suc, List, [], ◌∷◌, None, eqb-true, get_or, length, take, inl, inr, refl, sym, subst, arith}
 use Rattle.std.specs.Prelude.{MatchBool, min}
 use Rattle.std.proofs.lemmas.List.{take_all}
 use Rattle.cs_twin.specs.Findings.{passed_over}
@@ -50,3 +50,29 @@ none_or_some findings n (inr is) = go (n == 0) refl
 
 pub all_counted : (findings : List Finding) (i n : ℕ) → length findings ≤ i → IsCountOf (take i findings) n → MatchBool (n == 0) (AreWhole findings) (¬ AreWhole findings)
 all_counted findings i n le is = none_or_some findings n (subst (λ (l : List Finding). IsCountOf l n) (take_all i findings le) is)
+
+-- ---- with sections that are lost
+
+zero_is : (n : ℕ) → n ≡ 0 → (n == 0) ≡ true
+zero_is n is = ap (λ (k : ℕ). k == 0) is
+
+no_items : (xs : List ℕ) → length xs ≡ 0 → xs ≡ []
+no_items [] is = refl
+no_items (x ∷ xs) is = absurd (omega (arith, is))
+
+-- whether both counts are 0, by their sum
+module _ (A : Type 0) (made : List ℕ) (halves n : ℕ) (sum : n ≡ min (halves + length made) (2 ^ 64 - 1)) where
+  none_is : (b : Bool) → (halves == 0) ≡ b → MatchBool b A (¬ A) → n ≡ 0 → A × (made ≡ [])
+  none_is true test are none = let no : halves ≡ 0 = eqb-true halves 0 test in (are, no_items made (omega (arith, sum, no, none)))
+  none_is false test some none = let no : halves ≡ 0 = omega (arith, sum, none) in absurd (true≢false (sym (zero_is halves no) ∙ test))
+
+  is_none : (b : Bool) → (halves == 0) ≡ b → MatchBool b A (¬ A) → A × (made ≡ []) → n ≡ 0
+  is_none true test are all = let no : halves ≡ 0 = eqb-true halves 0 test in let empty : length made ≡ 0 = ap length all.1 in omega (arith, sum, no, empty)
+  is_none false test some all = absurd (some all.0)
+
+  pub none_of_both : MatchBool (halves == 0) A (¬ A) → MatchBool (n == 0) (A × (made ≡ [])) (¬ (A × (made ≡ [])))
+  none_of_both whole = go (n == 0) refl
+    where
+      go : (b : Bool) → (n == 0) ≡ b → MatchBool b (A × (made ≡ [])) (¬ (A × (made ≡ [])))
+      go true none = none_is (halves == 0) refl whole (eqb-true n 0 none)
+      go false some = λ all. true≢false (sym (zero_is n (is_none (halves == 0) refl whole all)) ∙ some)

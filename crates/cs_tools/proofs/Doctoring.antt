@@ -145,7 +145,7 @@ all_pages : (image : Image) → from_on 0 image ≡ image
 all_pages image = refl
 
 pub frames_found : (d : Dimensions) (image : Image) (x y : ℕ) (finds : Finds) (frames : Frames) → AreParts (of_store d) (without finds.unreadable.items (from_on 0 image)) finds.parts.items
-    → RisesBy (2 * length finds.unreadable.items) x y → frames.unreadable ≡ finds.unreadable → frames.parts ≡ finds.parts
+    → RisesBy (length finds.unreadable.items) x y → frames.unreadable ≡ finds.unreadable → frames.parts ≡ finds.parts
     → ((whole : List WholeShard) × AreNewest finds.parts.items whole × (frames.shards ≡ length whole)) → ((gaps : List Missing) × AreMissing finds.parts.items gaps × (frames.missing ≡ length gaps))
     → AreFramesOf (of_store d) image x y frames
 frames_found d image x y finds frames are failed unreadable parts whole gaps =
@@ -154,7 +154,7 @@ frames_found d image x y finds frames are failed unreadable parts whole gaps =
     record {
       parts = subst (λ (l : List Part). AreParts (of_store d) (without frames.unreadable.items image) l) those
           (subst (λ (l : List ℕ). AreParts (of_store d) (without l image) finds.parts.items) numbers (subst (λ (i : Image). AreParts (of_store d) (without finds.unreadable.items i) finds.parts.items) (all_pages image) are));
-      failed = subst (λ (l : List ℕ). RisesBy (2 * length l) x y) numbers failed;
+      failed = subst (λ (l : List ℕ). RisesBy (length l) x y) numbers failed;
       whole = whole.0;
       newest = subst (λ (l : List Part). AreNewest l whole.0) those whole.1;
       shards = whole.2;

@@ -28,5 +28,6 @@ pub mod Meant
 pub mod Doctoring
 pub mod DoctorCounting
 pub mod DoctorOpening
+pub mod DoctorSections
 pub mod DoctorWriting
 pub mod Stepping

@@ -8,8 +8,8 @@ use Rattle.cs_frame.specs.declared.formats.FormatNumber.{FormatNumber}
 use Rattle.cs_frame.specs.declared.formats.FormatNumber.TheVariants as format
 use Rattle.cs_refusal.specs.declared.refusals.Refusal.{Refusal}
 use Rattle.cs_refusal.specs.declared.refusals.Refusal.TheVariants as refusal
-use Rattle.cs_tools.specs.Doctor.{are_sound_pairs, are_sound_runs, is_sound, reads_all}
-use Rattle.cs_tools.specs.Steps.{HoldsNothing, IsEmpty, are_mendable, deep_step, says_to_erase, steps_by, steps_if_opened, steps_in, steps_of_content, steps_of_fault, steps_of_pairs, steps_of_reads, steps_of_refusal, steps_of_store, words_of}
+use Rattle.cs_tools.specs.Doctor.{are_sound_runs, is_sound, reads_all}
+use Rattle.cs_tools.specs.Steps.{HoldsNothing, IsEmpty, are_mendable, deep_step, needs_no_repair, says_to_erase, steps_by, steps_if_opened, steps_in, steps_of_content, steps_of_fault, steps_of_pairs, steps_of_reads, steps_of_refusal, steps_of_store, words_of}
 use Rattle.cs_tools.specs.declared.diagnoses.Deep.{Deep}
 use Rattle.cs_tools.specs.declared.diagnoses.Deep.TheVariants as deep
 use Rattle.cs_tools.specs.declared.diagnoses.Diagnosis.{Diagnosis}
@@ -66,7 +66,7 @@ of_deep deep.NoStore = tt
 of_deep (deep.Found frames) = tt
 
 of_pairs : (d : Diagnosis) → AreCareful (steps_of_pairs d)
-of_pairs d = either (are_sound_pairs d.looked.pairs.items) [] (if are_mendable d.looked.pairs.items then Repair ∷ [] else deep_step d.looked.deep) tt
+of_pairs d = either (needs_no_repair d) [] (if are_mendable d.looked.pairs.items then Repair ∷ [] else deep_step d.looked.deep) tt
     (either (are_mendable d.looked.pairs.items) (Repair ∷ []) (deep_step d.looked.deep) (refl, tt) (of_deep d.looked.deep))
 
 of_reads : (d : Diagnosis) → AreCareful (steps_of_reads d)

@@ -147,7 +147,7 @@ system_advice (Some Folder) = codes "Name a file, not a folder."
 system_advice (Some InUse) = codes "Wait for the other process by `--wait SECONDS`; `lsof` with the file's name shows which it is."
 system_advice (Some NoRoom) = codes "Free room on the file system (`df`), or raise the limit of a file's size (`ulimit -f`), and try again."
 system_advice (Some ReadOnly) = codes "Commands that only read need no more. For others mount the file system so that it can be written, or copy the file."
-system_advice (Some fault.Failed) = codes "First run `doctor FILE`: it only reads, and reports what can be read. Look at the system's log (`dmesg`) and at the device, and copy the file before anything else is done with it."
+system_advice (Some fault.Failed) = codes "First run `doctor FILE`: it only reads, and reports what can be read. Look at the system's log (`dmesg`) and at the device. If an extent can't be written, add `--skip-extent E` to the command. If it is another page, commands that only read go on, and `copy` puts the shards into a store on another device."
 
 -- 45, and 46 where no page is known that isn't zeros
 abbrev pub occupied_text : List ℕ

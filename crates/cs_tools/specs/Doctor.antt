@@ -1,5 +1,5 @@
 -- What is found of a store in a file, and when it is sound.
-use Rattle.std.specs.Prelude.{◌≡◌, ◌⊎◌, ◌==◌, ◌&&◌, ◌*◌, ℕ, Bool, true, false, not, List, [], ◌∷◌, Option, Some, None, Result, Ok, Err, if◌then◌else◌, length}
+use Rattle.std.specs.Prelude.{◌≡◌, ◌⊎◌, ◌==◌, ◌&&◌, ℕ, Bool, true, false, not, List, [], ◌∷◌, Option, Some, None, Result, Ok, Err, if◌then◌else◌, length}
 use Rattle.std.specs.List.{AllZip, list_all}
 use Rattle.cs_disk.specs.Disk.{Image, Rises}
 use Rattle.cs_frame.specs.Geometries.{Dimensions}
@@ -78,9 +78,10 @@ is_store other = false
 abbrev pub has_right_length : Diagnosis → Bool
 has_right_length d = is_store d.looked.content && d.file_pages == d.looked.pages
 
--- The length is right, each page of a pair is whole or a fence, each run was read, and so was each shard.
+-- The length is right, each page of a pair is whole or a fence, each run was read, and so was each shard. No section
+-- had to be made.
 abbrev pub is_sound : Diagnosis → Bool
-is_sound d = has_right_length d && are_sound_pairs d.looked.pairs.items && are_sound_runs d.store.head.runs.items && reads_all d.store.opening
+is_sound d = has_right_length d && are_sound_pairs d.looked.pairs.items && are_sound_runs d.store.head.runs.items && reads_all d.store.opening && is_none d.made.items
 
 -- ---- the exit status
 
@@ -119,10 +120,10 @@ AreFoundAs before after findings pairs = AllZip (IsFoundAs before after) finding
 -- ---- what is told of frames
 
 -- These are all whole frames of chunks that are sought, without the pages that couldn't be read; for each of those the
--- device failed twice. So many identifiers have a whole shard, and of so many the newest put isn't whole.
+-- device failed. So many identifiers have a whole shard, and of so many the newest put isn't whole.
 pub record AreFramesOf (sought : Sought) (image : Image) (before after : ℕ) (frames : Frames) : Type 0 where
   pub parts : AreParts sought (without frames.unreadable.items image) frames.parts.items
-  pub failed : RisesBy (2 * length frames.unreadable.items) before after
+  pub failed : RisesBy (length frames.unreadable.items) before after
   pub whole : List WholeShard
   pub newest : AreNewest frames.parts.items whole
   pub shards : frames.shards ≡ length whole

@@ -1,15 +1,17 @@
 -- What is told of a store that is opened for a diagnosis, and what is left of its disk.
-use Rattle.std.specs.Prelude.{◌≡◌, ◌≢◌, ◌⊎◌, ◌↔◌, ◌<◌, ◌-◌, ◌^◌, ℕ, Contains, List, None, MatchResult, MatchOption, length}
+use Rattle.std.specs.Prelude.{◌≡◌, ◌≢◌, ◌⊎◌, ◌↔◌, ◌<◌, ◌-◌, ◌^◌, ℕ, Bool, true, false, Contains, List, [], ◌∷◌, None, MatchResult, MatchOption, length, map}
 use Rattle.std.specs.List.{AllZip}
 use Rattle.cs_core.specs.Openings.{IsOpened}
 use Rattle.cs_core.specs.Stored.{Stored}
 use Rattle.cs_disk.specs.declared.disk.PageDisk.{Ghosts as PageDisk}
-use Rattle.cs_disk.specs.Disk.{Image, Rises, State, flushed, page}
+use Rattle.cs_disk.specs.Disk.{Image, Rises, State, Write, flushed, page}
 use Rattle.cs_extent.specs.State.{State as ExtentsState, extents_of, shape}
 use Rattle.cs_frame.specs.declared.locators.Locator.{Locator}
 use Rattle.cs_index.specs.declared.stored_runs.StoredRun.{StoredRun}
 use Rattle.cs_inspect.specs.Scrubs.{IsScrubbed}
 use Rattle.cs_mount.specs.Identities.{AreOfTwo}
+use Rattle.cs_mount.specs.MadeSections.{AreMadeOn}
+use Rattle.cs_mount.specs.Remaking.{remade}
 use Rattle.cs_mount.specs.Showing.{shown_on}
 use Rattle.cs_reader.specs.Counts.{HasCount}
 use Rattle.cs_reader.specs.Heads.{IsHeadRead, IsWhyNoHead}
@@ -17,7 +19,7 @@ use Rattle.cs_reader.specs.ImageReads.{IsRunRead}
 use Rattle.cs_reader.specs.Openings.{IsWhyNotOpened, IsWhyNotRead}
 use Rattle.cs_reader.specs.declared.heads.Head.{Head}
 use Rattle.cs_refusal.specs.declared.refusals.Refusal.{Refusal}
-use Rattle.cs_refusal.specs.declared.refusals.Refusal.TheVariants.{DeviceFault, NotAStore}
+use Rattle.cs_refusal.specs.declared.refusals.Refusal.TheVariants.{BadDigest, BadLength, BadMagic, BadPadding, BadVersion, DeviceFault, NotAStore}
 use Rattle.law_machine.specs.Element.{Map}
 use Rattle.cs_tools.specs.declared.diagnoses.HeadFound.{HeadFound}
 use Rattle.cs_tools.specs.declared.diagnoses.Opening.{Opening}
@@ -79,6 +81,50 @@ IsOpeningShown count image opening = IsOpeningOn count (shown_on count image) op
 abbrev pub OpensAs : Map → Opening → Type 0
 OpensAs m (Opened shards scrubbed) = HasCount (λ id. m id ≢ None) shards
 OpensAs m (Refused r rest) = r ≡ DeviceFault
+
+-- ---- whether it opens with sections that are made
+
+-- A store that is refused so may lack a section: a page isn't whole, or no superblock is found.
+abbrev pub may_lack_section : Refusal → Bool
+may_lack_section BadMagic = true
+may_lack_section BadDigest = true
+may_lack_section BadLength = true
+may_lack_section BadPadding = true
+may_lack_section BadVersion = true
+may_lack_section NotAStore = true
+may_lack_section other = false
+
+-- it is refused, and may lack a section
+abbrev pub may_lack : Opening → Bool
+may_lack (Opened shards scrubbed) = false
+may_lack (Refused r rest) = may_lack_section r
+
+-- it opens
+abbrev pub opens : Opening → Bool
+opens (Opened shards scrubbed) = true
+opens (Refused r rest) = false
+
+-- A device that holds this image was found to be refused so as it lies, and may lack sections. They are made by these
+-- writes.
+pub record LacksSections (count : ℕ) (image : Image) (before : Opening) (writes : List Write) : Type 0 where
+  pub refused : may_lack before ≡ true
+  pub as_it_lies : IsOpeningShown count image before
+  pub some : writes ≢ []
+  pub are_made : AreMadeOn count image writes
+
+-- It does, and with the sections that are made on these pages it was found to open so.
+pub record IsOpenedRemade (count : ℕ) (image : Image) (made : List ℕ) (opening : Opening) : Type 0 where
+  pub before : Opening
+  pub writes : List Write
+  pub lacks : LacksSections count image before writes
+  pub on_pages : made ≡ map (λ w. w.0) writes
+  pub does_open : opens opening ≡ true
+  pub shown : IsOpeningShown count (remade writes image) opening
+
+-- What was found of it. If no page is listed on which a section was made, that is so as it lies.
+abbrev pub IsOpeningFound : (count : ℕ) → Image → (made : List ℕ) → Opening → Type 0
+IsOpeningFound count image [] opening = IsOpeningShown count image opening
+IsOpeningFound count image (page ∷ made) opening = IsOpenedRemade count image (page ∷ made) opening
 
 -- ---- what is left of its disk
 

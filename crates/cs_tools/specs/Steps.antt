@@ -9,7 +9,7 @@ use Rattle.cs_refusal.specs.declared.refusals.Refusal.{Refusal}
 use Rattle.cs_refusal.specs.declared.refusals.Refusal.TheVariants as refusal
 use Rattle.uuid.specs.Text.{lower, simple_text}
 use Rattle.cs_tools.specs.Advices.{has_word}
-use Rattle.cs_tools.specs.Doctor.{are_sound_pairs, are_sound_runs, is_sound, is_sound_pair, reads_all}
+use Rattle.cs_tools.specs.Doctor.{are_sound_pairs, are_sound_runs, is_none, is_sound, is_sound_pair, reads_all}
 use Rattle.cs_tools.specs.declared.diagnoses.Deep.{Deep}
 use Rattle.cs_tools.specs.declared.diagnoses.Deep.TheVariants as deep
 use Rattle.cs_tools.specs.declared.diagnoses.Diagnosis.{Diagnosis}
@@ -149,10 +149,14 @@ abbrev pub deep_step : Deep → List Step
 deep_step deep.NotAsked = DoctorDeep ∷ []
 deep_step other = []
 
+-- all pages of pairs are sound, and no section had to be made
+abbrev pub needs_no_repair : Diagnosis → Bool
+needs_no_repair d = are_sound_pairs d.looked.pairs.items && is_none d.made.items
+
 -- Of pairs: a repair, unless a page can't be read, or a page of the root may have held a newer root; then a look at all pages.
 abbrev pub steps_of_pairs : Diagnosis → List Step
 steps_of_pairs d =
-    if are_sound_pairs d.looked.pairs.items then [] else (if are_mendable d.looked.pairs.items then Repair ∷ [] else deep_step d.looked.deep)
+    if needs_no_repair d then [] else (if are_mendable d.looked.pairs.items then Repair ∷ [] else deep_step d.looked.deep)
 
 -- Of what the index names: a copy into a new file where all was read, and else a list of what wasn't and a script of what was.
 abbrev pub steps_of_reads : Diagnosis → List Step

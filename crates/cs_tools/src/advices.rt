@@ -278,7 +278,7 @@ pub fn advice_of_system(fault: Option<SystemFault>) -> &'static str
             "Commands that only read need no more. For others mount the file system so that it can be written, or copy the file."
         }
         Some(SystemFault::Failed) => {
-            "First run `doctor FILE`: it only reads, and reports what can be read. Look at the system's log (`dmesg`) and at the device, and copy the file before anything else is done with it."
+            "First run `doctor FILE`: it only reads, and reports what can be read. Look at the system's log (`dmesg`) and at the device. If an extent can't be written, add `--skip-extent E` to the command. If it is another page, commands that only read go on, and `copy` puts the shards into a store on another device."
         }
     }
 }

@@ -127,6 +127,9 @@ pub struct Diagnosis {
     pub looked: Looked,
     /// The pages of pairs that were passed over as the store was opened, since they couldn't be read.
     pub hidden: Vec<u64>,
+    /// The pages on which a section of the superblock is lost, if the store opens only with these sections made from its
+    /// index.
+    pub made: Vec<u64>,
     pub store: StoreFound,
 }
 
@@ -217,6 +220,7 @@ impl Diagnosis {
             && are_sound_pairs(&self.looked.pairs)
             && are_sound_runs(&self.store.head.runs)
             && self.store.opening.reads_all()
+            && self.made.is_empty()
     }
 
     /// The exit status: 0 if the store is sound, 3 if it isn't opened, else 5.

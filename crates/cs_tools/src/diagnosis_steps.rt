@@ -1,7 +1,7 @@
 //! The commands that a diagnosis names to type next.
 ghost use Rattle.std.specs.Prelude.{◌≡◌, ◌++◌, IfOk, false, string_bytes};
 ghost use Rattle.std.specs.List.{AllByRecursion};
-ghost use Rattle.cs_tools.specs.Steps.{HoldsNothing, are_mendable, can_be_read, deep_step, file_words, front_of, inner_of, is_mendable, joint_of, says_to_erase, step_text, steps_if_opened, steps_in, steps_of_content, steps_of_diagnosis, steps_of_fault, steps_of_length, steps_of_pairs, steps_of_reads, steps_of_refusal, steps_of_store, suffix_of, words_of};
+ghost use Rattle.cs_tools.specs.Steps.{HoldsNothing, are_mendable, can_be_read, deep_step, file_words, front_of, inner_of, is_mendable, joint_of, needs_no_repair, says_to_erase, step_text, steps_if_opened, steps_in, steps_of_content, steps_of_diagnosis, steps_of_fault, steps_of_length, steps_of_pairs, steps_of_reads, steps_of_refusal, steps_of_store, suffix_of, words_of};
 
 use crate::diagnoses::{
     Deep, Diagnosis, FileDiagnosis, Opening, PairFound, are_sound_pairs, are_sound_runs,
@@ -43,7 +43,7 @@ pub enum Step {
     ListById { id: StoreId },
     /// Lists what can't be read.
     Scrub,
-    /// Writes damaged pages anew from their other copies.
+    /// Writes damaged pages anew from their other copies, and sections that are lost from the index.
     Repair,
     /// Prints a script that puts the shards that can be read.
     Export,
@@ -289,12 +289,19 @@ fn deep_step(alloc: Global, deep: &Deep) -> Result<Vec<Step>, AllocError>
     }
 }
 
-/// What to do about pairs: nothing if all are sound. A page of the root that isn't may have held a newer root, and a page
+/// Whether all pairs are sound, and no section had to be made.
+fn needs_no_repair(diagnosis: &Diagnosis) -> bool
+    ensures { result ≡ needs_no_repair diagnosis.now }
+{
+    are_sound_pairs(&diagnosis.looked.pairs) && diagnosis.made.is_empty()
+}
+
+/// What to do about pairs: nothing if all are sound, and no section had to be made. A page of the root that isn't may have held a newer root, and a page
 /// that can't be read is written by no repair: all pages are read then. Else they are repaired.
 fn steps_of_pairs(alloc: Global, diagnosis: &Diagnosis) -> Result<Vec<Step>, AllocError>
     ensures { IfOk result (λ steps. steps.items ≡ steps_of_pairs diagnosis.now) }
 {
-    if are_sound_pairs(&diagnosis.looked.pairs) {
+    if needs_no_repair(diagnosis) {
         return Ok(Vec::new(alloc));
     }
     if are_mendable(&diagnosis.looked.pairs) {

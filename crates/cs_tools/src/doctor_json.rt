@@ -91,6 +91,8 @@ fn diagnosis_value(alloc: Global, found: &Diagnosis) -> Result<Value, AllocError
     put(&mut members, alloc, "pairs", pairs)?;
     let hidden = pages_value(alloc, &found.hidden)?;
     put(&mut members, alloc, "passed_over", hidden)?;
+    let made = pages_value(alloc, &found.made)?;
+    put(&mut members, alloc, "made", made)?;
     put_store(alloc, &mut members, &found.store)?;
     let deep = deep_value(alloc, &found.store.head, &found.looked.deep)?;
     put(&mut members, alloc, "deep", deep)?;

@@ -67,6 +67,9 @@ fn lines_of(alloc: Global, found: &Diagnosis) -> Result<String, AllocError> {
     for k in 0..found.looked.pairs.len() {
         add_pair(alloc, &mut text, k, found.looked.pairs[k])?;
     }
+    for page in &found.made {
+        add_made(alloc, &mut text, *page)?;
+    }
     add_store(alloc, &mut text, &found.store)?;
     add_deep(alloc, &mut text, &found.store.head, &found.looked.deep)?;
     let line = verdict_of(found);
@@ -163,6 +166,12 @@ fn add_pair(
     let other = half_text(alloc, found.twin)?;
     let name = pair_name(alloc, k)?;
     let line = format!(in alloc; "{name}: page {page} {own}, page {twin} {other}\n")?;
+    text.push_str(&line)
+}
+
+/// Adds the line of a page on which a section was made.
+fn add_made(alloc: Global, text: &mut String, page: u64) -> Result<(), AllocError> {
+    let line = format!(in alloc; "section on page {page} lost, made from the index\n")?;
     text.push_str(&line)
 }
 

@@ -13,6 +13,7 @@ mod diagnosis_steps;
 mod doctor;
 mod doctor_json;
 mod doctor_report;
+mod doctor_sections;
 mod doctor_stores;
 mod doctor_texts;
 mod exports;

@@ -1,7 +1,7 @@
 //! Pages that a store has twice and of which one isn't whole.
-ghost use Rattle.std.specs.Prelude.{◌≡◌, ◌≢◌, ◌==◌, ◌⊎◌, MatchBool, None, OnOk};
+ghost use Rattle.std.specs.Prelude.{◌≡◌, ◌≢◌, ◌==◌, ◌⊎◌, MatchBool, None, OnOk, length};
 ghost use Rattle.cs_twin.specs.Findings.{passed_over};
-ghost use Rattle.cs_tools.specs.Pages.{AreWhole, left_damaged};
+ghost use Rattle.cs_tools.specs.Pages.{AreLeftWhole, AreWhole, left_damaged, left_made};
 ghost use Rattle.cs_tools.specs.Stats.{GoesOn};
 
 use crate::outputs::Style;
@@ -14,7 +14,9 @@ use std::io::Write;
 pub struct FoundPages<'a> {
     /// Of each pair.
     pub findings: &'a [Finding],
-    /// Whether those pages that weren't whole were written anew since.
+    /// The pages on which a section of the superblock was lost. Each section was made from the index.
+    pub made: &'a [u64],
+    /// Whether those pages that weren't whole, and the sections that were made, were written since.
     pub mended: bool,
 }
 
@@ -40,7 +42,7 @@ fn count_passed_over(findings: &[Finding]) -> usize
 }
 
 /// How many of them are so still: none where they were written anew.
-pub fn count_left(findings: &[Finding], mended: bool) -> usize
+fn count_left(findings: &[Finding], mended: bool) -> usize
     ensures { MatchBool (result == 0) (AreWhole (left_damaged mended findings.now)) (¬ AreWhole (left_damaged mended findings.now)) }
 {
     if mended {
@@ -48,6 +50,22 @@ pub fn count_left(findings: &[Finding], mended: bool) -> usize
     } else {
         count_passed_over(findings)
     }
+}
+
+/// On how many of these pages a section is lost still: on none if they were written anew.
+fn count_made(made: &[u64], mended: bool) -> usize
+    ensures { result ≡ length (left_made mended made.now) }
+{
+    if mended { 0 } else { made.len() }
+}
+
+/// How many pages are left that aren't whole, with those on which a section is lost.
+pub fn count_all_left(pages: &FoundPages) -> usize
+    ensures { MatchBool (result == 0) (AreLeftWhole pages.now) (¬ AreLeftWhole pages.now) }
+{
+    let halves = count_left(pages.findings, pages.mended);
+    let sections = count_made(pages.made, pages.mended);
+    halves.saturating_add(sections)
 }
 
 /// Prints the pages that aren't whole, one a line: the page, its other copy with the version there, and whether the
@@ -64,6 +82,38 @@ pub fn print_pages<W: Write>(
         print_finding(writer, *finding, mended, style)?;
     }
     Ok(())
+}
+
+/// Prints the pages on which a section was lost, one a line, and whether it was written there since.
+pub fn print_made<W: Write>(
+    writer: &mut W,
+    made: &[u64],
+    mended: bool,
+    style: Style,
+) -> io::Result<()>
+    ensures { OnOk result (GoesOn (W.contents writer.old) (W.contents writer.new)) }
+{
+    for page in made {
+        print_section(writer, *page, mended, style)?;
+    }
+    Ok(())
+}
+
+/// Prints the line of a page on which a section was lost.
+fn print_section<W: Write>(writer: &mut W, page: u64, mended: bool, style: Style) -> io::Result<()>
+    ensures { OnOk result (GoesOn (W.contents writer.old) (W.contents writer.new)) }
+{
+    match style {
+        Style::Text if mended => writeln!(writer, "page {page} written anew from the index"),
+        Style::Text => writeln!(
+            writer,
+            "page {page} not whole, its section is made from the index"
+        ),
+        Style::Json => writeln!(
+            writer,
+            "{{\"page\":{page},\"other\":null,\"version\":null,\"mended\":{mended}}}"
+        ),
+    }
 }
 
 /// Prints the line of a pair, if a page of it isn't whole.

@@ -78,8 +78,8 @@ fn spelled_by(
 }
 
 /// Reads all frames on a device from a page on, and returns which shards they hold: of the store of a geometry, whose
-/// identity they have, or of any store. Superblock, root and runs aren't read. A page that can't be read is asked for
-/// twice, then passed over. A device that is shorter than the geometry asks, or longer, is read as far as both go.
+/// identity they have, or of any store. Superblock, root and runs aren't read. A page that can't be read is passed over.
+/// A device that is shorter than the geometry asks, or longer, is read as far as both go.
 ///
 /// It is refused only if memory is: 9 OutOfMemory.
 pub fn salvage<D: PageDisk, W: Watcher>(
@@ -94,9 +94,9 @@ pub fn salvage<D: PageDisk, W: Watcher>(
     ensures sought { IfOk result (λ found. found.sought ≡ sought) }
     ensures from { IfOk result (λ found. found.from_page ≡ from_page) }
     ensures pages { IfOk result (λ found. found.device_pages ≡ D.page_count disk.old) }
-    // Whatever the disk answers: the pages that are named are some of those that are looked at, and for each the device failed twice.
+    // Whatever the disk answers: the pages that are named are some of those that are looked at, and for each the device failed.
     ensures passed { IfOk result (λ found. ArePassed sought.geometry from_page (D.page_count disk.old) found.unreadable.items) }
-    ensures cause { IfOk result (λ found. RisesBy (2 * length found.unreadable.items) (D.failure_count disk.old) (D.failure_count disk.new)) }
+    ensures cause { IfOk result (λ found. RisesBy (length found.unreadable.items) (D.failure_count disk.old) (D.failure_count disk.new)) }
     ensures disk { OnlyReads D.PageDisk disk.old disk.new }
 {
     let device_pages = disk.pages();

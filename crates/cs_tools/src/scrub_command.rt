@@ -3,13 +3,13 @@ ghost use Rattle.std.specs.Prelude.{◌≡◌, ◌≢◌, ◌⊎◌, ℕ, List, 
 ghost use Rattle.cs_chunk.specs.Newest.{AreNewest};
 ghost use Rattle.cs_disk.specs.Disk.{seen};
 ghost use Rattle.cs_disk.specs.Reads.{OnlyReads};
-ghost use Rattle.cs_tools.specs.Pages.{AreWhole, left_damaged};
+ghost use Rattle.cs_tools.specs.Pages.{AreLeftWhole};
 ghost use Rattle.cs_tools.specs.Scrubs.{Scrubs};
 ghost use Rattle.cs_tools.specs.declared.outcomes.Outcome.TheVariants.{Damaged, Done, Failed};
 
 use crate::outcomes::Outcome;
 use crate::outputs::{Style, print_id, print_refusal};
-use crate::pages::{FoundPages, count_left, print_pages};
+use crate::pages::{FoundPages, count_all_left, print_made, print_pages};
 use cs_core::Core;
 use cs_disk::PageDisk;
 use cs_frame::{Locator, ShardId};
@@ -20,8 +20,8 @@ use std::io;
 use std::io::Write;
 
 /// Reads each frame that the index names, prints those that can't be read, one a line, and then how many were read.
-/// Before them it prints the pages that aren't whole, of those that the store has twice. A page that was written anew
-/// is no damage any more.
+/// Before them it prints the pages that aren't whole, of those that the store has twice, and then those on which a
+/// section was lost. A page that was written anew is no damage any more.
 pub fn scrub<D: PageDisk, P: Progress, W: Write>(
     alloc: Global,
     core: &mut Core<D>,
@@ -31,7 +31,7 @@ pub fn scrub<D: PageDisk, P: Progress, W: Write>(
     writer: &mut W,
 ) -> Outcome
     ensures found { D.honest core.old.disk → (view : ℕ → List ℕ) → AreNewest core.old.store.graph (seen (D.state core.old.disk)) view
-        → Scrubs core.old.store.extents view core.old.store.index (left_damaged pages.now.mended pages.now.findings.now) (D.failure_count core.old.disk) (D.failure_count core.new.disk) result }
+        → Scrubs core.old.store.extents view core.old.store.index pages.now (D.failure_count core.old.disk) (D.failure_count core.new.disk) result }
     ensures same { core.new ≡ record core.old { disk = core.new.disk } }
     ensures disk { OnlyReads D.PageDisk core.old.disk core.new.disk }
 {
@@ -43,9 +43,9 @@ pub fn scrub<D: PageDisk, P: Progress, W: Write>(
 
 /// Prints what was found.
 fn report<W: Write>(found: &Scrubbed, pages: &FoundPages, style: Style, writer: &mut W) -> Outcome
-    ensures { ((result ≡ Done) × (found.now.damages.items ≡ []) × AreWhole (left_damaged pages.now.mended pages.now.findings.now)) ⊎ ((result ≡ Damaged) × ((found.now.damages.items ≢ []) ⊎ (¬ AreWhole (left_damaged pages.now.mended pages.now.findings.now)))) ⊎ (result ≡ Failed) }
+    ensures { ((result ≡ Done) × (found.now.damages.items ≡ []) × AreLeftWhole pages.now) ⊎ ((result ≡ Damaged) × ((found.now.damages.items ≢ []) ⊎ (¬ AreLeftWhole pages.now))) ⊎ (result ≡ Failed) }
 {
-    let left = count_left(pages.findings, pages.mended);
+    let left = count_all_left(pages);
     match print_all(found, pages, left, style, writer) {
         Ok(()) if found.damages.is_empty() && left == 0 => Outcome::Done,
         Ok(()) => Outcome::Damaged,
@@ -62,6 +62,7 @@ fn print_all<W: Write>(
     writer: &mut W,
 ) -> io::Result<()> {
     print_pages(writer, pages.findings, pages.mended, style)?;
+    print_made(writer, pages.made, pages.mended, style)?;
     print_found(found, left, style, writer)
 }
 

@@ -94,8 +94,7 @@ pub fn parts_of(rt: &(impl Abort + AllocGlobal), device: &mut Device, whose: Who
         .parts
 }
 
-/// What is found on a device of which these pages can't be read, from a page on. Each of those that is looked at fails
-/// twice.
+/// What is found on a device of which these pages can't be read, from a page on. Each of those that is looked at fails.
 pub fn found_without(
     rt: &(impl Abort + AllocGlobal),
     device: Device,
@@ -111,7 +110,7 @@ pub fn found_without(
     let finds = find_parts(rt.alloc(), &mut disk, &sought, from_page, &Unwatched).expect(
         rt, "memory",
     );
-    assert!(rt; disk.failures() == (finds.unreadable.len() as u64).saturating_mul(2));
+    assert!(rt; disk.failures() == finds.unreadable.len() as u64);
     finds
 }
 

@@ -1,5 +1,5 @@
 use Rattle.std.proofs.Common.{◌≡◌, ℕ, take}
-use Rattle.cs_numbers.specs.Numbers.{times}
+use Rattle.cs_node.specs.Numbers.{times}
 use Rattle.cs_node.specs.Accounts.{held}
 use Rattle.cs_node.proofs.judges.all_numbers.Given as goal
 

@@ -1,7 +1,7 @@
 use Rattle.std.proofs.Common.{◌<◌, List, arith, below_more, length, rules, subst, sym}
 use Rattle.std.specs.Prelude.{IsTrue, slice_index_or}
 use Rattle.std.proofs.lemmas.List.Elements.{at_read}
-use Rattle.cs_numbers.specs.Numbers.{Within}
+use Rattle.cs_node.specs.Numbers.{Within}
 use Rattle.cs_node.specs.Told.{Holdings}
 use Rattle.cs_node.proofs.judges.have_acks_within.Goals as goal
 

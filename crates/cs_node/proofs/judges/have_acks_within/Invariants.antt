@@ -1,6 +1,6 @@
 use Rattle.std.proofs.Common.{ℕ, ◌<◌}
 use Rattle.std.specs.Prelude.{slice_index_or}
-use Rattle.cs_numbers.specs.Numbers.{Within}
+use Rattle.cs_node.specs.Numbers.{Within}
 use Rattle.cs_node.specs.Told.{Holdings}
 use Rattle.cs_node.proofs.judges.have_acks_within.Given as goal
 

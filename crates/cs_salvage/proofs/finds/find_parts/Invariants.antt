@@ -1,4 +1,4 @@
-use Rattle.std.proofs.Common.{All, ◌-◌, ◌≤◌, ◌*◌, length}
+use Rattle.std.proofs.Common.{All, ◌-◌, ◌≤◌, length}
 use Rattle.cs_disk.specs.Disk.{seen}
 use Rattle.cs_disk.specs.Reads.{OnlyReads}
 use Rattle.cs_salvage.specs.Frames.{IsOfFrame}
@@ -16,7 +16,7 @@ invariant-loop-page g l = record {
   apart : AreApart l.sought.geometry l.from_page (g.D.PageDisk.page_count l.fn.disk) l.page l.finds.unreadable.items l.finds.parts.items;
   spelled : All IsOfFrame l.finds.parts.items;
   taken : AreSought l.sought l.finds.parts.items;
-  cause : RisesBy (2 * length l.finds.unreadable.items) (g.D.PageDisk.failure_count l.fn.disk) (g.D.PageDisk.failure_count l.disk);
+  cause : RisesBy (length l.finds.unreadable.items) (g.D.PageDisk.failure_count l.fn.disk) (g.D.PageDisk.failure_count l.disk);
 }
 
 abbrev pub decreases-loop-page : goal.decreases-loop-page

@@ -1,7 +1,8 @@
 use Rattle.std.proofs.Common.{ap}
 use Rattle.cs_disk.specs.Disk.{seen}
 use Rattle.cs_mount.specs.Hidden.{without_hidden}
-use Rattle.cs_tools.proofs.DoctorOpening.{of_store_moved, shown_moved}
+use Rattle.cs_tools.proofs.DoctorOpening.{of_store_moved}
+use Rattle.cs_tools.proofs.DoctorSections.{found_moved}
 use Rattle.cs_tools.proofs.diagnosing.diagnose.Goals as goal
 
 pub returns-in-Ok-clause-opening : goal.returns-in-Ok-clause-opening
@@ -11,7 +12,7 @@ returns-in-Ok-clause-opening g c = λ h.
     let mid = c.look_into.new.disk in
     let reads = c.look_into.ensures.disk in
     let passed = c.in-Ok.found.hidden.items in
-    shown_moved (D.page_count first) (D.page_count mid) (without_hidden passed (seen (D.state first))) (without_hidden passed (seen (D.state mid))) c.in-Ok.found.store.opening reads.pages
+    found_moved (D.page_count first) (D.page_count mid) (without_hidden passed (seen (D.state first))) (without_hidden passed (seen (D.state mid))) c.in-Ok.found.found.made.items c.in-Ok.found.found.store.opening reads.pages
     (ap (λ s. without_hidden passed (seen s)) (reads.same h)) (c.in-Ok.ensures.opening (reads.honesty.0 h))
 
 pub returns-in-Ok-clause-hidden : goal.returns-in-Ok-clause-hidden

@@ -1,4 +1,4 @@
-use Rattle.std.proofs.Common.{List, ℕ, length, ◌*◌}
+use Rattle.std.proofs.Common.{List, ℕ, length}
 use Rattle.cs_disk.specs.Disk.{seen}
 use Rattle.cs_salvage.specs.Passed.{ArePassed, RisesBy}
 use Rattle.cs_tools.proofs.Salvaging.{salvaged_if, unread_if}
@@ -17,4 +17,4 @@ returns-clause-passed g c =
 
 pub returns-clause-cause : goal.returns-clause-cause
 returns-clause-cause g c =
-    unread_if c.spelled_by.result (λ (pages : List ℕ). RisesBy (2 * length pages) (g.D.PageDisk.failure_count c.args.disk.now) (g.D.PageDisk.failure_count c.find_parts.new.disk)) c.in_ok-finds.finds.unreadable.items c.spelled_by.ensures.unreadable c.in_ok-finds.ensures.cause
+    unread_if c.spelled_by.result (λ (pages : List ℕ). RisesBy (length pages) (g.D.PageDisk.failure_count c.args.disk.now) (g.D.PageDisk.failure_count c.find_parts.new.disk)) c.in_ok-finds.finds.unreadable.items c.spelled_by.ensures.unreadable c.in_ok-finds.ensures.cause

@@ -1,4 +1,0 @@
-pub mod Times
-pub mod Laws
-pub mod Tallied
-pub mod Accounted
