@@ -1,5 +1,5 @@
 -- Torn crashes of stores over disks in pairs.
-use Rattle.std.proofs.Common.{◌≡◌, ◌≢◌, ◌⊎◌, inl, inr, ⊎_elim, ℕ, ◌+◌, ◌<◌, Bool, true, false, Option, Some, None, List, [], ◌∷◌, length, replicate, slice_get, slice_index, refl, sym, ◌∙◌, ap, subst, arith}
+use Rattle.std.proofs.Common.{◌≡◌, ◌≢◌, ◌⊎◌, inl, inr, ⊎_elim, ℕ, ◌+◌, ◌<◌, Bool, true, false, le_of_eq, Option, Some, None, List, [], ◌∷◌, length, replicate, slice_get, slice_index, refl, sym, ◌∙◌, ap, subst, arith}
 use denote.Struct.Props.{props}
 use Rattle.std.proofs.Math.Logic.{∥∥₁_elim}
 use Rattle.std.proofs.lemmas.List.{ext_get_or, length-replicate}
@@ -7,7 +7,7 @@ use Rattle.cs_core.proofs.TornCrashes.{torn_now}
 use Rattle.cs_core.specs.Meanings.{commands_said}
 use Rattle.cs_core.specs.Views.{IsCore, View}
 use Rattle.cs_disk.specs.declared.disk.PageDisk.{Ghosts as PageDisk}
-use Rattle.cs_disk.specs.Disk.{Image, MayLeave, State as DiskState, Write, applied, kept, page}
+use Rattle.cs_disk.specs.Disk.{Image, IsWhole as IsWholeDisk, MayLeave, State as DiskState, Write, applied, kept, page}
 use Rattle.cs_core.specs.cs_extent.State.{shape}
 use Rattle.cs_frame.specs.declared.faults.FormatFault.{FormatFault}
 use Rattle.cs_frame.specs.declared.formats.FormatNumber.TheVariants as of_number
@@ -20,7 +20,6 @@ use Rattle.law_machine.specs.Element.{Map}
 use Rattle.law_machine.specs.Device.{FramePage}
 use Rattle.law_machine.specs.Geometry.{shape_of, twins_in}
 use Rattle.law_machine.specs.Recovery.{Recovers}
-use Rattle.law_machine.specs.State.{map_after}
 use Rattle.cs_twin.specs.declared.pairs.Pair.{Pair}
 use Rattle.cs_mount.specs.OfStores.{IsOfStore}
 use Rattle.cs_twin.specs.Fences.{AreOverKnown, AreWhole, AreWrittenOnce, IsGuarded, IsWholeOrFence}
@@ -40,7 +39,8 @@ use Rattle.cs_mount.proofs.Spelling.{section_read}
 use Rattle.cs_mount.proofs.Telling.{version_says}
 use Rattle.cs_mount.proofs.Unpaired.{torn_store_shows}
 use Rattle.cs_core.specs.law_refinement.Crashes.{IsPrefix, IsTornFrom}
-use Rattle.cs_mount.specs.Torn.{IfUndamaged, IsTold, MayTearStore, dimensions_of}
+use Rattle.law_refinement.proofs.Started.{left_pages}
+use Rattle.cs_mount.specs.Torn.{IfRecovered, IsTold, MayTearStore, dimensions_of}
 
 -- a crash may lose all that is volatile
 none_kept : (writes : List Write) → kept (replicate (length writes) false) writes ≡ []
@@ -126,7 +126,7 @@ module _ {D : Type 0} (disks : PageDisk D) (v : View D) (core : IsCore disks v) 
       → MaySpoil (store_version (Some (dimensions_of v.store.extents))) (store_pairs (dimensions_of v.store.extents)) s image → LiesBelow (dimensions_of v.store.extents) (disks.state v.disk)
       → shown_on (pages_of (dimensions_of v.store.extents)) image ≡ shown (store_version (Some (dimensions_of v.store.extents))) (store_pairs (dimensions_of v.store.extents)) image
       → IsPrefix (shape v.store.extents) (page v.opened) (commands_said v.history) v.store.frontier v.store.accepted (shown_on (pages_of (dimensions_of v.store.extents)) image)
-  torn_in_pairs g shows length_is newer spoils below again count start recovers undamaged =
+  torn_in_pairs g shows length_is newer spoils below again =
       let e = dimensions_of v.store.extents in
       let V = store_version (Some e) in
       let torn = torn_store_shows e g twins V s image length_is newer spoils in
@@ -135,22 +135,23 @@ module _ {D : Type 0} (disks : PageDisk D) (v : View D) (core : IsCore disks v) 
         size = torn.2.size;
         each = λ p lt. in_frames e p (page (shown V (store_pairs e) image) p ≡ page torn.0 p) (disks.state v.disk) below (subst (λ (z : DiskState). (page (shown V (store_pairs e) image) p ≡ page torn.0 p) ⊎ ((((shape v.store.extents).kind p ≡ FramePage) ⊎ IsSpare e p) × HasWaitingWrite z p)) (sym shows) (torn.2.each p lt));
       } in
-      let prefix = torn_now disks v core g honest sized torn.0 (shown V (store_pairs e) image) near from count start recovers undamaged in
-      (prefix.0, prefix.1, prefix.2, subst (λ (c : Image). Recovers (shape v.store.extents) (formats_of (shape v.store.extents)) (page c) (count + prefix.0) (map_after start (commands_said v.history) prefix.0)) (sym again) prefix.3)
+      subst (λ (c : Image). IsPrefix (shape v.store.extents) (page v.opened) (commands_said v.history) v.store.frontier v.store.accepted c) (sym again)
+      (torn_now disks v core g honest sized torn.0 (shown V (store_pairs e) image) near from)
 
   -- The rules of the disk and its pairs are those of the store that page 0 shows, which is this one. What is left is of
   -- one store, and shows some of the commands.
-  pub torn_opened : IsGeometry v.store.extents.format (length v.store.extents.written) v.store.extents.pages v.store.extents.sections → (store : Option Dimensions) (pairs : List Pair) → disks.state v.disk ≡ shown_state (store_version store) pairs s
+  pub torn_opened : IsGeometry v.store.extents.format (length v.store.extents.written) v.store.extents.pages v.store.extents.sections → (store : Option Dimensions) (pairs : List Pair) → disks.state v.disk ≡ shown_state (store_version store) pairs s → IsWholeDisk (disks.state v.disk)
       → length s.durable ≡ pages_of (dimensions_of v.store.extents) → AreNoOlder (store_version store) pairs s → IsGuarded (store_version store) pairs s → ∥ IsOfStore store pairs (pages_of (dimensions_of v.store.extents)) s.durable ∥₁
       → MayTearStore (dimensions_of v.store.extents) s image
       → ((c : Image) → MayLeave (disks.state v.disk) c → IsPrefix (shape v.store.extents) (page v.opened) (commands_said v.history) v.store.frontier v.store.accepted c)
-      → IfUndamaged v (IsOfOne (pages_of (dimensions_of v.store.extents)) image × IsPrefix (shape v.store.extents) (page v.opened) (commands_said v.history) v.store.frontier v.store.accepted (shown_on (pages_of (dimensions_of v.store.extents)) image))
-  torn_opened g store pairs shows length_is newer guarded fits tear left count start recovers undamaged =
+      → IfRecovered v (IsOfOne (pages_of (dimensions_of v.store.extents)) image × IsPrefix (shape v.store.extents) (page v.opened) (commands_said v.history) v.store.frontier v.store.accepted (shown_on (pages_of (dimensions_of v.store.extents)) image))
+  torn_opened g store pairs shows whole_disk length_is newer guarded fits tear left count start recovers =
       let e = dimensions_of v.store.extents in
       let durable = shown (store_version store) pairs s.durable in
       let durable_left = subst (λ (z : DiskState). MayLeave z durable) (sym shows) (durable_MayLeave (shown_state (store_version store) pairs s)) in
-      let now = left durable durable_left count start recovers undamaged in
-      let says = version_says e (page durable 0) twins (recovered_whole e durable _ _ g twins now.3) in
+      let bytes = left_pages (disks.state v.disk) durable (length durable) whole_disk durable_left (le_of_eq (ap (λ (z : DiskState). length z.durable) (sym shows))) in
+      let now = left durable durable_left count start recovers in
+      let says = version_says e (page durable 0) twins (recovered_whole e durable _ _ g twins (now.4 bytes).1) in
       let is_its : IsProp (store ≡ Some e) = hlevel props in
       let are_its : IsProp (pairs ≡ pairs_where store) = hlevel props in
       let is_found : IsProp (dimensions_on (pages_of e) s.durable ≡ Some e) = hlevel props in

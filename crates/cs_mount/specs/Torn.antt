@@ -5,7 +5,6 @@ use Rattle.cs_core.specs.cs_extent.State.{State as ExtentsState, shape}
 use Rattle.cs_core.specs.Views.{View}
 use Rattle.cs_frame.specs.Formats.{formats_of}
 use Rattle.law_machine.specs.Element.{Map}
-use Rattle.law_machine.specs.Index.{NoneDamaged}
 use Rattle.law_machine.specs.Recovery.{Recovers}
 use Rattle.cs_frame.specs.FirstFormat.{page_zero_fault}
 use Rattle.cs_frame.specs.declared.faults.FormatFault.{FormatFault}
@@ -15,9 +14,9 @@ use Rattle.cs_frame.specs.Geometries.{Dimensions}
 use Rattle.cs_mount.specs.StorePairs.{pages_of, store_pairs, store_version}
 use Rattle.cs_twin.specs.Tears.{IsLeft, IsMixed, MayTear, MixesTwo}
 
--- P, if the store was opened on an image in which no shard is damaged
-abbrev pub IfUndamaged : {D : Type 0} → View D → Type 0 → Type 0
-IfUndamaged v P = (count : ℕ) (start : Map) → Recovers (shape v.store.extents) (formats_of (shape v.store.extents)) (page v.opened) count start → NoneDamaged start → P
+-- P, if the image that the store was opened on recovers a map
+abbrev pub IfRecovered : {D : Type 0} → View D → Type 0 → Type 0
+IfRecovered v P = (count : ℕ) (start : Map) → Recovers (shape v.store.extents) (formats_of (shape v.store.extents)) (page v.opened) count start → P
 
 -- the dimensions of a store with these extents
 abbrev pub dimensions_of : ExtentsState → Dimensions

@@ -15,7 +15,7 @@ ghost use Rattle.cs_mount.specs.Identities.{IsOfOne};
 ghost use Rattle.cs_mount.specs.Makings.{HasNewStore, IsBlankedFrom, IsCleared, IsTornLaying, LeavesLaying, half_laid};
 ghost use Rattle.cs_mount.specs.Showing.{shown_of, shown_on};
 ghost use Rattle.cs_mount.specs.StorePairs.{dimensions_on, pages_of, section_version, store_pairs, store_version};
-ghost use Rattle.cs_mount.specs.Torn.{IfUndamaged, MayTearStore, dimensions_of};
+ghost use Rattle.cs_mount.specs.Torn.{IfRecovered, MayTearStore, dimensions_of};
 ghost use Rattle.cs_mount.specs.TornStores.{LeavesTorn};
 ghost use Rattle.cs_reader.specs.Openings.{IsWhyNotOpened};
 ghost use Rattle.cs_twin.specs.Fences.{AreFences, AreOverKnown, AreWhole, AreWrittenOnce};
@@ -35,8 +35,7 @@ use cs_twin::PageRules;
 /// it leaves recovers the map after the first n commands, n from the frontier to all. It is never of two stores.
 /// `recovers` of `MountOptions::open` says that it is opened as that.
 ///
-/// The store was opened with no shard damaged, and its device is honest but for these tears. The crash comes between
-/// two calls. One thing is assumed of digests: a mixture of two pages, each whole or a fence, is whole
+/// The device is honest but for these tears, and the crash comes between two calls. One thing is assumed of digests: a mixture of two pages, each whole or a fence, is whole
 /// only as one of them. `told` of `MayTear` says so, and `IsTold` of page 0 and of the last page.
 pub fn a_torn_crash_is_opened<D: PageDisk>(core: &Core<Mounted<D>>)
     ensures prefix { D.honest (disk_below core.now.disk) → twins_in core.now.store.extents.format ≡ true
@@ -45,7 +44,7 @@ pub fn a_torn_crash_is_opened<D: PageDisk>(core: &Core<Mounted<D>>)
     // What it leaves isn't of two stores.
     ensures one { D.honest (disk_below core.now.disk) → twins_in core.now.store.extents.format ≡ true
         → (image : Image) → MayTearStore (dimensions_of core.now.store.extents) (D.state (disk_below core.now.disk)) image
-        → IfUndamaged core.now (IsOfOne (pages_of (dimensions_of core.now.store.extents)) image) }
+        → IfRecovered core.now (IsOfOne (pages_of (dimensions_of core.now.store.extents)) image) }
 {
     core.progress();
 }

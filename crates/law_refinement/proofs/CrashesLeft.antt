@@ -8,7 +8,7 @@ use Rattle.cs_disk.specs.Disk.{Image, MayLeave, State as DiskState, Write, kept,
 use Rattle.cs_extent.specs.State.{IsWhole, State as ExtentsState, shape}
 use Rattle.cs_frame.proofs.GeometryLaws.{lies_in_device}
 use Rattle.cs_frame.specs.Formats.{formats_of}
-use Rattle.cs_reader.specs.ImageReads.{page_total}
+use Rattle.cs_reader.specs.ImageReads.{ArePages, page_total}
 use Rattle.law_machine.proofs.Crash.{leaves_torn}
 use Rattle.law_machine.proofs.LocalRecovery.{recovers_alike, recovers_alike_but}
 use Rattle.law_machine.proofs.Unique.{one_recovery}
@@ -24,10 +24,11 @@ use Rattle.law_machine.specs.Recovery.{Recovers}
 use Rattle.law_machine.specs.Sound.{GivesFirst, Sound, crashed}
 use Rattle.law_machine.specs.State.{Command, State, map_after}
 use Rattle.law_machine.specs.Torn.{IsBeingWritten, TornFrom}
-use Rattle.law_refinement.specs.Crashes.{HasWaitingWrite, IsPrefix, IsTornFrom, LeavesPrefixOn}
+use Rattle.law_refinement.specs.Crashes.{GivesUndamaged, HasWaitingWrite, IsPrefix, IsTornFrom, LeavesPrefixOn}
 use Rattle.law_refinement.specs.Devices.{IsDiskOf}
 use Rattle.law_refinement.proofs.Disks.{crash}
 use Rattle.law_refinement.proofs.Shapes.{store_format, store_shape}
+use Rattle.law_refinement.proofs.UndamagedShards.{own_recovers}
 
 pub same_size : (disk : DiskState) (left : Image) → MayLeave disk left → length left ≡ length disk.durable
 same_size disk left may = ap length may.2 ∙ length-applied disk.durable (kept may.0 disk.volatile)
@@ -105,22 +106,31 @@ module _ (x : ExtentsState) (s : State) (disk : DiskState) (left image : Image) 
   pub torn_leaves : LeavesPrefixOn (shape x) (formats_of (shape x)) s image
   torn_leaves = let c = crash (shape x) (formats_of (shape x)) s disk is left may in by_mask c.0 c.1
 
+  -- the image has all pages of the store, which are of bytes where those of the image are
+  store_pages : ArePages (length image) (page image) → ArePages (page_total (shape x)) (page image)
+  store_pages are p lt = are p (subst (λ (n : ℕ). p < n) (sym (torn.size ∙ same_size disk left may ∙ sized)) lt)
+
   pub torn_leaves_from : (f : ℕ) → Recovers (shape x) (formats_of (shape x)) s.opened s.count s.start → IsFrontier (shape x) (formats_of (shape x)) s f
       → IsPrefix (shape x) s.opened s.commands f (length s.commands) image
-  torn_leaves_from f gives front count start again undamaged =
+  torn_leaves_from f gives front count start again =
       let same = one_recovery (shape x) (formats_of (shape x)) (store_shape x whole) (store_format x whole) s.opened s.count count s.start start gives again in
-      go count start same.0 (λ i id. same.1 id i) undamaged
+      go count start same.0 (λ i id. same.1 id i)
     where
-      go : (count : ℕ) (start : Map) → s.count ≡ count → s.start ≡ start → NoneDamaged start
+      go : (count : ℕ) (start : Map) → s.count ≡ count → s.start ≡ start
           → (n : ℕ) × (f ≤ n) × (n ≤ length s.commands)
-          × Recovers (shape x) (formats_of (shape x)) (page image) (count + n) (map_after start s.commands n)
-      go count start counts starts undamaged = let l = torn_leaves in (
+          × (NoneDamaged start → Recovers (shape x) (formats_of (shape x)) (page image) (count + n) (map_after start s.commands n))
+          × (ArePages (length image) (page image) → GivesUndamaged (shape x) image (count + n) (map_after start s.commands n))
+      go count start counts starts = let l = torn_leaves in (
         l.0,
         l.1.1 f front,
         l.1.0,
-        subst (λ (k : ℕ). Recovers (shape x) (formats_of (shape x)) (page image) (k + l.0) (map_after start s.commands l.0)) counts
+        λ undamaged. subst (λ (k : ℕ). Recovers (shape x) (formats_of (shape x)) (page image) (k + l.0) (map_after start s.commands l.0)) counts
             (subst (λ (m : Map). Recovers (shape x) (formats_of (shape x)) (page image) (s.count + l.0) (map_after m s.commands l.0)) starts
             (l.1.3 (subst (λ (m : Map). NoneDamaged m) (sym starts) undamaged))),
+        λ are. subst (λ (k : ℕ). GivesUndamaged (shape x) image (k + l.0) (map_after start s.commands l.0)) counts
+            (subst (λ (m : Map). GivesUndamaged (shape x) image (s.count + l.0) (map_after m s.commands l.0)) starts
+            (own_recovers x (page image) (store_below x whole) (store_pages are) s.opening (s.count + l.0) (map_after s.start s.commands l.0)
+            (λ on. (sound.filled on).thawed) l.1.2)),
       )
 
 -- where no page is torn
@@ -146,15 +156,17 @@ first_of_more start (c ∷ more) commands n few =
 
 pub prefix_wider : (S : Shape) (opened : ℕ → Page) (commands : List Command) (least most low high : ℕ) (left : Image)
     → low ≤ least → most ≤ high → IsPrefix S opened commands least most left → IsPrefix S opened commands low high left
-prefix_wider S opened commands least most low high left under over is count start gives undamaged =
-    let p = is count start gives undamaged in (p.0, le_trans under p.1, le_trans p.2 over, p.3)
+prefix_wider S opened commands least most low high left under over is count start gives =
+    let p = is count start gives in (p.0, le_trans under p.1, le_trans p.2 over, p.3, p.4)
 
 pub prefix_later : (S : Shape) (opened : ℕ → Page) (more commands : List Command) (least most : ℕ) (left : Image)
     → most ≤ length commands → IsPrefix S opened commands least most left → IsPrefix S opened (more ++ commands) least most left
-prefix_later S opened more commands least most left few is count start gives undamaged =
-    let p = is count start gives undamaged in (
+prefix_later S opened more commands least most left few is count start gives =
+    let p = is count start gives in
+    let same : map_after start commands p.0 ≡ map_after start (more ++ commands) p.0 = sym (first_of_more start more commands p.0 (le_trans p.2 few)) in (
       p.0,
       p.1,
       p.2,
-      subst (λ (m : Map). Recovers S (formats_of S) (page left) (count + p.0) m) (sym (first_of_more start more commands p.0 (le_trans p.2 few))) p.3,
+      λ undamaged. subst (λ (m : Map). Recovers S (formats_of S) (page left) (count + p.0) m) same (p.3 undamaged),
+      λ are. subst (λ (m : Map). GivesUndamaged S left (count + p.0) m) same (p.4 are),
     )

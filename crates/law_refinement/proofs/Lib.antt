@@ -17,6 +17,7 @@ pub mod Opening
 pub mod Numbers
 pub mod ImagesStay
 pub mod CrashesLeft
+pub mod UndamagedShards
 pub mod Disks
 pub mod Started
 pub mod RoundsOut
