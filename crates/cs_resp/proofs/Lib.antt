@@ -1,0 +1,5 @@
+pub mod Readers
+pub mod Digits
+pub mod RequestReaders
+pub mod Progressed
+pub mod ArgumentSteps
