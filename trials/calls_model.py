@@ -185,13 +185,20 @@ class Calls(Store):
 
     def uses(self):
         """Of each extent how many pages the chunks have that live there, and how many chunks' headers weren't read."""
-        live, unreadable = [0] * self.extents, [0] * self.extents
+        live, unreadable, _ = self.survey()
+        return live, unreadable
+
+    def survey(self):
+        """The same, and how many pages the greatest chunk has whose header was read."""
+        live, unreadable, greatest = [0] * self.extents, [0] * self.extents, 0
         for _, _, locator in self.chunks():
             try:
-                live[locator[0]] += self.read_first(locator)
+                pages = self.read_first(locator)
+                live[locator[0]] += pages
+                greatest = max(greatest, pages)
             except Refused:
                 unreadable[locator[0]] += 1
-        return live, unreadable
+        return live, unreadable, greatest
 
     def chunks(self):
         return [(name, number, locator) for name, found in sorted(self.live().items()) for number, locator in enumerate(found)]
@@ -255,7 +262,7 @@ class Calls(Store):
     def call_reclaim(self):
         """Sweeps the extent that is worth it."""
         self.must_go_on()
-        extent, dead = self.worth_apart() if self.rules.apart else self.worth_beside()
+        extent, dead = self.next_apart() if self.rules.apart else self.worth_beside()
         if extent is None:
             return "none"
         moved, root = self.sweep(extent)
@@ -272,13 +279,33 @@ class Calls(Store):
         """The extent of chunks with fewest live pages, the first of several, but not the one to which the last copy of a sweep went, where these pages and
         those of another one have room on one extent; and how many of its pages no shard has."""
         live, unreadable = self.uses()
-        movable = sorted((live[e], e) for e in range(self.extents)
-                         if self.pointer[e] and e not in self.of_runs and e not in self.swept and not unreadable[e])
+        extent = self.one_of_two(live, self.movable(live, unreadable))
+        return (None, 0) if extent is None else (extent, self.pointer[extent] - live[extent])
+
+    def next_apart(self):
+        """The extent of chunks that is swept next, up to the brim: one of two that fit on one; else the one with fewest live pages of those with dead pages;
+        else the one with fewest live pages, where all of them are sure to go to others; and how many of its pages no shard has."""
+        live, unreadable, greatest = self.survey()
+        movable = self.movable(live, unreadable)
+        extent = self.one_of_two(live, movable)
+        if extent is None:
+            extent = next((e for _, e in movable if self.pointer[e] > live[e]), None)
+        if extent is None and movable and movable[0][0]:
+            few, extent = movable[0]
+            sure = sum(max(0, self.pages - self.pointer[e] - max(0, greatest - 1)) for _, e in movable if e != extent)
+            extent = extent if few <= sure else None
+        return (None, 0) if extent is None else (extent, self.pointer[extent] - live[extent])
+
+    def movable(self, live, unreadable):
+        """The extents of chunks off which all may be moved, those with fewest live pages first."""
+        return sorted((live[e], e) for e in range(self.extents)
+                      if self.pointer[e] and e not in self.of_runs and e not in self.swept and not unreadable[e])
+
+    def one_of_two(self, live, movable):
+        """The first of these, but not the last copy's, where it and another one have room on one extent."""
         extent = next((e for _, e in movable if e != self.last), None)
         other = next((e for _, e in movable if e != extent), None)
-        if extent is None or other is None or live[extent] + live[other] > self.pages:
-            return None, 0
-        return extent, self.pointer[extent] - live[extent]
+        return None if extent is None or other is None or live[extent] + live[other] > self.pages else extent
 
     def call_numbers(self):
         return (f"accepted {self.accepted} persistent {self.frontier()} events {self.events} limit {self.limit} halted {truth(self.halted)}"

@@ -6,6 +6,7 @@ import shutil
 
 import eio
 import holes
+import pairs
 import reader
 from files import identifier
 from stores import DAMAGED, DONE, NO_STORE, PAGE, REFUSED
@@ -298,6 +299,21 @@ def look_at_all(trial, made):
     trial.see("no command changes a device that fails every read", made.path.read_bytes() == made.image)
 
 
+def look_at_commands(trial, made):
+    """A page of the root is damaged, and pages of chunks can't be read: the other chunks are looked through for the commands that may be lost."""
+    newest, other = next((newest, other) for own, newest, other in pairs.pairs_of(made.image).newest() if own == pairs.ROOT)
+    image = bytearray(made.image)
+    image[PAGE * other + 20] ^= 1
+    last = max(made.frames, key=lambda it: it.head.command)
+    pages = random.Random(trial.options.seed).sample(sorted(made.uses.chunks), 6)
+    for gone in ([last.span[0]], [last.span[-1]], *([page] for page in pages), [last.span[0], *pages]):
+        made.work.write_bytes(image)
+        ran = trial.run("list", made.work, env=eio.failing(trial, made.work, made.log, read=frozenset(gone)))
+        said = pairs.root_warnings(holes.without(image, gone), other, newest)
+        said.append(f"warning: {len(set(gone))} pages of the extents cannot be read: the commands that they name are not known")
+        trial.see("the commands of all other chunks are found, and the pages that can't be read are counted", all(line in ran.said.splitlines() for line in said), (gone, said, ran))
+
+
 def look_at_times(trial, made):
     """Each page fails some times, early or late: whatever is printed is what was put, and status 0 means all of it."""
     whole = {name: {text.hex() or "-"} for name, text in made.held.items()}
@@ -349,3 +365,5 @@ def look(trial, folder):
                 case.write()
         look_at_all(trial, made)
         look_at_times(trial, made)
+        if form == 4:
+            look_at_commands(trial, made)

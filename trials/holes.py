@@ -41,6 +41,8 @@ class Left:
 
     def __init__(self, image, gone=(), as_of=False):
         self.image, self.gone = bytes(image), frozenset(gone)
+        # Of extents whose pointer counts, where the frames end that begin below it. On the others they end with the extent.
+        self.pointers = {}
         seen = without(image, gone)
         first = pairs.section_on(pairs.page_of(seen, 0), None)
         self.passed, self.made, self.is_older = [], [], False
@@ -93,9 +95,13 @@ class Left:
     def first_page(self, place):
         return 2 + place.extent * self.pages + place.page
 
+    def end_page(self, place):
+        """The page of the device before which the frame at a place ends at the latest."""
+        return 2 + place.extent * self.pages + self.pointers.get(place.extent, self.pages)
+
     def span(self, place):
-        """The pages that the frame at a place takes, by its header, up to the end of its extent."""
-        first, end = self.first_page(place), 2 + (place.extent + 1) * self.pages
+        """The pages that the frame at a place takes, by its header, up to where it ends at the latest."""
+        first, end = self.first_page(place), self.end_page(place)
         length = struct.unpack(">I", self.image[PAGE * first + 5:PAGE * first + 9])[0]
         return range(first, min(end, first + -(-(41 + length) // PAGE)))
 
@@ -103,7 +109,7 @@ class Left:
         """What a frame says, if each of its pages can be read and all of it is whole."""
         if self.gone & {self.first_page(place), *self.span(place)}:
             raise Refused(UNREADABLE)
-        first, end = self.first_page(place), 2 + (place.extent + 1) * self.pages
+        first, end = self.first_page(place), self.end_page(place)
         try:
             return reader.frame(self.image[PAGE * first:PAGE * end], kind, place.mark, self.form)
         except reader.Unread as why:
@@ -138,7 +144,8 @@ def is_there(record, place):
 
 def sections_made(image):
     """The pages of a store of format 4 on which a section is made from the index, and the store that opens by them. Raises `Refused`
-    if none is lost, or if the store doesn't open by them."""
+    if none is lost, or if the store doesn't open by them. An extent of a section that is made is full, if something lives on it.
+    The pointers of the other sections count as ever."""
     left, found, made = Left(image), pairs.pairs_of(image), []
     if left.form == 2:
         raise Refused(43)
@@ -152,6 +159,7 @@ def sections_made(image):
             its = [place for place in named if place.extent in records]
             is_past = any(place.generation < records[place.extent][1] for place in its)
             if section.recorded > left.root.version or is_past or all(is_there(records[place.extent], place) for place in its):
+                left.pointers.update({extent: pointer for extent, (pointer, _) in records.items()})
                 continue
         lost = [page for page in (newest, other) if found.version(own, page) == 0]
         if not lost:

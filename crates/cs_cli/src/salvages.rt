@@ -8,15 +8,14 @@ use crate::openings::{Opened, Remaking, Shown, Unopened};
 use crate::progress::{Scanning, Told};
 use crate::sections::{Section, made_for, pages_of};
 use crate::warnings::{explain_unopened, warn_of, warn_of_rescue, warn_of_salvage};
-use cs_disk::PageDisk;
 use cs_frame::{Geometry, ShardId};
-use cs_mount::{Mounted, Remade, two_stores};
+use cs_mount::{Mounted, Remade};
 use cs_options::Listing;
 use cs_refusal::Refusal;
 use cs_tools::rescue::{Rescue, Sought, Whose};
 use cs_tools::{
     Known, Named, Outcome, Salvaged, Scanned, Skipping, explain, explain_got, export_salvaged,
-    geometry_to_salvage, get_rescued, list_rescued, look_up, may_be_lost, open_rescue, salvage,
+    geometry_of_one, get_rescued, list_rescued, look_up, may_be_lost, open_rescue, salvage,
 };
 use std::alloc::Global;
 use std::fs::File;
@@ -101,23 +100,9 @@ fn salvaged_by<R: AllocGlobal + Clock + Files<File = File> + Eprint>(
         return Ok((disk_to_scan(rt, place, manner.style)?, geometry));
     }
     let mut disk = disk_to_salvage(rt, place, manner.style)?;
-    if are_two(rt.alloc(), &mut disk) {
-        return Err(Unopened::of_disk(rt.alloc(), Refusal::NotAStore, &mut disk));
-    }
-    match geometry_to_salvage(rt.alloc(), &mut disk) {
+    match geometry_of_one(rt.alloc(), &mut disk) {
         Ok(geometry) => Ok((disk, geometry)),
         Err(refusal) => Err(Unopened::of_disk(rt.alloc(), refusal, &mut disk)),
-    }
-}
-
-/// Whether page 0 and the last page of a disk are of two stores, so that it isn't known which one is meant.
-fn are_two(alloc: Global, disk: &mut Read) -> bool {
-    if disk.pages() == 0 {
-        return false;
-    }
-    match two_stores(alloc, disk) {
-        Ok(Some(_)) => true,
-        _ => false,
     }
 }
 

@@ -8,7 +8,7 @@ use cs_disk::{PageDisk, refusal_of_disk};
 use cs_mount::{made_sections, remake};
 use cs_refusal::Refusal;
 use cs_tools::store::Loss;
-use cs_tools::{Outcome, Style, may_be_lost};
+use cs_tools::{Outcome, Style, may_be_lost, may_lack_section, pages_of_sections};
 use std::alloc::Global;
 use std::fs::File;
 use std::rt::Files;
@@ -17,23 +17,10 @@ use std::time::Clock;
 /// The bytes of a section that is made, and its page.
 pub type Section = (u64, [u8; 4096]);
 
-/// Whether a lost section may be why a store is refused so.
-fn is_of_sections(refusal: Refusal) -> bool {
-    match refusal {
-        Refusal::BadMagic
-        | Refusal::BadDigest
-        | Refusal::BadLength
-        | Refusal::BadPadding
-        | Refusal::BadVersion
-        | Refusal::NotAStore => true,
-        _ => false,
-    }
-}
-
 /// The sections that are lost of a store that is refused so, made from its index; none if that isn't why, or if they
 /// can't be made.
 pub fn made_for<D: PageDisk>(alloc: Global, refusal: Refusal, disk: &mut D) -> Vec<Section> {
-    if disk.pages() == 0 || !is_of_sections(refusal) {
+    if disk.pages() == 0 || !may_lack_section(refusal) {
         return Vec::new(alloc);
     }
     made_sections(alloc, disk).unwrap_or(Vec::new(alloc))
@@ -41,12 +28,7 @@ pub fn made_for<D: PageDisk>(alloc: Global, refusal: Refusal, disk: &mut D) -> V
 
 /// The pages of these sections; none if there is no memory for them.
 pub fn pages_of(alloc: Global, made: &[Section]) -> Vec<u64> {
-    let mut pages = Vec::new(alloc);
-    for k in 0..made.len() {
-        let entry = &made[k];
-        let _ = pages.push(entry.0);
-    }
-    pages
+    pages_of_sections(alloc, made).unwrap_or(Vec::new(alloc))
 }
 
 /// Makes the sections that a store has lost, and writes them.
@@ -77,7 +59,7 @@ pub fn disk_with_sections<R: AllocGlobal + Clock + Files<File = File> + Eprint>(
     let Outcome::NoStore(refusal) = unopened.outcome else {
         return Err(unopened);
     };
-    if !is_of_sections(refusal) {
+    if !may_lack_section(refusal) {
         return Err(unopened);
     }
     let mut disk = disk_without_loss(rt, place, style)?;
@@ -88,7 +70,10 @@ pub fn disk_with_sections<R: AllocGlobal + Clock + Files<File = File> + Eprint>(
     if loss == Loss::Refused && may_be_lost(&unopened.findings) {
         return Err(unopened.stopped());
     }
-    let pages = pages_of(rt.alloc(), &made);
+    let Ok(pages) = pages_of_sections(rt.alloc(), &made) else {
+        let refused = Outcome::NoStore(Refusal::OutOfMemory);
+        return Err(Unopened::of_outcome(rt.alloc(), refused, disk.fault()));
+    };
     if !keep_listed(rt, place.path, &mut disk, &pages, style) {
         return Err(Unopened::of_outcome(rt.alloc(), Outcome::MayBeLost, disk.fault()));
     }

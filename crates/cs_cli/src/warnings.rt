@@ -123,7 +123,7 @@ pub fn warn_of<R: AllocGlobal + Eprint, S>(
 ) {
     if may_be_lost(&opened.findings) {
         warn_of_root(rt, &opened.findings, commands, style);
-        warn_of_commands(rt, opened.scanned, commands, style);
+        warn_of_commands(rt, &opened.scanned, commands, style);
     }
     warn_of_findings(rt, &opened.findings, style);
     warn_of_made(rt, &opened.made, style);
@@ -156,24 +156,35 @@ fn root_passed_over(finding: Finding) -> Option<u64> {
     }
 }
 
-/// Warns of the commands on the device that the root doesn't count, as far as it was scanned.
+/// Warns of the commands on the device that the root doesn't count, as far as it was scanned, and of how many pages of it
+/// can't be read.
 fn warn_of_commands<R: AllocGlobal + Eprint>(
     rt: &R,
-    scanned: Option<Scanned>,
+    scanned: &Option<Scanned>,
     commands: u64,
     style: Style,
 ) {
-    let text = match scanned {
-        None => format!(in rt.alloc(); "commands after {commands} may be lost"),
-        Some(scanned) => text_of(rt, scanned, commands),
-    };
-    warn_text(rt, text, style);
+    match scanned {
+        None => {
+            let text = format!(in rt.alloc(); "commands after {commands} may be lost");
+            warn_text(rt, text, style);
+        }
+        Some(scanned) => {
+            warn_text(rt, text_of(rt, scanned, commands), style);
+            warn_of_count(
+                rt,
+                scanned.unreadable.len(),
+                "pages of the extents cannot be read: the commands that they name are not known",
+                style,
+            );
+        }
+    }
 }
 
 /// What a scan found beside the commands that the root counts.
-fn text_of<R: AllocGlobal>(rt: &R, scanned: Scanned, commands: u64) -> Result<String, AllocError> {
-    let Scanned { greatest, is_whole } = scanned;
-    let part = if is_whole {
+fn text_of<R: AllocGlobal>(rt: &R, scanned: &Scanned, commands: u64) -> Result<String, AllocError> {
+    let greatest = scanned.greatest;
+    let part = if scanned.is_whole {
         ""
     } else {
         " in the part of the file that was read in 5 seconds"

@@ -8,7 +8,8 @@ use Rattle.cs_frame.specs.Frames.{page_count}
 use Rattle.cs_frame.specs.Geometries.{run_bytes, weight_bytes}
 use Rattle.law_machine.specs.Format.{Format, Four, Two}
 use Rattle.law_machine.specs.Geometry.{marks_in, most_weight_in}
-use Rattle.cs_inspect.specs.Choices.{ChoosesApart, ChoosesBy, ChoosesTogether, run_pages}
+use Rattle.cs_inspect.specs.Brim.{ChoosesNext, IsNext}
+use Rattle.cs_inspect.specs.Choices.{ChoosesApart, ChoosesBy, ChoosesNextBy, ChoosesTogether, run_pages}
 use Rattle.cs_inspect.specs.declared.surveys.ExtentUse.{ExtentUse}
 use Rattle.cs_inspect.specs.Fewest.{IsFewestLive}
 use Rattle.cs_inspect.specs.Uses.{AreExtents, HasNoGarbage, IsMostGarbage, garbage}
@@ -66,6 +67,9 @@ module _ (uses : List ExtentUse) where
     pub fewest_chosen : (last : Option ℕ) (pages : ℕ) → IsFewestLive uses last pages extent → ChoosesApart uses last pages (Some (extent, dead))
     fewest_chosen last pages chosen = (chosen, dead_of chosen.best.its chosen.best.there.0)
 
+    pub next_chosen : (last : Option ℕ) (pages greatest : ℕ) → IsNext uses last pages greatest extent → ChoosesNext uses last pages greatest (Some (extent, dead))
+    next_chosen last pages greatest next = (next, dead_of)
+
     module _ (best : IsMostGarbage uses extent) where
       its_dead : garbage best.its ≡ dead
       its_dead = all_dead best.its best.some ∙ dead_of best.its best.there
@@ -93,6 +97,14 @@ module _ (x held : Extents) (uses listed : List ExtentUse) (whole : IsWhole x) (
       (subst (λ (l : Option ℕ). ChoosesApart listed l (shape held).pages chosen) (lasts ∙ ap (λ (y : Extents). (extents_of y).last) same)
       (subst (λ (n : ℕ). ChoosesApart listed last n chosen) (given ∙ ap (λ (y : Extents). (shape y).pages) same) goes)))
 
+  pub by_next : (last : Option ℕ) (pages greatest index_pages : ℕ) → (shape x).apart ≡ true → last ≡ (extents_of x).last → pages ≡ (shape x).pages → ChoosesNext listed last pages greatest chosen
+      → ChoosesNextBy (shape held).apart uses greatest index_pages (extents_of held).last (shape held).pages chosen
+  by_next last pages greatest index_pages is lasts given goes =
+      subst (λ (a : Bool). ChoosesNextBy a uses greatest index_pages (extents_of held).last (shape held).pages chosen) (sym (rule_held true is))
+      (subst (λ (us : List ExtentUse). ChoosesNext us (extents_of held).last (shape held).pages greatest chosen) is_listed
+      (subst (λ (l : Option ℕ). ChoosesNext listed l (shape held).pages greatest chosen) (lasts ∙ ap (λ (y : Extents). (extents_of y).last) same)
+      (subst (λ (n : ℕ). ChoosesNext listed last n greatest chosen) (given ∙ ap (λ (y : Extents). (shape y).pages) same) goes)))
+
   module _ (named limit index_pages entries : ℕ) (limited : limit ≡ most_weight_in x.format x.pages) (pages : index_pages ≡ page_count (weight_bytes x.format (min named limit))) (all : named ≡ entries) where
     -- no more pages are dead than an extent has
     dead_within : (extent : ℕ) (used : ExtentUse) → slice_get uses extent ≡ Some used → used.pointer - used.live ≤ x.pages
@@ -115,4 +127,8 @@ module _ (x held : Extents) (uses listed : List ExtentUse) (whole : IsWhole x) (
 
     pub by_garbage : (last : Option ℕ) (each : ℕ) → (shape x).apart ≡ false → ChoosesTogether listed index_pages chosen → ChoosesBy (shape held).apart uses (run_pages entries) last each chosen
     by_garbage last each is goes = subst (λ (a : Bool). ChoosesBy a uses (run_pages entries) last each chosen) (sym (rule_held false is))
+        (subst (λ (n : ℕ). ChoosesTogether uses (run_pages n) chosen) all (run_chosen is chosen (subst (λ (us : List ExtentUse). ChoosesTogether us index_pages chosen) is_listed goes)))
+
+    pub by_garbage_next : (greatest : ℕ) (last : Option ℕ) (each : ℕ) → (shape x).apart ≡ false → ChoosesTogether listed index_pages chosen → ChoosesNextBy (shape held).apart uses greatest (run_pages entries) last each chosen
+    by_garbage_next greatest last each is goes = subst (λ (a : Bool). ChoosesNextBy a uses greatest (run_pages entries) last each chosen) (sym (rule_held false is))
         (subst (λ (n : ℕ). ChoosesTogether uses (run_pages n) chosen) all (run_chosen is chosen (subst (λ (us : List ExtentUse). ChoosesTogether us index_pages chosen) is_listed goes)))

@@ -1,3 +1,4 @@
+pub mod Brim
 pub mod Counting
 pub mod Crashing
 pub mod Hiding

@@ -4,33 +4,33 @@ use Rattle.std.specs.Prelude.{◌↔◌, IsTrue, slice_get}
 use Rattle.std.proofs.lemmas.Bool.{cases_eq, cases_lt}
 use Rattle.std.proofs.lemmas.Option.{get_or_from_slice_get, same_Some, slice_get_within}
 use Rattle.cs_inspect.specs.declared.surveys.ExtentUse.{ExtentUse}
-use Rattle.cs_inspect.specs.Fewest.{HasFewer, HasNoFewer, IsFewest, IsFewestLive, IsOther, NoOther, NoTwoFit}
+use Rattle.cs_inspect.specs.Fewest.{HasFewer, HasNoFewer, IsFewest, IsFewestLive, IsFewestOf, IsOther, IsSought, NoOther, NoTwoFit, NoneSought}
 
 -- of the first i extents e is the first with fewest live pages
-pub record IsFewestOf (uses : List ExtentUse) (but : Option ℕ) (i e : ℕ) : Type 0 where
+pub record IsFewestBefore (uses : List ExtentUse) (but : Option ℕ) (dead i e : ℕ) : Type 0 where
   pub its : ExtentUse
-  pub there : IsOther uses but e its
+  pub there : IsSought uses but dead e its
   pub before : e < i
-  pub fewest : (k : ℕ) (used : ExtentUse) → k < i → IsOther uses but k used → (its.live < used.live) ⊎ ((its.live ≡ used.live) × (e ≤ k))
+  pub fewest : (k : ℕ) (used : ExtentUse) → k < i → IsSought uses but dead k used → (its.live < used.live) ⊎ ((its.live ≡ used.live) × (e ≤ k))
 
 -- the first of the first i extents, if one was found
-abbrev pub IsFewestTo : List ExtentUse → (but : Option ℕ) → (i : ℕ) → Option ℕ → Type 0
-IsFewestTo uses but i found = MatchOption found ((k : ℕ) (used : ExtentUse) → k < i → ¬ IsOther uses but k used) (IsFewestOf uses but i)
+abbrev pub IsFewestTo : List ExtentUse → (but : Option ℕ) → (dead i : ℕ) → Option ℕ → Type 0
+IsFewestTo uses but dead i found = MatchOption found ((k : ℕ) (used : ExtentUse) → k < i → ¬ IsSought uses but dead k used) (IsFewestBefore uses but dead i)
 
-pub fewest_none : (uses : List ExtentUse) (but : Option ℕ) → IsFewestTo uses but 0 None
-fewest_none uses but k used lt = absurd (omega (arith, lt))
+pub fewest_none : (uses : List ExtentUse) (but : Option ℕ) (dead : ℕ) → IsFewestTo uses but dead 0 None
+fewest_none uses but dead k used lt = absurd (omega (arith, lt))
 
 -- what was found is there
-pub found_within : (uses : List ExtentUse) (but : Option ℕ) (i : ℕ) (found : Option ℕ) → i ≤ length uses → IsFewestTo uses but i found → (e : ℕ) → found ≡ Some e → e < length uses
-found_within uses but i None le was e is = absurd (cc is)
-found_within uses but i (Some d) le was e is = let same : d ≡ e = same_Some d e is in let lt : d < i = was.before in omega (arith, same, lt, le)
+pub found_within : (uses : List ExtentUse) (but : Option ℕ) (dead i : ℕ) (found : Option ℕ) → i ≤ length uses → IsFewestTo uses but dead i found → (e : ℕ) → found ≡ Some e → e < length uses
+found_within uses but dead i None le was e is = absurd (cc is)
+found_within uses but dead i (Some d) le was e is = let same : d ≡ e = same_Some d e is in let lt : d < i = was.before in omega (arith, same, lt, le)
 
 -- two uses of one extent are one
 one_use : (uses : List ExtentUse) (k i : ℕ) (u v : ExtentUse) → k ≡ i → slice_get uses k ≡ Some u → slice_get uses i ≡ Some v → u ≡ v
 one_use uses k i u v same at there = same_Some u v (sym at ∙ ap (slice_get uses) same ∙ there)
 
-module _ (uses : List ExtentUse) (but : Option ℕ) (i : ℕ) where
-  pub fewest_taken : (found : Option ℕ) → IsFewestTo uses but i found → HasFewer uses but found i → IsFewestTo uses but (i + 1) (Some i)
+module _ (uses : List ExtentUse) (but : Option ℕ) (dead i : ℕ) where
+  pub fewest_taken : (found : Option ℕ) → IsFewestTo uses but dead i found → HasFewer uses but dead found i → IsFewestTo uses but dead (i + 1) (Some i)
   fewest_taken found was fewer = record {
     its = fewer.0;
     there = fewer.1;
@@ -41,8 +41,8 @@ module _ (uses : List ExtentUse) (but : Option ℕ) (i : ℕ) where
     ];
   }
     where
-      below : (found : Option ℕ) → IsFewestTo uses but i found → ((k : ℕ) (best : ExtentUse) → found ≡ Some k → slice_get uses k ≡ Some best → fewer.0.live < best.live)
-          → (k : ℕ) (used : ExtentUse) → k < i → IsOther uses but k used → fewer.0.live < used.live
+      below : (found : Option ℕ) → IsFewestTo uses but dead i found → ((k : ℕ) (best : ExtentUse) → found ≡ Some k → slice_get uses k ≡ Some best → fewer.0.live < best.live)
+          → (k : ℕ) (used : ExtentUse) → k < i → IsSought uses but dead k used → fewer.0.live < used.live
       below None was less k used lt is = absurd (was k used lt is)
       below (Some e) was less k used lt is =
           let first : fewer.0.live < was.its.live = less e was.its refl was.there.0 in
@@ -51,9 +51,9 @@ module _ (uses : List ExtentUse) (but : Option ℕ) (i : ℕ) where
             | inr same ↦ (let equal : was.its.live ≡ used.live = same.0 in omega (arith, first, equal))
           ]
 
-  pub fewest_kept : (found : Option ℕ) → IsFewestTo uses but i found → HasNoFewer uses but found i → IsFewestTo uses but (i + 1) found
+  pub fewest_kept : (found : Option ℕ) → IsFewestTo uses but dead i found → HasNoFewer uses but dead found i → IsFewestTo uses but dead (i + 1) found
   fewest_kept None was none = λ k used lt is. elim (cases_eq k i) [
-    | inl here ↦ (let found = none used (subst (λ (n : ℕ). IsOther uses but n used) here is) in absurd (cc found.2))
+    | inl here ↦ (let found = none used (subst (λ (n : ℕ). IsSought uses but dead n used) here is) in absurd (cc found.2))
     | inr other ↦ was k used (omega (arith, lt, other)) is
   ]
   fewest_kept (Some e) was none = record {
@@ -61,7 +61,7 @@ module _ (uses : List ExtentUse) (but : Option ℕ) (i : ℕ) where
     there = was.there;
     before = (let lt : e < i = was.before in omega (arith, lt));
     fewest = λ k used lt is. elim (cases_eq k i) [
-      | inl here ↦ last k used here (none used (subst (λ (n : ℕ). IsOther uses but n used) here is))
+      | inl here ↦ last k used here (none used (subst (λ (n : ℕ). IsSought uses but dead n used) here is))
       | inr other ↦ was.fewest k used (omega (arith, lt, other)) is
     ];
   }
@@ -77,13 +77,24 @@ module _ (uses : List ExtentUse) (but : Option ℕ) (i : ℕ) where
             | inr no_less ↦ inr (omega (arith, le, no_less), omega (arith, lt, here))
           ]
 
-pub fewest_of_all : (uses : List ExtentUse) (but : Option ℕ) (i : ℕ) (found : Option ℕ) → length uses ≤ i → IsFewestTo uses but i found → MatchOption found (NoOther uses but) (IsFewest uses but)
-fewest_of_all uses but i None enough was = λ e used is. was e used (omega (arith, enough, slice_get_within uses e used is.0)) is
-fewest_of_all uses but i (Some e) enough was = record {
+pub fewest_of_all : (uses : List ExtentUse) (but : Option ℕ) (dead i : ℕ) (found : Option ℕ) → length uses ≤ i → IsFewestTo uses but dead i found → MatchOption found (NoneSought uses but dead) (IsFewestOf (IsSought uses but dead))
+fewest_of_all uses but dead i None enough was = λ e used is. was e used (omega (arith, enough, slice_get_within uses e used is.0)) is
+fewest_of_all uses but dead i (Some e) enough was = record {
   its = was.its;
   there = was.there;
   fewest = λ k used is. was.fewest k used (omega (arith, enough, slice_get_within uses k used is.0)) is;
 }
+
+-- where no dead page is asked for, all others are sought
+pub fewest_other : (uses : List ExtentUse) (but : Option ℕ) (e : ℕ) → IsFewestOf (IsSought uses but 0) e → IsFewest uses but e
+fewest_other uses but e best = record {
+  its = best.its;
+  there = (best.there.0, best.there.1, best.there.2);
+  fewest = λ k used is. best.fewest k used (is.0, is.1, is.2, omega arith);
+}
+
+pub none_other : (uses : List ExtentUse) (but : Option ℕ) → NoneSought uses but 0 → NoOther uses but
+none_other uses but none e used is = none e used (is.0, is.1, is.2, omega arith)
 
 -- ---- whether two fit on one
 

@@ -7,6 +7,7 @@ use Rattle.std.proofs.lemmas.List.{get_or-set_other, length-set, length_push}
 use Rattle.std.proofs.lemmas.Option.{same_Some, slice_get_within}
 use Rattle.cs_disk.specs.Disk.{Rises}
 use Rattle.law_machine.specs.Extents.{Extents}
+use Rattle.cs_inspect.specs.Brim.{AreSurveyed, greatest_in}
 use Rattle.cs_inspect.specs.declared.surveys.ExtentUse.{ExtentUse}
 use Rattle.cs_inspect.specs.Uses.{AreBounded, AreCounted, AreCountedAsRead, AreExtents, AreRead, AreReadAs, AreSums, AreTallied, AreUses, Head, IsExtent, lost_in, lost_one, missing_in, pages_in, sum_on}
 
@@ -177,15 +178,20 @@ pub extents_so : (n : ℕ) (x : Extents) (live unreadable : List ℕ) (uses : Li
 extents_so n x live unreadable uses are = (are.0, λ e used at. (are.1 e used at).0)
 
 -- what was read is what is counted
-pub counted_as_read : (n : ℕ) (x : Extents) (live unreadable : List ℕ) (uses : List ExtentUse) (before after : ℕ) (heads read : List Head) → AreUses n x live unreadable uses → length live ≡ n → length unreadable ≡ n
-    → AreTallied read live unreadable → AreRead before after heads read → AreCountedAsRead before after heads uses
-counted_as_read n x live unreadable uses before after heads read are live_size unreadable_size tallied got = (read, got, count)
-  where
-    count : AreCounted read uses
-    count e used at =
-        let lt : e < n = omega (arith, slice_get_within uses e used at, are.0) in
-        let its = are.1 e used at in
-        (its.1 ∙ tallied.0 e (omega (arith, lt, live_size)), its.2 ∙ tallied.1 e (omega (arith, lt, unreadable_size)))
+module _ (n : ℕ) (x : Extents) (live unreadable : List ℕ) (uses : List ExtentUse) (before after : ℕ) (heads read : List Head) (are : AreUses n x live unreadable uses)
+    (live_size : length live ≡ n) (unreadable_size : length unreadable ≡ n) (tallied : AreTallied read live unreadable) (got : AreRead before after heads read) where
+  count_read : AreCounted read uses
+  count_read e used at =
+      let lt : e < n = omega (arith, slice_get_within uses e used at, are.0) in
+      let its = are.1 e used at in
+      (its.1 ∙ tallied.0 e (omega (arith, lt, live_size)), its.2 ∙ tallied.1 e (omega (arith, lt, unreadable_size)))
+
+  pub counted_as_read : AreCountedAsRead before after heads uses
+  counted_as_read = (read, got, count_read)
+
+  -- with the greatest chunk
+  pub surveyed : (greatest : ℕ) → greatest ≡ greatest_in read → AreSurveyed before after heads uses greatest
+  surveyed greatest is = (read, got, count_read, is)
 
 module _ (before after : ℕ) (heads : List Head) (uses : List ExtentUse) (are : AreCountedAsRead before after heads uses) where
   -- where no read failed that is what the headers say

@@ -13,6 +13,7 @@ use Rattle.cs_inspect.specs.declared.choices.Choice.{Choice}
 use Rattle.cs_inspect.specs.declared.choices.SweepRule.{SweepRule}
 use Rattle.cs_inspect.specs.declared.choices.SweepRule.TheVariants.{FewestLive, MostGarbage}
 use Rattle.cs_inspect.specs.declared.surveys.ExtentUse.{ExtentUse}
+use Rattle.cs_inspect.specs.Brim.{AreSurveyed, ChoosesNext}
 use Rattle.cs_inspect.specs.Fewest.{IsFewestLive, NoTwoFit}
 use Rattle.cs_inspect.specs.Kinds.{LieApart, LieTogether}
 use Rattle.cs_inspect.specs.Uses.{AreCountedAsRead, AreExtents, Head, HoldsOfHeads, IsMostGarbage, garbage}
@@ -48,6 +49,11 @@ abbrev pub ChoosesBy : Bool → List ExtentUse → (index_pages : ℕ) → (last
 ChoosesBy false uses index_pages last pages chosen = ChoosesTogether uses index_pages chosen
 ChoosesBy true uses index_pages last pages chosen = ChoosesApart uses last pages chosen
 
+-- what is chosen to be swept next: up to the brim (true), or by most garbage (false)
+abbrev pub ChoosesNextBy : Bool → List ExtentUse → (greatest index_pages : ℕ) → (last : Option ℕ) → (pages : ℕ) → Option (ℕ × ℕ) → Type 0
+ChoosesNextBy false uses greatest index_pages last pages chosen = ChoosesTogether uses index_pages chosen
+ChoosesNextBy true uses greatest index_pages last pages chosen = ChoosesNext uses last pages greatest chosen
+
 module _ {D : Type 0} (disks : PageDisk D) where
   -- nothing but reads was asked of the disk, and nothing else has changed
   abbrev pub ReadsOn : (old new : View D) → Type 0
@@ -61,6 +67,19 @@ module _ {D : Type 0} (disks : PageDisk D) where
     pub read : AreCountedAsRead (disks.failure_count old.disk) (disks.failure_count new.disk) heads uses
     pub chooses : ChoosesBy (shape old.store.extents).apart uses (run_pages entries) (extents_of old.store.extents).last (shape old.store.extents).pages chosen
 
+  -- An extent is chosen to be swept next, or none, by how the extents are used and by the greatest chunk that lives, both as these
+  -- headers say, where one whose read failed says nothing. In format 2 it is chosen as in `GoesBy`.
+  pub record GoesNext (heads : List Head) (entries : ℕ) (old new : View D) (chosen : Option (ℕ × ℕ)) : Type 0 where
+    pub uses : List ExtentUse
+    pub greatest : ℕ
+    pub extents : AreExtents (shape old.store.extents).extents (extents_of old.store.extents) uses
+    pub read : AreSurveyed (disks.failure_count old.disk) (disks.failure_count new.disk) heads uses greatest
+    pub chooses : ChoosesNextBy (shape old.store.extents).apart uses greatest (run_pages entries) (extents_of old.store.extents).last (shape old.store.extents).pages chosen
+
   -- on an honest disk it is chosen so by the headers of all live chunks, and by as many entries as the index names
+  abbrev pub ChoosesSweep : (old new : View D) → (chosen : Option (ℕ × ℕ)) → Type 0
+  ChoosesSweep old new chosen = disks.honest old.disk → HoldsOfHeads disks old (λ heads. GoesNext heads (names (index_of old.store.index)) old new chosen)
+
+  -- the same of a choice by `GoesBy`
   abbrev pub Chooses : (old new : View D) → (chosen : Option (ℕ × ℕ)) → Type 0
   Chooses old new chosen = disks.honest old.disk → HoldsOfHeads disks old (λ heads. GoesBy heads (names (index_of old.store.index)) old new chosen)

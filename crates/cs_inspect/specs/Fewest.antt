@@ -1,5 +1,5 @@
 -- Which extent is swept: one with few live pages.
-use Rattle.std.specs.Prelude.{◌≡◌, ◌≢◌, ◌⊎◌, ◌+◌, ◌<◌, ◌≤◌, ℕ, false, List, Option, Some, slice_get}
+use Rattle.std.specs.Prelude.{◌≡◌, ◌≢◌, ◌⊎◌, ◌+◌, ◌-◌, ◌<◌, ◌≤◌, ℕ, false, List, Option, Some, slice_get}
 use Rattle.cs_inspect.specs.declared.surveys.ExtentUse.{ExtentUse}
 
 -- All that lives there may be moved: chunks lie there, none of them has an unreadable header, and no sweep goes on
@@ -18,12 +18,15 @@ IsOther uses but e used = (slice_get uses e ≡ Some used) × (but ≢ Some e) �
 abbrev pub FitOnOne : (pages : ℕ) → (one other : ExtentUse) → Type 0
 FitOnOne pages one other = one.live + other.live ≤ pages
 
--- Of the extents but this one from which all may be moved, e is one with fewest live pages, and the first of those with
--- as few.
-pub record IsFewest (uses : List ExtentUse) (but : Option ℕ) (e : ℕ) : Type 0 where
+-- Of the extents that are such, e is one with fewest live pages, and the first of those with as few.
+pub record IsFewestOf (Such : ℕ → ExtentUse → Type 0) (e : ℕ) : Type 0 where
   pub its : ExtentUse
-  pub there : IsOther uses but e its
-  pub fewest : (k : ℕ) (used : ExtentUse) → IsOther uses but k used → (its.live < used.live) ⊎ ((its.live ≡ used.live) × (e ≤ k))
+  pub there : Such e its
+  pub fewest : (k : ℕ) (used : ExtentUse) → Such k used → (its.live < used.live) ⊎ ((its.live ≡ used.live) × (e ≤ k))
+
+-- so it is of the extents but this one from which all may be moved
+abbrev pub IsFewest : List ExtentUse → (but : Option ℕ) → (e : ℕ) → Type 0
+IsFewest uses but e = IsFewestOf (IsOther uses but) e
 
 -- from no extent but this one may all be moved
 abbrev pub NoOther : List ExtentUse → (but : Option ℕ) → Type 0
@@ -41,13 +44,20 @@ NoTwoFit uses pages = (e : ℕ) (one : ExtentUse) (k : ℕ) (other : ExtentUse) 
 
 -- ---- seeking it
 
--- all may be moved from extent e, another one than this, and it has fewer live pages than the one that was found, where
--- one was
-abbrev pub HasFewer : List ExtentUse → (but found : Option ℕ) → ℕ → Type 0
-HasFewer uses but found e = (used : ExtentUse) × IsOther uses but e used
+-- extent e is used so, it is another one than this, all that lives there may be moved, and so many pages at least are dead there
+abbrev pub IsSought : List ExtentUse → (but : Option ℕ) → (dead e : ℕ) → ExtentUse → Type 0
+IsSought uses but dead e used = (slice_get uses e ≡ Some used) × (but ≢ Some e) × IsMovable used × (dead ≤ used.pointer - used.live)
+
+-- of those it has fewer live pages than the one that was found, where one was
+abbrev pub HasFewer : List ExtentUse → (but : Option ℕ) → (dead : ℕ) → (found : Option ℕ) → ℕ → Type 0
+HasFewer uses but dead found e = (used : ExtentUse) × IsSought uses but dead e used
     × ((k : ℕ) (best : ExtentUse) → found ≡ Some k → slice_get uses k ≡ Some best → used.live < best.live)
 
--- it hasn't, where all may be moved from it
-abbrev pub HasNoFewer : List ExtentUse → (but found : Option ℕ) → ℕ → Type 0
-HasNoFewer uses but found e = (used : ExtentUse) → IsOther uses but e used
+-- it hasn't, if it is one of them
+abbrev pub HasNoFewer : List ExtentUse → (but : Option ℕ) → (dead : ℕ) → (found : Option ℕ) → ℕ → Type 0
+HasNoFewer uses but dead found e = (used : ExtentUse) → IsSought uses but dead e used
     → (k : ℕ) × (best : ExtentUse) × (found ≡ Some k) × (slice_get uses k ≡ Some best) × (best.live ≤ used.live)
+
+-- there is none of them
+abbrev pub NoneSought : List ExtentUse → (but : Option ℕ) → (dead : ℕ) → Type 0
+NoneSought uses but dead = (e : ℕ) (used : ExtentUse) → ¬ IsSought uses but dead e used

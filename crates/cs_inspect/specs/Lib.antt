@@ -1,4 +1,5 @@
 pub mod Scrubs
+pub mod Brim
 pub mod Choices
 pub mod Chunks
 pub mod Failures

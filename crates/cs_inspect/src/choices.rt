@@ -1,11 +1,12 @@
 //! Which extent to sweep, and whether that gains.
-ghost use Rattle.std.specs.Prelude.{IfOk, ◌≡◌, ◌+◌, ◌↔◌, ◌<◌, ◌≤◌, ℕ, IsTrue, MatchBool, MatchOption, Some, length};
+ghost use Rattle.std.specs.Prelude.{IfOk, ◌≡◌, ◌+◌, ◌-◌, ◌^◌, ◌↔◌, min, ◌<◌, ◌≤◌, ℕ, IsTrue, MatchBool, MatchOption, Some, length};
 ghost use Rattle.cs_extent.specs.State.{shape};
-ghost use Rattle.cs_inspect.specs.Choices.{Chooses, ChoosesApart, IsRule, ReadsOn, chosen_extent};
-ghost use Rattle.cs_inspect.specs.Fewest.{HasFewer, HasNoFewer, IsFewest, IsFewestLive, NoOther, NoTwoFit};
+ghost use Rattle.cs_inspect.specs.Brim.{ChoosesNext, IsNext, IsSureFewest, NoneNext, NoneSure, sum_below, sure_at};
+ghost use Rattle.cs_inspect.specs.Choices.{ChoosesSweep, IsRule, ReadsOn, chosen_extent};
+ghost use Rattle.cs_inspect.specs.Fewest.{HasFewer, HasNoFewer, IsFewestLive, IsFewestOf, IsSought, NoTwoFit, NoneSought};
 
 use crate::choices_v2::{choose_most_garbage, index_pages};
-use crate::surveys::{ExtentUse, uses};
+use crate::surveys::{ExtentUse, survey_extents};
 use cs_core::Core;
 use cs_disk::PageDisk;
 use cs_extent::Extents;
@@ -23,7 +24,7 @@ pub struct Choice {
 /// By which rule a store's extents are chosen.
 #[derive(Clone, Copy, Debug, PartialEq, Eq)]
 pub enum SweepRule {
-    /// The extent with fewest live pages.
+    /// An extent with few live pages.
     FewestLive,
     /// The extent with most garbage: the rule of format 2.
     MostGarbage,
@@ -42,10 +43,10 @@ impl SweepRule {
     }
 }
 
-/// Chooses the extent to sweep. It returns None if no sweep gains anything.
+/// Chooses the extent to sweep. It returns None if no page is dead and no sweep is sure to gain anything.
 ///
-/// That is the extent of chunks with fewest live pages, if these and the live pages of another one fit on one extent
-/// (`fewest_live`). Two such sweeps free an extent: the first one or the second.
+/// That is the extent that `next_to_sweep` tells: one of two that fit on one, else one with dead pages, else one whose
+/// sweep is sure to gain an extent. So where none is chosen, no page of chunks is dead.
 ///
 /// In format 2 it is the extent with most garbage (`most_garbage`), if that is more than the index takes, which a
 /// sweep writes anew. So each sweep frees pages.
@@ -56,7 +57,7 @@ pub fn choose_sweep<D: PageDisk>(
     core: &mut Core<D>,
 ) -> Result<Option<Choice>, AllocError>
     // It goes by the extents as they are and the headers of their chunks as they were read.
-    ensures chosen { IfOk result (λ found. Chooses D.PageDisk core.old core.new (chosen_extent found)) }
+    ensures chosen { IfOk result (λ found. ChoosesSweep D.PageDisk core.old core.new (chosen_extent found)) }
     ensures reads { ReadsOn D.PageDisk core.old core.new }
 {
     let extents = core.extents();
@@ -64,18 +65,23 @@ pub fn choose_sweep<D: PageDisk>(
     let last = extents.last_copied();
     let pages = extents.extent_pages();
     let index_pages = index_pages(core.index(), extents);
-    let uses = uses(alloc, core)?;
+    let survey = survey_extents(alloc, core)?;
     match rule {
-        SweepRule::FewestLive => Ok(choose_fewest_live(&uses, last, pages)),
-        SweepRule::MostGarbage => Ok(choose_most_garbage(&uses, index_pages)),
+        SweepRule::FewestLive => Ok(choose_next(&survey.uses, last, pages, survey.greatest)),
+        SweepRule::MostGarbage => Ok(choose_most_garbage(&survey.uses, index_pages)),
     }
 }
 
-/// The extent with fewest live pages, if these and those of another one fit on one of so many pages.
-fn choose_fewest_live(uses: &[ExtentUse], last: Option<usize>, pages: usize) -> Option<Choice>
-    ensures { ChoosesApart uses.now last pages (chosen_extent result) }
+/// The extent that is to be swept next, of so many pages, where no chunk has more pages than the greatest.
+fn choose_next(
+    uses: &[ExtentUse],
+    last: Option<usize>,
+    pages: usize,
+    greatest: usize,
+) -> Option<Choice>
+    ensures { ChoosesNext uses.now last pages greatest (chosen_extent result) }
 {
-    let Some(extent) = fewest_live(uses, last, pages) else {
+    let Some(extent) = next_to_sweep(uses, last, pages, greatest) else {
         return None;
     };
     let dead = uses[extent].dead();
@@ -95,10 +101,10 @@ fn choose_fewest_live(uses: &[ExtentUse], last: Option<usize>, pages: usize) -> 
 pub fn fewest_live(uses: &[ExtentUse], last: Option<usize>, pages: usize) -> Option<usize>
     ensures { MatchOption result (NoTwoFit uses.now pages) (IsFewestLive uses.now last pages) }
 {
-    let Some(extent) = fewest_but(uses, last) else {
+    let Some(extent) = fewest_but(uses, last, 0) else {
         return None;
     };
-    let Some(other) = fewest_but(uses, Some(extent)) else {
+    let Some(other) = fewest_but(uses, Some(extent), 0) else {
         return None;
     };
     if fit_on_one(uses[extent].live, uses[other].live, pages) {
@@ -106,6 +112,79 @@ pub fn fewest_live(uses: &[ExtentUse], last: Option<usize>, pages: usize) -> Opt
     } else {
         None
     }
+}
+
+/// The extent to sweep next, so that puts find room up to the brim: each extent has so many pages, and no chunk more
+/// than the greatest.
+///
+/// If what lives on two extents fits on one, it is one of these (`fewest_live`). Else it is the extent with fewest live
+/// pages of those with dead pages, down to one dead page. Else nothing is dead, and it is the extent with fewest live
+/// pages, if all of these are sure to go to other extents that hold chunks. Else it returns None.
+///
+/// So where nothing is put or deleted meanwhile, there are at most as many sweeps as extents have dead pages, and two
+/// for each extent that is gained (the law `sweeps_by_the_rule_end` of law_room). It costs some passes over the extents.
+pub fn next_to_sweep(
+    uses: &[ExtentUse],
+    last: Option<usize>,
+    pages: usize,
+    greatest: usize,
+) -> Option<usize>
+    ensures { MatchOption result (NoneNext uses.now pages greatest) (IsNext uses.now last pages greatest) }
+{
+    match fewest_live(uses, last, pages) {
+        Some(extent) => Some(extent),
+        None => match fewest_but(uses, None, 1) {
+            Some(extent) => Some(extent),
+            None => sure_to_gain(uses, pages, greatest),
+        },
+    }
+}
+
+/// The extent with fewest live pages, if there are some and all of them are sure to go to others that hold chunks.
+fn sure_to_gain(uses: &[ExtentUse], pages: usize, greatest: usize) -> Option<usize>
+    ensures { MatchOption result (NoneSure uses.now pages greatest) (IsSureFewest uses.now pages greatest) }
+{
+    let Some(extent) = fewest_but(uses, None, 0) else {
+        return None;
+    };
+    let live = uses[extent].live;
+    if live == 0 {
+        return None;
+    }
+    if is_at_most(live, sure_beside(uses, extent, pages, greatest)) {
+        Some(extent)
+    } else {
+        None
+    }
+}
+
+/// Whether a number is at most a sum, for which `usize::MAX` stands if it is more.
+fn is_at_most(number: usize, capped: usize) -> bool
+    ensures { (sum : ℕ) → capped ≡ min sum (2 ^ 64 - 1) → MatchBool result (number ≤ sum) (sum < number) }
+{
+    number <= capped
+}
+
+/// How many pages of copies are sure to go to other extents while this one is swept. `usize::MAX` stands for more.
+fn sure_beside(uses: &[ExtentUse], swept: usize, pages: usize, greatest: usize) -> usize
+    ensures { result ≡ min (sum_below (sure_at uses.now pages greatest swept) (length uses.now)) (2 ^ 64 - 1) }
+{
+    let mut sure: usize = 0;
+    for extent in 0..uses.len() {
+        sure = sure.saturating_add(sure_in(uses, extent, swept, pages, greatest));
+    }
+    sure
+}
+
+/// How many of them are sure to go to one extent.
+fn sure_in(uses: &[ExtentUse], extent: usize, swept: usize, pages: usize, greatest: usize) -> usize
+    requires { extent < length uses.now }
+    ensures { result ≡ sure_at uses.now pages greatest swept extent }
+{
+    if extent == swept {
+        return 0;
+    }
+    uses[extent].sure_pages(pages, greatest)
 }
 
 /// Whether so many pages and so many fit on one extent.
@@ -118,31 +197,41 @@ fn fit_on_one(one: usize, other: usize, pages: usize) -> bool
     }
 }
 
-/// The first extent with fewest live pages, of those from which all may be moved, without this one.
-fn fewest_but(uses: &[ExtentUse], but: Option<usize>) -> Option<usize>
-    ensures { MatchOption result (NoOther uses.now but) (IsFewest uses.now but) }
+/// The first extent with fewest live pages, of those from which all may be moved and on which so many pages at least
+/// are dead, without this one.
+fn fewest_but(uses: &[ExtentUse], but: Option<usize>, dead: usize) -> Option<usize>
+    ensures { MatchOption result (NoneSought uses.now but dead) (IsFewestOf (IsSought uses.now but dead)) }
 {
     let mut found: Option<usize> = None;
     for extent in 0..uses.len() {
-        if is_fewer(uses, but, found, extent) {
+        if is_fewer(uses, but, dead, found, extent) {
             found = Some(extent);
         }
     }
     found
 }
 
-/// Whether an extent is another one than this, all may be moved from it, and it has fewer live pages than the one found
-/// so far, if there is one.
-fn is_fewer(uses: &[ExtentUse], but: Option<usize>, found: Option<usize>, extent: usize) -> bool
+/// Whether an extent is another one than this, all may be moved from it, so many pages at least are dead there, and it
+/// has fewer live pages than the one found so far, if there is one.
+fn is_fewer(
+    uses: &[ExtentUse],
+    but: Option<usize>,
+    dead: usize,
+    found: Option<usize>,
+    extent: usize,
+) -> bool
     requires extent { extent < length uses.now }
     requires found { (e : ℕ) → found ≡ Some e → e < length uses.now }
-    ensures { MatchBool result (HasFewer uses.now but found extent) (HasNoFewer uses.now but found extent) }
+    ensures { MatchBool result (HasFewer uses.now but dead found extent) (HasNoFewer uses.now but dead found extent) }
 {
     let used = uses[extent];
     if but == Some(extent) {
         return false;
     }
     if !used.is_movable() {
+        return false;
+    }
+    if used.dead() < dead {
         return false;
     }
     match found {

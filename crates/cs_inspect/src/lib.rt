@@ -9,7 +9,7 @@ mod listings;
 mod scrubs;
 mod surveys;
 
-pub use choices::{Choice, SweepRule, choose_sweep, fewest_live};
+pub use choices::{Choice, SweepRule, choose_sweep, fewest_live, next_to_sweep};
 pub use choices_v2::most_garbage;
 pub use cs_core as the_core;
 pub use figures::{Quota, RunUse, Stats};
@@ -17,4 +17,4 @@ pub use listings::{first_on, ids, ids_from, live_chunks};
 pub use scrubs::{
     Damage, Nobody, Progress, Scrubbed, damaged_shards_are_named, read_chunk, read_run, scrub,
 };
-pub use surveys::{ExtentUse, uses};
+pub use surveys::{ExtentUse, Survey, survey_extents, uses};

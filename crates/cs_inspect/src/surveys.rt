@@ -5,6 +5,7 @@ ghost use Rattle.cs_chunk.specs.Newest.{AreNewest};
 ghost use Rattle.cs_disk.specs.Disk.{Rises, seen};
 ghost use Rattle.cs_disk.specs.Reads.{OnlyReads};
 ghost use Rattle.cs_extent.specs.State.{extents_of, shape};
+ghost use Rattle.cs_inspect.specs.Brim.{AreSurveyed, greatest_in, sure_on};
 ghost use Rattle.cs_inspect.specs.Chunks.{BeginsInside, Chunk, chunk_of};
 ghost use Rattle.cs_inspect.specs.Uses.{AreBounded, AreCounted, AreCountedAsRead, AreExtents, AreRead, AreTallied, Head, HoldsOfHeads, IsReadAs, heads_of, pages_said, AreUses};
 ghost use Rattle.cs_inspect.specs.Fewest.{IsMovable};
@@ -51,6 +52,27 @@ impl ExtentUse {
         self.pointer.saturating_sub(self.live)
     }
 
+    /// How many pages of copies are sure to go there, if all that lives there may be moved, and no chunk has more pages
+    /// than the greatest: all that are left, but one fewer than the greatest has.
+    pub(crate) fn sure_pages(&self, pages: usize, greatest: usize) -> usize
+        ensures { result ≡ sure_on pages greatest self.now }
+    {
+        if self.holds_runs {
+            return 0;
+        }
+        if self.is_swept {
+            return 0;
+        }
+        if self.pointer == 0 {
+            return 0;
+        }
+        if self.unreadable == 0 {
+            let left = pages.saturating_sub(self.pointer);
+            return left.saturating_sub(greatest.saturating_sub(1));
+        }
+        0
+    }
+
     /// Whether all that lives there may be moved off it: chunks lie there, none has an unreadable header, and no sweep
     /// goes on there.
     pub(crate) fn is_movable(&self) -> bool
@@ -83,11 +105,40 @@ pub fn uses<D: PageDisk>(alloc: Global, core: &mut Core<D>) -> Result<Vec<Extent
     uses_with(alloc, core.extents(), &tally.live, &tally.unreadable)
 }
 
-/// What is counted of each extent.
+/// How each extent is used, and the greatest chunk of all.
+#[derive(Drop)]
+pub struct Survey {
+    /// The use of each extent, in their order.
+    pub uses: Vec<ExtentUse>,
+    /// How many pages the greatest live chunk has, by its header. Those that couldn't be read don't count.
+    pub greatest: usize,
+}
+
+/// The use of each extent, as `uses` gives it, and the greatest live chunk, by the same reads. It costs what `uses`
+/// costs.
+pub fn survey_extents<D: PageDisk>(alloc: Global, core: &mut Core<D>) -> Result<Survey, AllocError>
+    ensures extents { IfOk result (λ survey. AreExtents (shape core.old.store.extents).extents (extents_of core.old.store.extents) survey.uses.items) }
+    // Whatever reads failed, both are those of what was read.
+    ensures read { D.honest core.old.disk → HoldsOfHeads D.PageDisk core.old
+        (λ heads. IfOk result (λ survey. AreSurveyed (D.failure_count core.old.disk) (D.failure_count core.new.disk) heads survey.uses.items survey.greatest)) }
+    ensures same { core.new ≡ record core.old { disk = core.new.disk } }
+    ensures disk { OnlyReads D.PageDisk core.old.disk core.new.disk }
+{
+    let chunks = live_chunks(alloc, core.index())?;
+    let tally = tally_chunks(alloc, core, &chunks)?;
+    let uses = uses_with(alloc, core.extents(), &tally.live, &tally.unreadable)?;
+    Ok(Survey {
+        uses,
+        greatest: tally.greatest,
+    })
+}
+
+/// What is counted of each extent, and the greatest chunk of all.
 #[derive(Drop)]
 struct Tally {
     live: Vec<usize>,
     unreadable: Vec<usize>,
+    greatest: usize,
 }
 
 /// Counts chunks, each on the extent where it begins.
@@ -101,19 +152,26 @@ fn tally_chunks<D: PageDisk>(
     ensures unreadable { IfOk result (λ tally. length tally.unreadable.items ≡ (shape core.old.store.extents).extents) }
     ensures tallied { IfOk result (λ tally. (read : List Head) × AreTallied read tally.live.items tally.unreadable.items
         × (D.honest core.old.disk → (view : ℕ → List ℕ) → AreNewest core.old.store.graph (seen (D.state core.old.disk)) view
-        → AreRead (D.failure_count core.old.disk) (D.failure_count core.new.disk) (heads_of core.old.store.extents view (map chunk_of chunks.now)) read)) }
+        → AreRead (D.failure_count core.old.disk) (D.failure_count core.new.disk) (heads_of core.old.store.extents view (map chunk_of chunks.now)) read)
+        × (tally.greatest ≡ greatest_in read)) }
     ensures same { core.new ≡ record core.old { disk = core.new.disk } }
     ensures disk { OnlyReads D.PageDisk core.old.disk core.new.disk }
 {
     let extents = core.extents().extent_count();
     let mut live = vec![in alloc; 0; extents]?;
     let mut unreadable = vec![in alloc; 0; extents]?;
+    let mut greatest: usize = 0;
     for k in 0..chunks.len() {
         let place = chunks[k].place;
         let pages = pages_at(core, place)?;
         count(&mut live, &mut unreadable, usize::from(place.extent), pages);
+        greatest = greatest.max(pages.unwrap_or(0));
     }
-    Ok(Tally { live, unreadable })
+    Ok(Tally {
+        live,
+        unreadable,
+        greatest,
+    })
 }
 
 /// How many pages the chunk has that begins at a place, by its header. None if the header fails a test, or can't be

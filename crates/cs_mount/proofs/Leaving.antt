@@ -226,6 +226,21 @@ module _ {X : Type 0} (disks : PageDisk X) (v : View X) (core : IsCore disks v) 
         pub crossed_recovers_then : IsCrossed geometry e lives (disks.state mid) (disks.state new) → Recovered (seen (disks.state new))
         crossed_recovers_then crossed = subst (λ (z : State). Recovered (seen z)) (sym crossed.2) (crossing_recovers crossed.0 crossed.1)
 
+        -- a crash meanwhile
+        crossing_kept : (c : Image) → LeavesCrossing d e lives (disks.state mid) c → MayLeave s c ⊎ Recovered c
+        crossing_kept c (inl left) = inl (subst (MayLeave s) (sym (MayLeave-settled (flushed s) c refl (subst (λ (z : State). MayLeave z c) mid_is left))) (seen_MayLeave s))
+        crossing_kept c (inr crossed) =
+            let low = subst (λ (z : State). superblock_version (page (seen z) (row_page d e)) + 1 < 2 ^ 63) mid_is crossed.1.unworn in
+            ⊎_elim (λ (before : MayLeave s c). inl before)
+            (λ (is : c ≡ left_out_image d e lives (seen s)). inr (subst Recovered (sym is) (left_out_recovers d g twins (seen s) n m r e there lives low either whole)))
+            (crossing_left d e lives s (disks.state mid) c mid_is (inr crossed))
+
+        pub crossed_keeps : LeavesOnly disks.moment disks.left_since q mid (MayLeave (disks.state q)) → LeavesOnly disks.moment disks.left_since mid new (LeavesCrossing geometry e lives (disks.state mid))
+            → LeavesOnly disks.moment disks.left_since v.disk new (λ image. MayLeave s image ⊎ Recovered image)
+        crossed_keeps first more = leaves_on disks.moment disks.left_since v.disk mid new (MayLeave s) (LeavesCrossing geometry e lives (disks.state mid)) (λ image. MayLeave s image ⊎ Recovered image)
+            (subst (λ (z : X). LeavesOnly disks.moment disks.left_since z mid (MayLeave (disks.state z))) at first) more (λ c left. inl left)
+            (λ c left. crossing_kept c (subst (λ (z : Dimensions). LeavesCrossing z e lives (disks.state mid) c) same left))
+
         pub not_crossed_recovers : (disks.state new ≡ disks.state mid) ⊎ IsCrossing geometry e lives (disks.state mid) (disks.state new) → Recovered (seen (disks.state new))
         not_crossed_recovers (inl stays) = subst Recovered (sym (ap seen (stays ∙ mid_is))) r
         not_crossed_recovers (inr is) = crossing_recovers (disks.state new) is

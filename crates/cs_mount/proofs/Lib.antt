@@ -60,3 +60,8 @@ mod MadeRead
 mod MadeWhy
 mod MadeFound
 mod MadeListed
+pub mod Versioned
+pub mod Rising
+pub mod Taken
+pub mod TakenInTwo
+pub mod LeftOver

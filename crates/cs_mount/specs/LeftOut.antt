@@ -6,13 +6,15 @@ use Rattle.cs_disk.specs.Disk.{Image, MayLeave, State, flushed, page, seen, writ
 use Rattle.cs_frame.specs.Bytes.{number}
 use Rattle.cs_frame.specs.declared.formats.FormatNumber.TheVariants as of_number
 use Rattle.cs_frame.specs.declared.superblocks.Superblock.{Superblock}
+use Rattle.cs_frame.specs.Formats.{formats_of}
 use Rattle.cs_frame.specs.Geometries.{Dimensions, section_start}
 use Rattle.cs_frame.specs.Superblocks.{format_in, spelled_superblock, superblock_extents, superblock_record, superblock_version}
 use Rattle.law_machine.specs.Device.{Shape}
-use Rattle.law_machine.specs.Element.{Locator, Run}
+use Rattle.law_machine.specs.Element.{Locator, Map, Run}
 use Rattle.law_machine.specs.Formats.{Formats, damage_in}
 use Rattle.law_machine.specs.Index.{entries_of, live_at}
 use Rattle.law_machine.specs.Lists.{◌∈◌}
+use Rattle.law_machine.specs.Recovery.{Recovers}
 use Rattle.cs_mount.specs.Resectioned.{Lives}
 use Rattle.cs_mount.specs.Seals.{IsQuiet}
 use Rattle.cs_mount.specs.StorePairs.{store_shape}
@@ -91,3 +93,7 @@ pub record HasRowLeftOut (it : Superblock) (place : ℕ) (lives : Bool) (anew : 
 -- the page with which the section of an extent is written anew
 abbrev pub IsCrossingPage : Dimensions → (extent : ℕ) → (lives : Bool) → Image → List ℕ → Type 0
 IsCrossingPage d e lives image bytes = (superblock_version (page image (row_page d e)) + 1 < 2 ^ 63) × (bytes ≡ left_out_page lives (row_place d e) (page image (row_page d e)))
+
+-- an image that a crash before it may leave, or one that recovers these commands and this map
+abbrev pub LeavesTheMap : State → Shape → (n : ℕ) → Map → Image → Type 0
+LeavesTheMap s S n m image = MayLeave s image ⊎ Recovers S (formats_of S) (page image) n m

@@ -22,3 +22,4 @@ pub mod LeftOut
 pub mod MadeSections
 pub mod RemadeDisks
 pub mod Remaking
+pub mod Takes

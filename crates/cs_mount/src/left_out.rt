@@ -6,7 +6,7 @@ ghost use Rattle.cs_disk.specs.Disk.{LeavesOnly, MayLeave, Rises, flushed, page,
 ghost use Rattle.cs_disk.specs.Reads.{OnlyReads};
 ghost use Rattle.cs_frame.specs.Formats.{formats_of};
 ghost use Rattle.cs_frame.specs.Geometries.{Dimensions, IsGeometry};
-ghost use Rattle.cs_mount.specs.LeftOut.{HasRowLeftOut, IsAtRest, IsCrossed, IsCrossing, IsCrossingPage, IsLeftOut, IsRowWorn, LeavesCrossing, NothingOn, NoneDamagedOn, left_out_rows, row_page};
+ghost use Rattle.cs_mount.specs.LeftOut.{HasRowLeftOut, IsAtRest, IsCrossed, IsCrossing, IsCrossingPage, IsLeftOut, IsRowWorn, LeavesCrossing, LeavesTheMap, NothingOn, NoneDamagedOn, left_out_rows, row_page};
 ghost use Rattle.cs_mount.specs.Showing.{shown_on};
 ghost use Rattle.cs_mount.specs.StorePairs.{pages_of, section_version, store_shape};
 ghost use Rattle.cs_mount.specs.Torn.{dimensions_of};
@@ -70,6 +70,10 @@ pub fn leave_out<D: PageDisk + Drop>(
     ensures crash { D.honest (disk_below core.disk) → (n : ℕ) (m : Map) (found : Recovers (shape core.store.extents) (formats_of (shape core.store.extents)) (page (seen (state_shown core.disk))) n m) → MatchResult result
         (λ disk. LeavesOnly moment_of left_as_shown core.disk disk (λ image. MayLeave (state_shown core.disk) image ⊎ IsLeftOut (dimensions_of core.store.extents) extent found.runs (seen (state_shown core.disk)) image))
         (λ refused. LeavesOnly moment_of left_as_shown core.disk refused.1 (λ image. MayLeave (state_shown core.disk) image ⊎ IsLeftOut (dimensions_of core.store.extents) extent found.runs (seen (state_shown core.disk)) image)) }
+    // So what a crash leaves recovers the same commands and the same map too.
+    ensures keeps { D.honest (disk_below core.disk) → (n : ℕ) (m : Map) (found : Recovers (shape core.store.extents) (formats_of (shape core.store.extents)) (page (seen (state_shown core.disk))) n m)
+        → NoneDamagedOn (shape core.store.extents) (formats_of (shape core.store.extents)) (seen (state_shown core.disk)) found.runs found.pointers found.generations extent
+        → MatchResult result (λ disk. LeavesOnly moment_of left_as_shown core.disk disk (LeavesTheMap (state_shown core.disk) (shape core.store.extents) n m)) (λ refused. LeavesOnly moment_of left_as_shown core.disk refused.1 (LeavesTheMap (state_shown core.disk) (shape core.store.extents) n m)) }
     // One write and two flushes.
     ensures calls { D.honest (disk_below core.disk) → twins_in core.store.extents.format ≡ true → MatchResult result (λ disk. moment_of disk ≡ moment_of core.disk + 3) (λ refused. moment_of refused.1 ≤ moment_of core.disk + 3) }
     // If what shows recovers something it is refused for no other reason.

@@ -25,6 +25,7 @@ mod section_pages;
 mod section_rows;
 mod store_pairs;
 mod unreadable;
+mod write_laws;
 
 pub use as_of::AsOf;
 pub use chosen::Chosen;
@@ -57,3 +58,6 @@ pub use store_pairs::{
     StoreRules, find_geometry, find_last, holds_superblock, open_pairs, pairs_of_store,
 };
 pub use unreadable::unreadable_halves;
+pub use write_laws::{
+    a_core_lies_in_its_pairs, a_core_writes_what_its_pairs_take, undamaged_halves_are_fenced,
+};

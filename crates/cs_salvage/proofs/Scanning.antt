@@ -1,16 +1,22 @@
--- The greatest number among parts, one page more.
-use Rattle.std.proofs.Common.{◌≡◌, ◌∙◌, ◌⊎◌, ℕ, ◌+◌, ◌<◌, ◌≤◌, Bool, List, true, false, refl, sym, ap, subst, inl, inr, ⊎_elim, arith}
-use Rattle.std.specs.Prelude.{max, not}
+-- The greatest number among parts, a part or a stretch of pages more.
+use Rattle.std.proofs.Common.{◌≡◌, ◌∙◌, ◌⊎◌, ℕ, ◌+◌, ◌<◌, ◌≤◌, All, IfSome, List, Option, Some, None, [], ◌++◌, true, get_or, length, refl, sym, subst, inl, inr, ⊎_elim, arith}
+use Rattle.std.specs.List.{Contains}
+use Rattle.std.specs.Prelude.{max}
 use Rattle.std.proofs.lemmas.Bool.{cases_lt}
+use Rattle.std.proofs.lemmas.List.Elements.{All-contains, All-nil, Contains-append_cases, Contains-append_left, Contains-get_or}
 use Rattle.cs_disk.specs.Disk.{Image}
-use Rattle.cs_frame.specs.Geometries.{IsGeometry}
+use Rattle.cs_frame.specs.Geometries.{Dimensions}
 use Rattle.cs_salvage.specs.declared.parts.Part.{Part}
+use Rattle.cs_salvage.specs.declared.scans.Counted.{Counted}
 use Rattle.cs_salvage.specs.declared.scans.Scanned.{Scanned}
 use Rattle.cs_salvage.specs.declared.searches.Sought.{Sought}
 use Rattle.cs_salvage.specs.Frames.{IsOfFrame}
-use Rattle.cs_salvage.specs.Greatest.{IsGreatestOn, IsOfAFrame, IsOfAPart, IsScanOf, IsScanUpTo, IsScannedTo, IsWithinAPart}
-use Rattle.cs_salvage.specs.Parts.{IsPart, IsSought, NoPartAt}
-use Rattle.cs_salvage.proofs.Sames.{same_part}
+use Rattle.cs_salvage.specs.Greatest.{BeginsWithin, IsGreatestBefore, IsGreatestOf, IsOfAFrame, IsPartBefore, IsScanOf}
+use Rattle.cs_salvage.specs.Looks.{AreApart, AreEnded, AreFoundBefore, look_end}
+use Rattle.cs_salvage.specs.Parts.{AreSought, IsPart, IsSought}
+use Rattle.cs_salvage.specs.Passed.{Avoids, first_page_of, without}
+use Rattle.cs_salvage.proofs.Pages.{before_end, found_there, lies_there}
+use Rattle.cs_salvage.proofs.Sames.{at_any}
 
 -- ---- the greater of two numbers
 
@@ -20,125 +26,220 @@ which_max a b m is = ⊎_elim
     (λ (le : b ≤ a). inl (omega (arith, is, le)))
     (cases_lt a b)
 
-pub frame_more : (sought : Sought) (a m : ℕ) (part : Part) → m ≡ max a part.head.command → IsOfFrame part → IsSought sought part.store → IsOfAFrame sought a → IsOfAFrame sought m
-frame_more sought a m part is spelled taken was = ⊎_elim
-    (λ (old : m ≡ a). subst (IsOfAFrame sought) (sym old) was)
-    (λ (new : m ≡ part.head.command). inr (part, spelled, taken, sym new))
-    (which_max a part.head.command m is)
+-- ---- parts, one after another
 
-module _ (sought : Sought) (image : Image) (e i a end : ℕ) (was : IsScannedTo sought image e i a end) where
-  -- at the first pages, or at the next one
-  before : (p : ℕ) → p < i + 1 → (p < i) ⊎ (p ≡ i)
-  before p less = ⊎_elim (λ (l : p < i). inl l) (λ (le : i ≤ p). inr (omega (arith, le, less))) (cases_lt p i)
+-- So many of the parts were counted.
+pub record AreCountedTo (parts : List Part) (k : ℕ) (counted : Counted) : Type 0 where
+  pub sound : (counted.greatest ≡ 0) ⊎ ((part : Part) × Contains parts part × (part.head.command ≡ counted.greatest))
+  pub last : IfSome counted.last (Contains parts)
+  pub greatest : (j : ℕ) (d : Part) → j < k → j < length parts → ((get_or parts j d).head.command ≤ counted.greatest) ⊎ ((outer : Part) × Contains parts outer × BeginsWithin outer (get_or parts j d))
 
-  fewer : (page : ℕ) → i + 1 ≤ page → page < end → IsWithinAPart sought image e page
-  fewer page le lt = was.within page (omega (arith, le)) lt
+pub none_counted : (parts : List Part) (counted : Counted) → counted.greatest ≡ 0 → counted.last ≡ None → AreCountedTo parts 0 counted
+none_counted parts counted zero none = record {
+  sound = inl zero;
+  last = subst (λ (last : Option Part). IfSome last (Contains parts)) (sym none) tt;
+  greatest = λ j d lt inside. absurd (omega (arith, lt));
+}
 
-  -- the page lies within a part
-  pub within_more : i < end → IsScannedTo sought image e (i + 1) a end
-  within_more inside = record {
-    sound = was.sound;
-    greatest = λ part payload is here less. ⊎_elim
-        (λ (l : part.page < i). was.greatest part payload is here l)
-        (λ (same : part.page ≡ i). inr (was.within part.page (omega (arith, same)) (omega (arith, same, inside))))
-        (before part.page less);
-    within = fewer;
-  }
+-- and one more
+module _ (parts : List Part) (k : ℕ) (inside : k < length parts) (part : Part) (at : part ≡ get_or parts k part) (old new : Counted) (was : AreCountedTo parts k old)
+    (sound : (new.greatest ≡ old.greatest) ⊎ (new.greatest ≡ part.head.command)) (last : (new.last ≡ old.last) ⊎ (new.last ≡ Some part)) (before : old.greatest ≤ new.greatest)
+    (counts : (part.head.command ≤ new.greatest) ⊎ ((outer : Part) × (old.last ≡ Some outer) × BeginsWithin outer part)) where
+  there : Contains parts part
+  there = subst (Contains parts) (sym at) (Contains-get_or parts k part inside)
 
-  -- no part begins there
-  pub none_scanned : NoPartAt sought image e i → IsScannedTo sought image e (i + 1) a end
-  none_scanned none = record {
-    sound = was.sound;
-    greatest = λ part payload is here less. ⊎_elim
-        (λ (l : part.page < i). was.greatest part payload is here l)
-        (λ (same : part.page ≡ i). absurd (none part payload here same is))
-        (before part.page less);
-    within = fewer;
-  }
+  here : (d : Part) → get_or parts k d ≡ part
+  here d = at_any parts k inside d part ∙ sym at
 
-  -- one does
-  pub one_scanned : IsGeometry sought.geometry.format sought.geometry.extents sought.geometry.pages sought.geometry.sections → (new : Part) (bytes : List ℕ) → IsPart sought image new bytes → new.extent ≡ e → new.page ≡ i
-      → (m last : ℕ) → m ≡ max a new.head.command → last ≤ i + new.pages → IsScannedTo sought image e (i + 1) m last
-  one_scanned known new bytes is extent page m last greater ends = record {
+  outer_of : ((outer : Part) × (old.last ≡ Some outer) × BeginsWithin outer part) → (outer : Part) × Contains parts outer × BeginsWithin outer part
+  outer_of it = (it.0, subst (λ (l : Option Part). IfSome l (Contains parts)) it.1 was.last, it.2)
+
+  raised : (other : Part) → (other.head.command ≤ old.greatest) ⊎ ((outer : Part) × Contains parts outer × BeginsWithin outer other) → (other.head.command ≤ new.greatest) ⊎ ((outer : Part) × Contains parts outer × BeginsWithin outer other)
+  raised other (inl few) = inl (omega (arith, few, before))
+  raised other (inr inner) = inr inner
+
+  counted_here : (part.head.command ≤ new.greatest) ⊎ ((outer : Part) × (old.last ≡ Some outer) × BeginsWithin outer part) → (part.head.command ≤ new.greatest) ⊎ ((outer : Part) × Contains parts outer × BeginsWithin outer part)
+  counted_here (inl few) = inl few
+  counted_here (inr inner) = inr (outer_of inner)
+
+  sound_on : (old.greatest ≡ 0) ⊎ ((other : Part) × Contains parts other × (other.head.command ≡ old.greatest)) → (new.greatest ≡ old.greatest) → (new.greatest ≡ 0) ⊎ ((other : Part) × Contains parts other × (other.head.command ≡ new.greatest))
+  sound_on (inl zero) same = inl (same ∙ zero)
+  sound_on (inr it) same = inr (it.0, it.1, it.2 ∙ sym same)
+
+  pub one_counted : AreCountedTo parts (k + 1) new
+  one_counted = record {
     sound = ⊎_elim
-        (λ (old : m ≡ a). subst (IsOfAPart sought image e) (sym old) was.sound)
-        (λ (fresh : m ≡ new.head.command). inr (new, bytes, is, extent, sym fresh))
-        (which_max a new.head.command m greater);
-    greatest = λ part payload it here less. ⊎_elim
-        (λ (l : part.page < i). ⊎_elim
-        (λ (le : part.head.command ≤ a). inl (omega (arith, le, greater)))
-        (λ (inner : IsWithinAPart sought image e part.page). inr inner)
-        (was.greatest part payload it here l))
-        (λ (same : part.page ≡ i).
-        let one : new ≡ part = same_part sought image known new part (extent ∙ sym here) (page ∙ sym same) bytes payload is it in
-        let number : new.head.command ≡ part.head.command = ap (λ (p : Part). p.head.command) one in
-        inl (omega (arith, number, greater)))
-        (before part.page less);
-    within = λ p le lt. (new, bytes, is, extent, omega (arith, page, le), omega (arith, page, lt, ends));
+        (λ (same : new.greatest ≡ old.greatest). sound_on was.sound same)
+        (λ (fresh : new.greatest ≡ part.head.command). inr (part, there, sym fresh))
+        sound;
+    last = ⊎_elim
+        (λ (same : new.last ≡ old.last). subst (λ (l : Option Part). IfSome l (Contains parts)) (sym same) was.last)
+        (λ (fresh : new.last ≡ Some part). subst (λ (l : Option Part). IfSome l (Contains parts)) (sym fresh) there)
+        last;
+    greatest = λ j d lt inner. ⊎_elim
+        (λ (l : j < k). raised (get_or parts j d) (was.greatest j d l inner))
+        (λ (le : k ≤ j).
+        let same : k ≡ j = omega (arith, le, lt) in
+        subst (λ (i : ℕ). ((get_or parts i d).head.command ≤ new.greatest) ⊎ ((outer : Part) × Contains parts outer × BeginsWithin outer (get_or parts i d))) same
+        (subst (λ (p : Part). (p.head.command ≤ new.greatest) ⊎ ((outer : Part) × Contains parts outer × BeginsWithin outer p)) (sym (here d)) (counted_here counts)))
+        (cases_lt j k);
   }
+
+pub all_counted : (parts : List Part) (k : ℕ) (counted : Counted) → length parts ≤ k → AreCountedTo parts k counted → IsGreatestOf parts counted.greatest
+all_counted parts k counted ends was = record {
+  sound = was.sound;
+  greatest = λ part there. subst (λ (p : Part). (p.head.command ≤ counted.greatest) ⊎ ((outer : Part) × Contains parts outer × BeginsWithin outer p)) there.2
+      (was.greatest there.0 part (omega (arith, there.1, ends)) there.1);
+}
+
+-- ---- stretches, one after another
 
 -- before the first page
-pub nothing_scanned : (sought : Sought) (image : Image) (e : ℕ) → IsScannedTo sought image e 0 0 0
-nothing_scanned sought image e = record {
+pub nothing_scanned : (sought : Sought) (image : Image) (n : ℕ) → n ≡ 2 → IsGreatestBefore sought image n [] 0
+nothing_scanned sought image n is = record {
   sound = inl refl;
-  greatest = λ part payload is here less. absurd (omega (arith, less));
-  within = λ page le lt. absurd (omega (arith, lt));
+  greatest = λ part payload it before avoids. absurd (omega (arith, before, is));
 }
 
--- after the last page
-pub all_scanned : (sought : Sought) (image : Image) (e n end : ℕ) → IsScannedTo sought image e sought.geometry.pages n end → IsGreatestOn sought image e n
-all_scanned sought image e n end was = record {
-  sound = was.sound;
-  greatest = λ part payload is here. was.greatest part payload is here (omega (arith, is.chunk.ends));
+-- what begins on a page and before it
+pub none_here : (sought : Sought) (image : Image) (n : ℕ) (passed : List ℕ) → AreFoundBefore sought image n n passed []
+none_here sought image n passed = record {
+  sound = λ part there. absurd (omega (arith, there.1));
+  complete = λ part payload it from before avoids. absurd (omega (arith, from, before));
+  ordered = λ i j d less lt. absurd (omega (arith, lt));
 }
 
--- ---- extents, one after another
-
--- before the first extent
-pub no_extent_scanned : (sought : Sought) (image : Image) → IsScanUpTo sought image 0 (record { greatest = 0; is_whole = true })
-no_extent_scanned sought image = record {
-  sound = (0, inl refl);
-  greatest = λ whole part payload is less. absurd (omega (arith, less));
+-- the pages that were passed over, without the parts
+pub only_passed : (g : Dimensions) (first count end : ℕ) (passed : List ℕ) (parts : List Part) → AreApart g first count end passed parts → AreApart g first count end passed []
+only_passed g first count end passed parts are = record {
+  passed_are = are.passed_are;
+  before = are.before;
+  ended = λ k d lt. absurd (omega (arith, lt));
+  avoid = λ k d lt. absurd (omega (arith, lt));
 }
 
--- an extent that is
-pub extent_scanned : (sought : Sought) (image : Image) (e : ℕ) (scanned : Scanned) → scanned.is_whole ≡ true → IsScanUpTo sought image e scanned → (n m : ℕ) → IsGreatestOn sought image e n → m ≡ max scanned.greatest n
-    → IsScanUpTo sought image (e + 1) (record { greatest = m; is_whole = true })
-extent_scanned sought image e scanned whole was n m on greater = record {
-  sound = ⊎_elim
-      (λ (old : m ≡ scanned.greatest). (was.sound.0, subst (IsOfAPart sought image was.sound.0) (sym old) was.sound.1))
-      (λ (new : m ≡ n). (e, subst (IsOfAPart sought image e) (sym new) on.sound))
-      (which_max scanned.greatest n m greater);
-  greatest = λ all part payload is less. ⊎_elim
-      (λ (l : part.extent < e). raised scanned.greatest m part (omega (arith, greater)) (was.greatest whole part payload is l))
-      (λ (le : e ≤ part.extent).
-      let here : part.extent ≡ e = omega (arith, le, less) in
-      subst (λ (x : ℕ). (part.head.command ≤ m) ⊎ IsWithinAPart sought image x part.page) (sym here) (raised_on n m part (omega (arith, greater)) (on.greatest part payload is here)))
-      (cases_lt part.extent e);
-}
-  where
-    raised : (a b : ℕ) (part : Part) → a ≤ b → (part.head.command ≤ a) ⊎ IsWithinAPart sought image part.extent part.page → (part.head.command ≤ b) ⊎ IsWithinAPart sought image part.extent part.page
-    raised a b part le (inl few) = inl (omega (arith, le, few))
-    raised a b part le (inr inner) = inr inner
+module _ (sought : Sought) (image : Image) (n next : ℕ) (passed rest : List ℕ) (on : n ≤ next) (later : All (λ (p : ℕ). n ≤ p) rest) where
+  before_later : (part : Part) (payload : List ℕ) → IsPartBefore sought image n passed part payload → IsPartBefore sought image next (passed ++ rest) part payload
+  before_later part payload was = record {
+    is = was.is;
+    ends = let ends = was.ends in omega (arith, ends, on);
+    avoids = λ p there. ⊎_elim
+        (λ (old : Contains passed p). was.avoids p old)
+        (λ (new : Contains rest p). let le = All-contains (λ (q : ℕ). n ≤ q) rest p later new in let ends = was.ends in inr (omega (arith, le, ends)))
+        (Contains-append_cases passed rest p there);
+  }
 
-    raised_on : (a b : ℕ) (part : Part) → a ≤ b → (part.head.command ≤ a) ⊎ IsWithinAPart sought image e part.page → (part.head.command ≤ b) ⊎ IsWithinAPart sought image e part.page
-    raised_on a b part le (inl few) = inl (omega (arith, le, few))
-    raised_on a b part le (inr inner) = inr inner
+  module _ (a b m : ℕ) (parts : List Part) (was : IsGreatestBefore sought image n passed a) (are : AreFoundBefore sought image n next (passed ++ rest) parts)
+      (ended : AreEnded sought.geometry next parts) (avoid : All (Avoids sought.geometry (passed ++ rest)) parts) (of : IsGreatestOf parts b) (greater : m ≡ max a b) where
+    -- a part that was found
+    found : (part : Part) → Contains parts part → (payload : List ℕ) × IsPartBefore sought image next (passed ++ rest) part payload
+    found part there =
+        let it = are.sound part there in (
+          it.2.0,
+          record {
+            is = it.2.1;
+            ends = All-contains (λ (p : Part). first_page_of sought.geometry p + p.pages ≤ next) parts part ended there;
+            avoids = All-contains (Avoids sought.geometry (passed ++ rest)) parts part avoid there;
+          },
+        )
 
--- after the last extent
-pub whole_scan : (sought : Sought) (image : Image) (scanned : Scanned) → IsScanUpTo sought image sought.geometry.extents scanned → IsScanOf sought image scanned
-whole_scan sought image scanned was = record {
-  sound = was.sound;
-  greatest = λ whole part payload is. was.greatest whole part payload is is.chunk.there;
-}
+    abbrev OneOf : ℕ → ℕ → List ℕ → Type 0
+    OneOf number end skipped = (number ≡ 0) ⊎ ((part : Part) × (payload : List ℕ) × IsPartBefore sought image end skipped part payload × (part.head.command ≡ number))
 
-pub not_not : (b : Bool) → not b ≡ false → b ≡ true
-not_not true is = refl
-not_not false is = let clash : true ≡ false = is in absurd (cc clash)
+    abbrev LiesWithin : ℕ → List ℕ → Part → Type 0
+    LiesWithin end skipped part = (outer : Part) × (bytes : List ℕ) × IsPartBefore sought image end skipped outer bytes × BeginsWithin outer part
 
--- no number is made up
-pub frames_more : (sought : Sought) (a n m : ℕ) → m ≡ max a n → IsOfAFrame sought a → IsOfAFrame sought n → IsOfAFrame sought m
-frames_more sought a n m greater was on = ⊎_elim
+    old_one : m ≡ a → OneOf a n passed → OneOf m next (passed ++ rest)
+    old_one same (inl zero) = inl (same ∙ zero)
+    old_one same (inr it) = inr (it.0, it.1, before_later it.0 it.1 it.2, it.3 ∙ sym same)
+
+    new_one : m ≡ b → (b ≡ 0) ⊎ ((part : Part) × Contains parts part × (part.head.command ≡ b)) → OneOf m next (passed ++ rest)
+    new_one same (inl zero) = inl (same ∙ zero)
+    new_one same (inr it) = let part = found it.0 it.1 in inr (it.0, part.0, part.1, it.2 ∙ sym same)
+
+    old_rest : (part : Part) → (part.head.command ≤ a) ⊎ LiesWithin n passed part → (part.head.command ≤ m) ⊎ LiesWithin next (passed ++ rest) part
+    old_rest part (inl few) = inl (omega (arith, few, greater))
+    old_rest part (inr it) = inr (it.0, it.1, before_later it.0 it.1 it.2, it.3)
+
+    new_rest : (part : Part) → (part.head.command ≤ b) ⊎ ((outer : Part) × Contains parts outer × BeginsWithin outer part) → (part.head.command ≤ m) ⊎ LiesWithin next (passed ++ rest) part
+    new_rest part (inl few) = inl (omega (arith, few, greater))
+    new_rest part (inr it) = let outer = found it.0 it.1 in inr (it.0, outer.0, outer.1, it.2)
+
+    pub stretch_scanned : IsGreatestBefore sought image next (passed ++ rest) m
+    stretch_scanned = record {
+      sound = ⊎_elim
+          (λ (old : m ≡ a). old_one old was.sound)
+          (λ (new : m ≡ b). new_one new of.sound)
+          (which_max a b m greater);
+      greatest = λ part payload is before avoids. ⊎_elim
+          (λ (l : first_page_of sought.geometry part < n). old_rest part (was.greatest part payload is l (λ p there. avoids p (Contains-append_left passed rest p there))))
+          (λ (le : n ≤ first_page_of sought.geometry part). new_rest part (of.greatest part (are.complete part payload is le before avoids)))
+          (cases_lt (first_page_of sought.geometry part) n);
+    }
+
+-- ---- no number is made up
+
+pub frames_more : (sought : Sought) (parts : List Part) (a b m : ℕ) → All IsOfFrame parts → AreSought sought parts → IsGreatestOf parts b → m ≡ max a b → IsOfAFrame sought a → IsOfAFrame sought m
+frames_more sought parts a b m spelled taken of greater was = ⊎_elim
     (λ (old : m ≡ a). subst (IsOfAFrame sought) (sym old) was)
-    (λ (new : m ≡ n). subst (IsOfAFrame sought) (sym new) on)
-    (which_max a n m greater)
+    (λ (new : m ≡ b). subst (IsOfAFrame sought) (sym new) (one of.sound))
+    (which_max a b m greater)
+  where
+    one : (b ≡ 0) ⊎ ((part : Part) × Contains parts part × (part.head.command ≡ b)) → IsOfAFrame sought b
+    one (inl zero) = inl zero
+    one (inr it) = inr (it.0, All-contains IsOfFrame parts it.0 spelled it.1, All-contains (λ (part : Part). IsSought sought part.store) parts it.0 taken it.1, it.2)
+
+-- ---- a stretch more, by what is said of its pages where they are read: no part was found before them
+module _ (sought : Sought) (image : Image) (n next count : ℕ) (passed now : List ℕ) (none parts items : List Part) (fresh : none ≡ []) where
+  pub still_apart : (AreApart sought.geometry 0 count n passed none → AreApart sought.geometry 0 count next now parts) → AreApart sought.geometry 0 count n passed [] → AreApart sought.geometry 0 count next now parts
+  still_apart step was = step (subst (AreApart sought.geometry 0 count n passed) (sym fresh) was)
+
+  pub more_scanned : (a b m : ℕ) → items ≡ parts → IsGreatestOf items b → m ≡ max a b → n < next → (rest : List ℕ) × (now ≡ passed ++ rest) × All (λ (p : ℕ). n ≤ p) rest
+      → (AreFoundBefore sought image n n passed none → AreFoundBefore sought image n next now parts) → AreApart sought.geometry 0 count next now parts
+      → IsGreatestBefore sought image n passed a → IsGreatestBefore sought image next now m
+  more_scanned a b m value of greater on more step apart was =
+      let are = step (subst (AreFoundBefore sought image n n passed) (sym fresh) (none_here sought image n passed)) in
+      subst (λ (us : List ℕ). IsGreatestBefore sought image next us m) (sym more.1)
+      (stretch_scanned sought image n next passed more.0 (omega (arith, on)) more.2 a b m parts was (subst (λ (us : List ℕ). AreFoundBefore sought image n next us parts) more.1 are)
+      apart.ended (subst (λ (us : List ℕ). All (Avoids sought.geometry us) parts) more.1 apart.avoid) (subst (λ (ps : List Part). IsGreatestOf ps b) value of) greater)
+
+  pub still_frames : (a b m : ℕ) → items ≡ parts → IsGreatestOf items b → m ≡ max a b → (All IsOfFrame none → All IsOfFrame parts) → (AreSought sought none → AreSought sought parts) → IsOfAFrame sought a → IsOfAFrame sought m
+  still_frames a b m value of greater spelled taken was =
+      frames_more sought parts a b m (spelled (subst (All IsOfFrame) (sym fresh) (All-nil IsOfFrame))) (taken (subst (AreSought sought) (sym fresh) (All-nil (λ (part : Part). IsSought sought part.store))))
+      (subst (λ (ps : List Part). IsGreatestOf ps b) value of) greater was
+
+-- ---- after the last page, or before it
+
+module _ (sought : Sought) (image : Image) (n count : ℕ) (passed : List ℕ) (scanned : Scanned) (sized : count ≡ length image) (was : IsGreatestBefore sought image n passed scanned.greatest) where
+  left_there : (part : Part) (payload : List ℕ) → IsPartBefore sought image n passed part payload → IsPart sought (without passed image) part payload
+  left_there part payload it = found_there sought image 0 passed part payload it.is (omega arith) it.avoids
+
+  abbrev LeftWithin : Part → Type 0
+  LeftWithin part = (outer : Part) × (bytes : List ℕ) × IsPart sought (without passed image) outer bytes × BeginsWithin outer part
+
+  number_of_one : (scanned.greatest ≡ 0) ⊎ ((part : Part) × (payload : List ℕ) × IsPartBefore sought image n passed part payload × (part.head.command ≡ scanned.greatest))
+      → (scanned.greatest ≡ 0) ⊎ ((part : Part) × (payload : List ℕ) × IsPart sought (without passed image) part payload × (part.head.command ≡ scanned.greatest))
+  number_of_one (inl zero) = inl zero
+  number_of_one (inr it) = inr (it.0, it.1, left_there it.0 it.1 it.2, it.3)
+
+  within_left : (part : Part) → (part.head.command ≤ scanned.greatest) ⊎ ((outer : Part) × (bytes : List ℕ) × IsPartBefore sought image n passed outer bytes × BeginsWithin outer part)
+      → (part.head.command ≤ scanned.greatest) ⊎ LeftWithin part
+  within_left part (inl few) = inl few
+  within_left part (inr it) = inr (it.0, it.1, left_there it.0 it.1 it.2, it.3)
+
+  pub scan_of : (scanned.is_whole ≡ true → look_end sought.geometry count ≤ n) → IsScanOf sought (without passed image) scanned
+  scan_of ends = record {
+    sound = number_of_one was.sound;
+    greatest = λ whole part payload is.
+        let it = lies_there sought image 0 passed part payload is in
+        let end = ends whole in
+        let begins = before_end sought image part payload it.0 in
+        within_left part (was.greatest part payload it.0 (omega (arith, begins, end, sized)) it.2);
+  }
+
+-- a format that has no heads has no parts
+pub none_scanned : (sought : Sought) (image : Image) (scanned : Scanned) → scanned.greatest ≡ 0 → ((part : Part) (payload : List ℕ) → IsPart sought image part payload → ⊥) → IsScanOf sought image scanned
+none_scanned sought image scanned zero none = record {
+  sound = inl zero;
+  greatest = λ whole part payload is. absurd (none part payload is);
+}

@@ -1,5 +1,5 @@
 //! Scans of a device for the parts on it, which pass over what can't be read.
-ghost use Rattle.std.specs.Prelude.{◌*◌, ◌+◌, ◌-◌, ◌<◌, ◌^◌, ◌≡◌, ◌≤◌, All, IfOk, IfSome, List, MatchBool, None, OnOk, [], length, true, ℕ};
+ghost use Rattle.std.specs.Prelude.{◌*◌, ◌+◌, ◌++◌, ◌-◌, ◌<◌, ◌^◌, ◌≡◌, ◌≤◌, All, IfOk, IfSome, List, MatchBool, None, OnOk, [], length, true, ℕ};
 ghost use Rattle.cs_disk.specs.Disk.{Image, page as device_page, seen};
 ghost use Rattle.cs_disk.specs.Reads.{OnlyReads};
 ghost use Rattle.cs_frame.specs.Geometries.{IsGeometry};
@@ -115,7 +115,7 @@ fn place_at(geometry: Geometry, number: u64) -> Place
 }
 
 /// The page before which a scan ends, on a device of so many pages.
-fn end_of_scan(geometry: Geometry, count: u64) -> u64
+pub fn end_of_scan(geometry: Geometry, count: u64) -> u64
     ensures { result ≡ look_end geometry count }
 {
     let pages = u64::from(geometry.extents()) * u64::from(geometry.pages());
@@ -189,7 +189,7 @@ fn add_parts_in(
 
 /// Adds the parts that begin on the pages from one on, up to the end of its extent or of the device, or up to a page
 /// that can't be read, which is named. Returns the page after them.
-fn scan_stretch<D: PageDisk>(
+pub fn scan_stretch<D: PageDisk>(
     alloc: Global,
     disk: &mut D,
     sought: &Sought,
@@ -205,6 +205,7 @@ fn scan_stretch<D: PageDisk>(
         → IfOk result (λ next. AreFoundBefore sought.now (seen (D.state disk.old)) first next finds.new.unreadable.items finds.new.parts.items) }
     ensures apart { (first : ℕ) → first ≤ number → AreApart sought.now.geometry first (D.page_count disk.old) number finds.old.unreadable.items finds.old.parts.items
         → IfOk result (λ next. AreApart sought.now.geometry first (D.page_count disk.old) next finds.new.unreadable.items finds.new.parts.items) }
+    ensures more { IfOk result (λ _. (rest : List ℕ) × (finds.new.unreadable.items ≡ finds.old.unreadable.items ++ rest) × All (λ p. number ≤ p) rest) }
     ensures spelled { All IsOfFrame finds.old.parts.items → IfOk result (λ _. All IsOfFrame finds.new.parts.items) }
     ensures taken { AreSought sought.now finds.old.parts.items → IfOk result (λ _. AreSought sought.now finds.new.parts.items) }
     ensures cause { (before : ℕ) → RisesBy (length finds.old.unreadable.items) before (D.failure_count disk.old)

@@ -1,13 +1,18 @@
-//! Scans of a device for the greatest number of a command, which take time and can be cut short.
-ghost use Rattle.std.specs.Prelude.{◌*◌, ◌+◌, ◌<◌, ◌≤◌, IfOk};
-ghost use Rattle.cs_disk.specs.Disk.{HasCause, seen};
+//! Scans of a device for the greatest number of a command, which pass over what can't be read and can be cut short.
+ghost use Rattle.std.specs.Prelude.{◌≡◌, ◌⊎◌, ◌<◌, ◌≤◌, IfOk, MatchBool, Some, [], length, true, ℕ};
+ghost use Rattle.cs_disk.specs.Disk.{seen};
 ghost use Rattle.cs_disk.specs.Reads.{OnlyReads};
-ghost use Rattle.cs_salvage.specs.Greatest.{IsGreatestOn, IsOfAFrame, IsScanOf, IsScanUpTo, IsScannedTo};
+ghost use Rattle.cs_salvage.specs.Greatest.{BeginsWithin, IsGreatestBefore, IsGreatestOf, IsOfAFrame, IsScanOf};
+ghost use Rattle.cs_salvage.specs.Looks.{AreApart, look_end};
+ghost use Rattle.cs_salvage.specs.Passed.{ArePassed, RisesBy, without};
+ghost use Rattle.cs_salvage.specs.declared.parts.Part.{Part};
+ghost use Rattle.law_machine.specs.Geometry.{heads_in};
 
-use crate::parts::part_at;
+use crate::finds::{Finds, end_of_scan, scan_stretch};
+use crate::parts::Part;
 use crate::searches::Sought;
-use cs_disk::{DiskFault, PageDisk};
-use std::alloc::Global;
+use cs_disk::PageDisk;
+use std::alloc::{AllocError, Global};
 
 /// Says whether a scan is to go on.
 pub trait Patience {
@@ -15,143 +20,170 @@ pub trait Patience {
 }
 
 /// What a scan found.
-#[derive(Clone, Copy, Debug, PartialEq, Eq)]
+#[derive(Drop)]
 pub struct Scanned {
     /// The greatest number of a command, 0 if there is none. Commands are counted from 1, as a root counts them.
     pub greatest: u64,
-    /// Whether all extents were read.
+    /// Whether the scan came to the end of the last extent.
     pub is_whole: bool,
+    /// The numbers of the pages that couldn't be read, by rising numbers. No frame that has one was looked at.
+    pub unreadable: Vec<u64>,
 }
 
-/// What is found with an extent more, which isn't read once patience ended.
-fn scan_on<D: PageDisk, P: Patience>(
+/// Whether a part begins within another one, after its first page.
+fn begins_within(outer: &Part, part: &Part) -> bool
+    ensures { MatchBool result (BeginsWithin outer.now part.now) (BeginsWithin outer.now part.now → ⊥) }
+{
+    outer.extent == part.extent
+        && outer.page < part.page
+        && usize::from(part.page - outer.page) < outer.pages
+}
+
+/// What was counted of parts, one after another.
+#[derive(Clone, Copy)]
+struct Counted {
+    /// The greatest number so far, 0 if there was no part.
+    greatest: u64,
+    /// The last part that counts.
+    last: Option<Part>,
+}
+
+/// Whether a part begins within the last one that counts.
+fn is_within_last(counted: &Counted, part: &Part) -> bool
+    ensures { MatchBool result ((outer : Part) × (counted.now.last ≡ Some outer) × BeginsWithin outer part.now) (Unit {0}) }
+{
+    match &counted.last {
+        Some(outer) => begins_within(outer, part),
+        None => false,
+    }
+}
+
+/// What is counted with a part more. One that begins within the last one doesn't count.
+fn with_part(counted: Counted, part: &Part) -> Counted
+    ensures sound { (result.greatest ≡ counted.greatest) ⊎ (result.greatest ≡ part.now.head.command) }
+    ensures last { (result.last ≡ counted.last) ⊎ (result.last ≡ Some part.now) }
+    ensures before { counted.greatest ≤ result.greatest }
+    ensures counts { (part.now.head.command ≤ result.greatest) ⊎ ((outer : Part) × (counted.last ≡ Some outer) × BeginsWithin outer part.now) }
+{
+    if is_within_last(&counted, part) {
+        return counted;
+    }
+    Counted {
+        greatest: counted.greatest.max(part.head.command),
+        last: Some(*part),
+    }
+}
+
+/// The greatest number of a command among parts, 0 if there is none. A part that begins within another one doesn't
+/// count: it lies in the bytes of a shard.
+fn greatest_of(parts: &[Part]) -> u64
+    ensures { IsGreatestOf parts.now result }
+{
+    let mut counted = Counted {
+        greatest: 0,
+        last: None,
+    };
+    for k in 0..parts.len() {
+        counted = with_part(counted, &parts[k]);
+    }
+    counted.greatest
+}
+
+/// How far a scan is, and what it found.
+#[derive(Drop)]
+struct Scan {
+    /// The page of the device that comes next.
+    page: u64,
+    greatest: u64,
+    unreadable: Vec<u64>,
+}
+
+/// What is known with a stretch more: the pages up to the end of an extent, or up to one that can't be read.
+fn scan_on<D: PageDisk>(
     alloc: Global,
     disk: &mut D,
     sought: &Sought,
-    extent: u16,
-    patience: &P,
-    scanned: Scanned,
-) -> Result<Scanned, DiskFault>
-    ensures scanned { D.honest disk.old → IsScanUpTo sought.now (seen (D.state disk.old)) extent scanned
-        → IfOk result (IsScanUpTo sought.now (seen (D.state disk.old)) (extent + 1)) }
-    ensures spelled { IsOfAFrame sought.now scanned.greatest → IfOk result (λ now. IsOfAFrame sought.now now.greatest) }
+    scan: Scan,
+) -> Result<Scan, AllocError>
+    requires heads { heads_in sought.now.geometry.format ≡ true }
+    requires from { 2 ≤ scan.page }
+    requires before { scan.page < look_end sought.now.geometry (D.page_count disk.old) }
+    requires apart { AreApart sought.now.geometry 0 (D.page_count disk.old) scan.page scan.unreadable.items [] }
+    ensures next { IfOk result (λ now. (scan.page < now.page) × (now.page ≤ look_end sought.now.geometry (D.page_count disk.old))) }
+    ensures scanned { D.honest disk.old → IsGreatestBefore sought.now (seen (D.state disk.old)) scan.page scan.unreadable.items scan.greatest
+        → IfOk result (λ now. IsGreatestBefore sought.now (seen (D.state disk.old)) now.page now.unreadable.items now.greatest) }
+    ensures apart { IfOk result (λ now. AreApart sought.now.geometry 0 (D.page_count disk.old) now.page now.unreadable.items []) }
+    ensures spelled { IsOfAFrame sought.now scan.greatest → IfOk result (λ now. IsOfAFrame sought.now now.greatest) }
+    ensures cause { (before : ℕ) → RisesBy (length scan.unreadable.items) before (D.failure_count disk.old)
+        → IfOk result (λ now. RisesBy (length now.unreadable.items) before (D.failure_count disk.new)) }
     ensures disk { OnlyReads D.PageDisk disk.old disk.new }
-    ensures cause { HasCause (D.failure_count disk.old) (D.failure_count disk.new) result }
 {
-    if !scanned.is_whole || !patience.goes_on() {
-        return Ok(Scanned {
-            greatest: scanned.greatest,
-            is_whole: false,
-        });
-    }
-    match greatest_command_on(alloc, disk, sought, extent) {
-        Ok(number) => Ok(Scanned {
-            greatest: scanned.greatest.max(number),
-            is_whole: true,
-        }),
-        Err(fault) => Err(fault),
-    }
+    let mut finds = Finds {
+        parts: Vec::new(alloc),
+        unreadable: scan.unreadable,
+    };
+    let page = scan_stretch(alloc, disk, sought, scan.page, &mut finds)?;
+    let Finds { parts, unreadable } = finds;
+    Ok(Scan {
+        page,
+        greatest: scan.greatest.max(greatest_of(&parts)),
+        unreadable,
+    })
 }
 
-/// The greatest number of a command that the head of a part on a device names, of the parts that are sought. Reads
-/// extent after extent, as long as patience lasts: it is asked before each extent. A part that begins within another
-/// one doesn't count.
+/// The greatest number of a command that the head of a part on a device names, of the parts that are sought. A part that
+/// begins within another one, in the bytes of a shard, doesn't count. So a store whose root counts fewer commands than
+/// this has lost some of them, or they were never acknowledged.
 ///
-/// 1 `DeviceFault` if a read failed, 9 `OutOfMemory`. The disk holds what it held.
+/// Reads extent after extent, as long as patience lasts: it is asked before each extent, and after each page that can't
+/// be read. Such a page is passed over and named. It is asked for once; a disk in a file asks the operating system twice.
+/// A frame that has such a page isn't looked at.
+///
+/// Each page is read once. The pages of one extent lie in memory meanwhile, and each part on it takes some 100 bytes.
+///
+/// It is refused only if memory is: 9 `OutOfMemory`. The disk holds what it held.
 pub fn scan_commands<D: PageDisk, P: Patience>(
     alloc: Global,
     disk: &mut D,
     sought: &Sought,
     patience: &P,
-) -> Result<Scanned, DiskFault>
-    ensures scanned { D.honest disk.old → IfOk result (IsScanOf sought.now (seen (D.state disk.old))) }
+) -> Result<Scanned, AllocError>
+    // On an honest disk it is that of the parts on it, without the pages that are named.
+    ensures scanned { D.honest disk.old → IfOk result (λ scanned. IsScanOf sought.now (without scanned.unreadable.items (seen (D.state disk.old))) scanned) }
     // Whatever the disk answers, no number is made up.
     ensures spelled { IfOk result (λ scanned. IsOfAFrame sought.now scanned.greatest) }
+    // The pages that are named are some of those of the extents, each once.
+    ensures passed { IfOk result (λ scanned. ArePassed sought.now.geometry 0 (D.page_count disk.old) scanned.unreadable.items) }
+    // For each page that is named the device failed.
+    ensures cause { IfOk result (λ scanned. RisesBy (length scanned.unreadable.items) (D.failure_count disk.old) (D.failure_count disk.new)) }
     ensures disk { OnlyReads D.PageDisk disk.old disk.new }
-    ensures cause { HasCause (D.failure_count disk.old) (D.failure_count disk.new) result }
 {
-    let mut scanned = Scanned {
-        greatest: 0,
-        is_whole: true,
-    };
-    let geometry = sought.geometry;
-    for extent in 0..geometry.extents() {
-        match scan_on(alloc, disk, sought, extent, patience, scanned) {
-            Ok(now) => scanned = now,
-            Err(fault) => return Err(fault),
-        }
+    if !sought.geometry.format().has_heads() {
+        return Ok(Scanned {
+            greatest: 0,
+            is_whole: true,
+            unreadable: Vec::new(alloc),
+        });
     }
-    Ok(scanned)
-}
-
-/// How far an extent was read, and what was found.
-#[derive(Clone, Copy)]
-struct Scan {
-    /// The greatest number so far, 0 if there was no part.
-    greatest: u64,
-    /// The page after the last part.
-    end: usize,
-}
-
-/// What is known with a page more: pages of a part that was found aren't looked at.
-fn scan_at<D: PageDisk>(
-    alloc: Global,
-    disk: &mut D,
-    sought: &Sought,
-    extent: u16,
-    page: u16,
-    scan: Scan,
-) -> Result<Scan, DiskFault>
-    ensures scanned { D.honest disk.old → IsScannedTo sought.now (seen (D.state disk.old)) extent page scan.greatest scan.end
-        → IfOk result (λ now. IsScannedTo sought.now (seen (D.state disk.old)) extent (page + 1) now.greatest now.end) }
-    ensures spelled { IsOfAFrame sought.now scan.greatest → IfOk result (λ now. IsOfAFrame sought.now now.greatest) }
-    ensures disk { OnlyReads D.PageDisk disk.old disk.new }
-    ensures cause { HasCause (D.failure_count disk.old) (D.failure_count disk.new) result }
-{
-    if usize::from(page) < scan.end {
-        return Ok(scan);
-    }
-    match part_at(alloc, disk, sought, extent, page) {
-        Ok(Some(found)) => Ok(Scan {
-            greatest: scan.greatest.max(found.part.head.command),
-            end: usize::from(page).saturating_add(found.part.pages),
-        }),
-        Ok(None) => Ok(scan),
-        Err(fault) => Err(fault),
-    }
-}
-
-/// The greatest number of a command that the head of a part on an extent names, of the parts that are sought. It is 0
-/// if none is on it. Commands are counted from 1. A part that begins within another one, in the bytes of a shard,
-/// doesn't count. So a store whose root counts fewer commands than this has lost some of them, or they were never
-/// acknowledged.
-///
-/// Each page of the extent is read once, those of a part that isn't whole twice, and each part's digest is tested.
-///
-/// 1 `DeviceFault` if a read failed, 9 `OutOfMemory`. The disk holds what it held.
-pub fn greatest_command_on<D: PageDisk>(
-    alloc: Global,
-    disk: &mut D,
-    sought: &Sought,
-    extent: u16,
-) -> Result<u64, DiskFault>
-    ensures greatest { D.honest disk.old → IfOk result (IsGreatestOn sought.now (seen (D.state disk.old)) extent) }
-    // Whatever the disk answers, no number is made up: it is that of a part of a frame that some pages spell, and the
-    // part is sought.
-    ensures spelled { IfOk result (IsOfAFrame sought.now) }
-    ensures disk { OnlyReads D.PageDisk disk.old disk.new }
-    ensures cause { HasCause (D.failure_count disk.old) (D.failure_count disk.new) result }
-{
+    let end = end_of_scan(sought.geometry, disk.pages());
     let mut scan = Scan {
+        page: 2,
         greatest: 0,
-        end: 0,
+        unreadable: Vec::new(alloc),
     };
-    let geometry = sought.geometry;
-    for page in 0..geometry.pages() {
-        match scan_at(alloc, disk, sought, extent, page, scan) {
-            Ok(now) => scan = now,
-            Err(fault) => return Err(fault),
+    while scan.page < end {
+        if !patience.goes_on() {
+            return Ok(Scanned {
+                greatest: scan.greatest,
+                is_whole: false,
+                unreadable: scan.unreadable,
+            });
         }
+        scan = scan_on(alloc, disk, sought, scan)?;
     }
-    Ok(scan.greatest)
+    Ok(Scanned {
+        greatest: scan.greatest,
+        is_whole: true,
+        unreadable: scan.unreadable,
+    })
 }

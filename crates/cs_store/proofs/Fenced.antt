@@ -32,10 +32,10 @@ use Rattle.cs_twin.specs.declared.findings.Finding.{Finding}
 use Rattle.cs_twin.specs.declared.pairs.Pair.{Pair}
 use Rattle.cs_twin.specs.Findings.{finding_in, held_of, is_halved, passed_over}
 use Rattle.cs_twin.specs.Kept.{AreAllowed}
-use Rattle.cs_twin.specs.Pairs.{AreNoOlder, ArePairs, Versions, blank, half, is_turned, shown, shown_page, shown_state}
+use Rattle.cs_twin.specs.Pairs.{AreNoOlder, ArePairs, Versions, blank, fence, half, is_turned, shown, shown_page, shown_state}
 use Rattle.law_machine.specs.Format.{Format}
 use Rattle.law_machine.specs.Geometry.{twins_in}
-use Rattle.cs_store.specs.Opening.{NoneIsPassedOver}
+use Rattle.cs_store.specs.Opening.{AgreeBeside, AreFencesIn, NoneIsPassedOver}
 
 -- ---- findings that name no page
 
@@ -67,6 +67,21 @@ some_passed (it ∷ findings) none named = by_test (is_halved it) refl (some_pas
 named_each : (V : Versions) (image : Image) (pairs : List Pair) → AllByRecursion (λ x. passed_over (finding_in V image x) ≡ None) pairs → NoneIsPassedOver (map (finding_in V image) pairs)
 named_each V image [] all = tt
 named_each V image (x ∷ pairs) all = (all.0, named_each V image pairs all.1)
+
+fences_each : (V : Versions) (image : Image) (pairs : List Pair) (now : Image) → AllByRecursion (λ x. (number : ℕ) → passed_over (finding_in V image x) ≡ Some number → page now number ≡ fence) pairs
+    → AreFencesIn (map (finding_in V image) pairs) now
+fences_each V image [] now all = tt
+fences_each V image (x ∷ pairs) now all = (all.0, fences_each V image pairs now all.1)
+
+pairs_each : (V : Versions) (image : Image) (pairs : List Pair) (number : ℕ) → AllByRecursion (λ it. passed_over it ≢ Some number) (map (finding_in V image) pairs)
+    → AllByRecursion (λ x. passed_over (finding_in V image x) ≢ Some number) pairs
+pairs_each V image [] number all = tt
+pairs_each V image (x ∷ pairs) number all = (all.0, pairs_each V image pairs number all.1)
+
+-- where none is passed over there is no fence to be
+no_fences : (findings : List Finding) (now : Image) → NoneIsPassedOver findings → AreFencesIn findings now
+no_fences [] now none = tt
+no_fences (it ∷ findings) now none = ((λ number is. absurd (let no : None ≡ Some number = sym none.0 ∙ is in cc)), no_fences findings now none.1)
 
 -- ---- where a store is found its first section shows
 
@@ -220,6 +235,42 @@ module _ (n : ℕ) (s : State) (long : length s.durable ≡ n) where
           subst (λ (l : List Pair). AllByRecursion (λ x. passed_over (finding_in (store_version (Some d)) (seen c) x) ≡ None) l) before.are
           (subst (λ (o : Option Dimensions). AllByRecursion (λ x. passed_over (finding_in (store_version o) (seen c) x) ≡ None) ps) before.its fenced) in
           whole_on n d (seen c) on all
+
+  -- where nothing was passed over there is nothing to fill
+  pub filled_still : (findings : List Finding) (now : Image) → findings ≡ findings_on n (seen s) → list_any is_halved findings ≡ false → AreFencesIn (findings_on n (seen s)) now
+  filled_still findings now found unnamed = subst (λ (l : List Finding). AreFencesIn l now) found (no_fences findings now (none_passed findings unnamed))
+
+  -- and else each page is filled of a store that is found, and no other
+  pub filled_again : (findings : List Finding) → findings ≡ findings_on n (seen s) → list_any is_halved findings ≡ true
+      → (m : ℕ) (g : Option Dimensions) (ps : List Pair) (b : State) → m ≡ n → ∥ IsOfStore g ps m b.durable ∥₁ → IsSettled g ps b (shown_on n (seen s)) → seen b ≡ seen s → (now : Image)
+      → AllByRecursion (λ x. (number : ℕ) → passed_over (finding_in (store_version g) (seen b) x) ≡ Some number → page now number ≡ fence) ps → AreFencesIn (findings_on n (seen s)) now
+  filled_again findings found named m g ps b same fits shows still now filled = by_found (dimensions_on n (seen s)) refl
+    where
+      by_found : (o : Option Dimensions) → dimensions_on n (seen s) ≡ o → AreFencesIn (findings_on n (seen s)) now
+      by_found None is = absurd (none_halved findings found named is)
+      by_found (Some d) is =
+          let before = lies_in n (seen s) d g ps b.durable long_seen is (subst (λ i. ∥ IsOfStore g ps i b.durable ∥₁) same fits) (ap (λ (z : State). z.durable) shows) in
+          subst (λ (o : Option Dimensions). AreFencesIn (map (finding_in (store_version o) (seen s)) (pairs_where o)) now) (sym is) (fences_each (store_version (Some d)) (seen s) (store_pairs d) now
+          (subst (λ (image : Image). AllByRecursion (λ x. (number : ℕ) → passed_over (finding_in (store_version (Some d)) image x) ≡ Some number → page now number ≡ fence) (store_pairs d)) still
+          (subst (λ (l : List Pair). AllByRecursion (λ x. (number : ℕ) → passed_over (finding_in (store_version (Some d)) (seen b) x) ≡ Some number → page now number ≡ fence) l) before.are
+          (subst (λ (o : Option Dimensions). AllByRecursion (λ x. (number : ℕ) → passed_over (finding_in (store_version o) (seen b) x) ≡ Some number → page now number ≡ fence) ps) before.its filled))))
+
+  pub untouched_again : (findings : List Finding) → findings ≡ findings_on n (seen s) → list_any is_halved findings ≡ true
+      → (m : ℕ) (g : Option Dimensions) (ps : List Pair) (b : State) → m ≡ n → ∥ IsOfStore g ps m b.durable ∥₁ → IsSettled g ps b (shown_on n (seen s)) → seen b ≡ seen s → (now : Image)
+      → ((number : ℕ) → AllByRecursion (λ x. passed_over (finding_in (store_version g) (seen b) x) ≢ Some number) ps → page now number ≡ page (seen b) number) → AgreeBeside (findings_on n (seen s)) (seen s) now
+  untouched_again findings found named m g ps b same fits shows still now untouched = by_found (dimensions_on n (seen s)) refl
+    where
+      by_found : (o : Option Dimensions) → dimensions_on n (seen s) ≡ o → AgreeBeside (findings_on n (seen s)) (seen s) now
+      by_found None is = absurd (none_halved findings found named is)
+      by_found (Some d) is = λ number none.
+          let before = lies_in n (seen s) d g ps b.durable long_seen is (subst (λ i. ∥ IsOfStore g ps i b.durable ∥₁) same fits) (ap (λ (z : State). z.durable) shows) in
+          let here : AllByRecursion (λ x. passed_over (finding_in (store_version (Some d)) (seen s) x) ≢ Some number) (store_pairs d) =
+          pairs_each (store_version (Some d)) (seen s) (store_pairs d) number (subst (λ (o : Option Dimensions). AllByRecursion (λ it. passed_over it ≢ Some number) (map (finding_in (store_version o) (seen s)) (pairs_where o))) is none) in
+          let own : AllByRecursion (λ x. passed_over (finding_in (store_version g) (seen b) x) ≢ Some number) ps =
+          subst (λ (o : Option Dimensions). AllByRecursion (λ x. passed_over (finding_in (store_version o) (seen b) x) ≢ Some number) ps) (sym before.its)
+          (subst (λ (l : List Pair). AllByRecursion (λ x. passed_over (finding_in (store_version (Some d)) (seen b) x) ≢ Some number) l) (sym before.are)
+          (subst (λ (image : Image). AllByRecursion (λ x. passed_over (finding_in (store_version (Some d)) image x) ≢ Some number) (store_pairs d)) (sym still) here)) in
+          untouched number own ∙ ap (λ (image : Image). page image number) still
 
   -- findings that name a page aren't those of a disk of which none is passed over
   pub not_passed : {T : Type 0} (findings : List Finding) → findings ≡ findings_on n (seen s) → list_any is_halved findings ≡ true → NoneIsPassedOver (findings_on n (seen s)) → T

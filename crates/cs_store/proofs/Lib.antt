@@ -9,6 +9,7 @@ pub mod Fenced
 pub mod Filling
 pub mod Getting
 pub mod Listing
+pub mod LeavingOut
 pub mod Maps
 pub mod Reclaiming
 pub mod Refusing

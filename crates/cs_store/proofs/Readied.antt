@@ -1,15 +1,17 @@
 -- Disks that are readied to be opened for writing: what of their pairs can't be read is given up, or refuses the opening.
 use Rattle.std.proofs.Common.{◌≡◌, ◌≢◌, ◌⊎◌, ⊎_elim, inl, inr, ◌∙◌, ◌<◌, ◌≤◌, ◌+◌, ◌==◌, ◌∷◌, [], ℕ, true, List, Result, Ok, Err, length, min, ap, arith, refl, subst, sym}
 use Rattle.cs_chunk.specs.Reads.{IsNoAnswer}
+use Rattle.cs_disk.proofs.Crashes.{seen_MayLeave}
 use Rattle.cs_disk.specs.Disk.{Rises, State, flushed, seen}
+use Rattle.cs_mount.proofs.Fenced.{crash_fenced}
 use Rattle.cs_mount.specs.Makings.{after_writes}
 use Rattle.cs_mount.specs.Showing.{shown_on}
 use Rattle.cs_reader.specs.Openings.{IsOpeningRefusal}
 use Rattle.cs_refusal.specs.Refusals.{number_of}
 use Rattle.cs_refusal.specs.declared.refusals.Refusal.{Refusal}
 use Rattle.cs_refusal.specs.declared.refusals.Refusal.TheVariants.{Unreadable}
-use Rattle.cs_store.specs.Opening.{given_up}
-use Rattle.cs_mount.specs.Unreadable.{RisesBy, fences_on}
+use Rattle.cs_store.specs.Opening.{IsPartlyGivenUp, given_up}
+use Rattle.cs_mount.specs.Unreadable.{AreOfStore, LeavesFenced, RisesBy, fences_on}
 
 module _ (n m : ℕ) (s t : State) (size : n ≡ m) (same : s ≡ t) where
   -- what is so of a size and of what a disk holds is so of the same by other names
@@ -69,3 +71,14 @@ err_of d (Err e) = e
 
 pub same_Err : {T E : Type 0} (a b : E) → ◌≡◌ {A = Result T E} (Err a) (Err b) → a ≡ b
 same_Err a b is = ap (err_of a) is
+
+-- ---- a loss that is accepted
+
+-- pages that were all given up are some of them
+pub given_up_partly : (n : ℕ) (s : State) (pages : List ℕ) → AreOfStore n pages pages (seen s) → IsPartlyGivenUp n s (seen (given_up pages s))
+given_up_partly n s [] are = inl refl
+given_up_partly n s (p ∷ pages) are = inr (p ∷ pages, are, crash_fenced s (p ∷ pages) (seen (after_writes s (fences_on (p ∷ pages)))) (seen_MayLeave (after_writes s (fences_on (p ∷ pages)))))
+
+-- a disk that was only read before some were
+pub read_partly : (n : ℕ) (old mid new : State) (pages : List ℕ) → mid ≡ old → AreOfStore n pages pages (seen old) → LeavesFenced pages mid (seen new) → IsPartlyGivenUp n old (seen new)
+read_partly n old mid new pages same are left = inr (pages, are, subst (λ (s : State). LeavesFenced pages s (seen new)) same left)

@@ -5,6 +5,7 @@ pub mod Gets
 pub mod Identities
 pub mod Maps
 pub mod Opening
+pub mod LeftOut
 pub mod LostSections
 pub mod Reclaims
 pub mod Rooms

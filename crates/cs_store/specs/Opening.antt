@@ -1,14 +1,15 @@
 -- What contracts see of the options for making or opening a store, and of what an opening found.
-use Rattle.std.specs.Prelude.{◌≡◌, ℕ, List, [], ◌∷◌, None}
+use Rattle.std.specs.Prelude.{◌≡◌, ◌≢◌, ◌⊎◌, ℕ, List, [], ◌∷◌, None, Some}
 use Rattle.std.specs.List.{AllByRecursion}
 use Rattle.cs_core.specs.declared.cores.Limits.{Limits}
-use Rattle.cs_disk.specs.Disk.{State, flushed}
+use Rattle.cs_disk.specs.Disk.{Image, State, flushed, page, seen}
 use Rattle.cs_frame.specs.Geometries.{Dimensions}
 use Rattle.cs_mount.specs.Makings.{after_writes}
-use Rattle.cs_mount.specs.Unreadable.{fences_on}
+use Rattle.cs_mount.specs.Unreadable.{AreOfStore, LeavesFenced, fences_on}
 use Rattle.cs_store.specs.declared.options.Loss.{Loss}
 use Rattle.cs_twin.specs.declared.findings.Finding.{Finding}
 use Rattle.cs_twin.specs.Findings.{passed_over}
+use Rattle.cs_twin.specs.Pairs.{fence}
 
 -- how many events the store may keep, the geometry of one that is made, and what is done about a page that can't be read
 pub record Opening : Type 0 where
@@ -24,3 +25,16 @@ given_up (p ∷ pages) s = flushed (after_writes s (fences_on (p ∷ pages)))
 -- of no pair a page is passed over for its damage
 abbrev pub NoneIsPassedOver : List Finding → Type 0
 NoneIsPassedOver findings = AllByRecursion (λ it. passed_over it ≡ None) findings
+
+-- each page that is passed over by these findings is a fence in the image
+abbrev pub AreFencesIn : List Finding → Image → Type 0
+AreFencesIn findings image = AllByRecursion (λ it. (number : ℕ) → passed_over it ≡ Some number → page image number ≡ fence) findings
+
+-- each page that none of these findings passes over holds what it held
+abbrev pub AgreeBeside : List Finding → (before now : Image) → Type 0
+AgreeBeside findings before now = (number : ℕ) → AllByRecursion (λ it. passed_over it ≢ Some number) findings → page now number ≡ page before number
+
+-- The image is what the disk held; or what a crash might have left of it, but that some halves of pairs of the store that
+-- shows without them are fences, which are given up.
+abbrev pub IsPartlyGivenUp : (pages : ℕ) → State → Image → Type 0
+IsPartlyGivenUp pages s image = (image ≡ seen s) ⊎ ((lost : List ℕ) × AreOfStore pages lost lost (seen s) × LeavesFenced lost s image)

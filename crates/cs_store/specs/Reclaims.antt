@@ -9,7 +9,7 @@ use Rattle.cs_disk.specs.declared.disk.PageDisk.{Ghosts as PageDisk}
 use Rattle.cs_index.specs.State.{index_of}
 use Rattle.cs_store.specs.declared.reclaims.Reclaimed.{Reclaimed}
 use Rattle.cs_store.specs.Sweeps.{DeclinesSweep, SweepsReady}
-use Rattle.cs_inspect.specs.Choices.{GoesBy, ReadsOn}
+use Rattle.cs_inspect.specs.Choices.{GoesNext, ReadsOn}
 use Rattle.cs_inspect.specs.Chunks.{AreLiveChunks, Chunk}
 use Rattle.cs_inspect.specs.Uses.{Head, heads_of}
 use Rattle.law_machine.specs.Index.{names}
@@ -31,10 +31,10 @@ module _ {D : Type 0} (disks : PageDisk D) where
   abbrev pub ReclaimsChosen : {E : Type 0} → (old : View D) → Result (Option Reclaimed) E → (new : View D) → Type 0
   ReclaimsChosen old result new = (view : ℕ → List ℕ) (chunks : List Chunk) → AreNewest old.store.graph (seen (disks.state old.disk)) view → AreLiveChunks (index_of old.store.index) chunks
       → IfOk result (λ found. (read : View D) × ReadsOn disks old read × Reclaims read found new
-      × GoesBy disks (heads_of old.store.extents view chunks) (names (index_of old.store.index)) old read (reclaimed_extent found))
+      × GoesNext disks (heads_of old.store.extents view chunks) (names (index_of old.store.index)) old read (reclaimed_extent found))
 
   -- Memory was refused for the reads; or after them the extent that was chosen is declined.
   abbrev pub DeclinesChosen : List Head → (entries : ℕ) → (old : View D) → Refusal → (new : View D) → Type 0
   DeclinesChosen heads entries old refusal new = (read : View D) × ReadsOn disks old read
       × (((refusal ≡ OutOfMemory) × (new ≡ read))
-      ⊎ ((extent : ℕ) × (dead : ℕ) × GoesBy disks heads entries old read (Some (extent, dead)) × DeclinesSweep disks extent read new refusal))
+      ⊎ ((extent : ℕ) × (dead : ℕ) × GoesNext disks heads entries old read (Some (extent, dead)) × DeclinesSweep disks extent read new refusal))

@@ -1,5 +1,5 @@
 //! How a store is opened to be written: what its opening passed over is fenced first.
-ghost use Rattle.std.specs.Prelude.{◌↔◌, ◌<◌, ◌≡◌, ◌≢◌, ◌≤◌, ◌⊎◌, Err, IfErr, IfOk, IsOk, MatchResult, None, OnOk, [], false, length, true, ℕ};
+ghost use Rattle.std.specs.Prelude.{◌↔◌, ◌<◌, ◌≡◌, ◌≢◌, ◌≤◌, ◌⊎◌, Err, IfErr, IfOk, IsOk, MatchResult, None, OnErr, OnOk, Some, [], false, length, true, ℕ};
 ghost use Rattle.std.specs.List.{AllByRecursion, list_any};
 ghost use Rattle.cs_chunk.specs.Reads.{IsNoAnswer};
 ghost use Rattle.cs_core.specs.Openings.{IfStoreOn, IsOpened, IsOpenedAs};
@@ -13,10 +13,11 @@ ghost use Rattle.cs_mount.specs.StorePairs.{dimensions_on};
 ghost use Rattle.cs_reader.specs.Counts.{HasCount};
 ghost use Rattle.cs_reader.specs.Openings.{IsOpeningRefusal, IsWhyNotOpened};
 ghost use Rattle.cs_store.specs.Maps.{HasMap};
-ghost use Rattle.cs_store.specs.Opening.{NoneIsPassedOver, given_up};
-ghost use Rattle.cs_mount.specs.Unreadable.{AreOfStore};
+ghost use Rattle.cs_store.specs.Opening.{AgreeBeside, AreFencesIn, IsPartlyGivenUp, NoneIsPassedOver, given_up};
+ghost use Rattle.cs_mount.specs.Unreadable.{AreOfStore, LeavesFenced};
 ghost use Rattle.cs_twin.specs.Findings.{finding_in, is_halved, passed_over};
 ghost use Rattle.cs_twin.specs.Paired.{disk_below, left_as_shown, moment_of, pairs_of, state_shown, versions_of};
+ghost use Rattle.cs_twin.specs.Pairs.{fence};
 
 use crate::options::{Loss, OpenOptions};
 use crate::stores::Store;
@@ -55,6 +56,9 @@ fn open_fenced<D: PageDisk + Drop>(
         (λ S n m. MatchResult result (λ again. IsOpenedAs S n m again.store again.found) (λ refused. IsNoAnswer refused.0)) }
     // No page is passed over any more.
     ensures fenced { D.honest (disk_below core.disk) → IfOk result (λ again. AllByRecursion (λ x. passed_over (finding_in (versions_of core.disk) (seen (D.state (disk_below again.disk))) x) ≡ None) (pairs_of core.disk)) }
+    // What was passed over is a fence, and no other page was written.
+    ensures filled { D.honest (disk_below core.disk) → IfOk result (λ again. AllByRecursion (λ x. (number : ℕ) → passed_over (finding_in (versions_of core.disk) (seen (D.state (disk_below core.disk))) x) ≡ Some number → page (seen (D.state (disk_below again.disk))) number ≡ fence) (pairs_of core.disk)) }
+    ensures untouched { D.honest (disk_below core.disk) → IfOk result (λ again. (number : ℕ) → AllByRecursion (λ x. passed_over (finding_in (versions_of core.disk) (seen (D.state (disk_below core.disk))) x) ≢ Some number) (pairs_of core.disk) → page (seen (D.state (disk_below again.disk))) number ≡ page (seen (D.state (disk_below core.disk))) number) }
     // If it is refused, and a store of format 4 shows, the disk shows the same.
     ensures kept { D.honest (disk_below core.disk) → IfErr result (λ refused. (image : Image) → length image ≡ D.page_count (disk_below core.disk) → dimensions_on (D.page_count (disk_below core.disk)) image ≢ None
         → state_shown core.disk ≡ record { durable = shown_on (D.page_count (disk_below core.disk)) image; volatile = [] } → shown_on (D.page_count (disk_below core.disk)) (seen (D.state refused.1)) ≡ shown_on (D.page_count (disk_below core.disk)) image) }
@@ -100,6 +104,8 @@ fn give_up<D: PageDisk>(disk: &mut D, unread: &[u64]) -> Result<(), Refusal>
     requires { (p : ℕ) → is_among unread.now p ≡ true → p < D.page_count disk.old }
     ensures state { D.honest disk.old → OnOk result (D.state disk.new ≡ given_up unread.now (D.state disk.old)) }
     ensures none { unread.now ≡ [] → IsOk result × OnlyReads D.PageDisk disk.old disk.new }
+    // If it is refused, some of them may be fences, and nothing else is written.
+    ensures refused { D.honest disk.old → OnErr result (LeavesFenced unread.now (D.state disk.old) (seen (D.state disk.new))) }
     ensures refusals { IfErr result IsNoAnswer }
     ensures honest { D.honest disk.old ↔ D.honest disk.new }
     ensures pages { D.page_count disk.new ≡ D.page_count disk.old }
@@ -131,6 +137,8 @@ pub fn ready_to_write<D: PageDisk>(
     ensures small { D.page_count disk.old < 10 → (disk.new ≡ disk.old) × IfErr result (λ refusal. ⊥) }
     ensures refused { IfErr result (λ refusal. IsNoAnswer refusal ⊎ ((refusal ≡ Refusal.Unreadable) × (loss ≡ Loss.Refused) × Rises (D.failure_count disk.old) (D.failure_count disk.new))) }
     ensures same { loss ≡ Loss.Refused → IfErr result (λ _. OnlyReads D.PageDisk disk.old disk.new) }
+    // If a fence is refused, some of the pages that are given up may be fences, and nothing else is written.
+    ensures partly { D.honest disk.old → OnErr result (IsPartlyGivenUp (D.page_count disk.old) (D.state disk.old) (seen (D.state disk.new))) }
     ensures cause { loss ≡ Loss.Refused → IfErr result (λ refusal. refusal ≡ Refusal.DeviceFault → Rises (D.failure_count disk.old) (D.failure_count disk.new)) }
     ensures honest { D.honest disk.old ↔ D.honest disk.new }
     ensures pages { D.page_count disk.new ≡ D.page_count disk.old }
@@ -175,6 +183,9 @@ impl OpenOptions {
         ensures findings { D.honest disk → IfOk result (λ opened. opened.1.items ≡ findings_on (D.page_count disk) (seen (D.state disk))) }
         // No page is passed over any more.
         ensures guarded { D.honest disk → IfOk result (λ opened. NoneIsPassedOver (findings_on (D.page_count disk) (seen (D.state (disk_below opened.0.disk))))) }
+        // Each page that was is a fence, and no other page was written.
+        ensures filled { D.honest disk → IfOk result (λ opened. AreFencesIn (findings_on (D.page_count disk) (seen (D.state disk))) (seen (D.state (disk_below opened.0.disk)))) }
+        ensures untouched { D.honest disk → IfOk result (λ opened. AgreeBeside (findings_on (D.page_count disk) (seen (D.state disk))) (seen (D.state disk)) (seen (D.state (disk_below opened.0.disk)))) }
         // If it is refused, the disk shows the same.
         ensures shown { D.honest disk → IfErr result (λ refused. shown_on (D.page_count disk) (seen (D.state refused.1)) ≡ shown_on (D.page_count disk) (seen (D.state disk))) }
         ensures refusals { D.honest disk → IfErr result (λ refused. IsNoAnswer refused.0 ⊎ ((refused.0 ≡ Refusal.NotAStore) × AreOfTwo (D.page_count disk) (seen (D.state disk))) ⊎ IsWhyNotOpened (D.page_count disk) (page (shown_on (D.page_count disk) (seen (D.state disk)))) refused.0) }
@@ -263,8 +274,13 @@ impl OpenOptions {
         ensures findings { D.honest disk → IfOk result (λ opened. opened.1.items ≡ findings_on (D.page_count disk) (seen (given_up opened.2.items (D.state disk)))) }
         // No page is passed over any more.
         ensures guarded { D.honest disk → IfOk result (λ opened. NoneIsPassedOver (findings_on (D.page_count disk) (seen (D.state (disk_below opened.0.disk))))) }
+        // Each page that was is a fence, and no other page was written but those given up.
+        ensures filled { D.honest disk → IfOk result (λ opened. AreFencesIn (findings_on (D.page_count disk) (seen (given_up opened.2.items (D.state disk)))) (seen (D.state (disk_below opened.0.disk)))) }
+        ensures untouched { D.honest disk → IfOk result (λ opened. AgreeBeside (findings_on (D.page_count disk) (seen (given_up opened.2.items (D.state disk)))) (seen (given_up opened.2.items (D.state disk))) (seen (D.state (disk_below opened.0.disk)))) }
         // If it is refused, the disk shows the same.
         ensures shown { D.honest disk → self.loss ≡ Loss.Refused → IfErr result (λ refused. shown_on (D.page_count disk) (seen (D.state refused.1)) ≡ shown_on (D.page_count disk) (seen (D.state disk))) }
+        // Or, if a loss is accepted, what it shows when some of the pages that are given up are fences.
+        ensures partly { D.honest disk → IfErr result (λ refused. (image : Image) × IsPartlyGivenUp (D.page_count disk) (D.state disk) image × (shown_on (D.page_count disk) (seen (D.state refused.1)) ≡ shown_on (D.page_count disk) image)) }
         ensures refusals { D.honest disk → self.loss ≡ Loss.Refused → IfErr result (λ refused. IsNoAnswer refused.0 ⊎ (refused.0 ≡ Refusal.Unreadable) ⊎ ((refused.0 ≡ Refusal.NotAStore) × AreOfTwo (D.page_count disk) (seen (D.state disk)))
             ⊎ IsWhyNotOpened (D.page_count disk) (page (shown_on (D.page_count disk) (seen (D.state disk)))) refused.0) }
         // Whatever the disk answers.

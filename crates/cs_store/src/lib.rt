@@ -13,6 +13,7 @@ mod figures;
 pub mod file_openers;
 mod gets;
 mod identities;
+mod left_out;
 mod options;
 mod puts;
 mod reclaims;

@@ -48,13 +48,19 @@ pub struct Reclaimed {
 }
 
 impl<D: PageDisk> Store<D> {
-    /// Sweeps the extent that is worth it, and says what it freed; None where none is. It sweeps as `sweep` does; a
-    /// `sync` makes it persistent. To choose, it reads the first page of each live chunk, and takes memory for a list
-    /// of them.
+    /// Sweeps the extent that is to be swept next, and says what it freed; None where none is. It sweeps as `sweep`
+    /// does; a `sync` makes it persistent. To choose, it reads the first page of each live chunk, and takes memory for a
+    /// list of them.
     ///
-    /// It is the one with fewest live pages of those that hold chunks, where these and the live pages of another one
-    /// have room on one extent (`fewest_live` of cs_inspect). Sweeps of such two give an extent, the first one or the
-    /// second.
+    /// Where what lives on two extents that hold chunks has room on one, it is one of these; sweeps of such two give an
+    /// extent, the first one or the second. Else it is the extent on which least lives of those with dead pages. Where no
+    /// page is dead, it is the extent on which least lives, if all of it is sure to go to others (`next_to_sweep` of
+    /// cs_inspect). So None is said only where nothing is dead on any extent that can be swept, and no sweep is sure to
+    /// gain.
+    ///
+    /// A caller whose put is refused 30 Full goes on while the put is refused so and `reclaim` gives an extent, with a
+    /// `sync` behind each. That ends: while nothing is put or deleted there are at most as many sweeps as extents have
+    /// dead pages, and two for each extent that is gained.
     ///
     /// In the older formats it is the extent with most pages that no shard has, where these are more than the index
     /// takes that the sweep writes anew. So each call that answers something frees pages, and a loop that ends at None

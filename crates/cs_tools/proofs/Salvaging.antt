@@ -1,5 +1,5 @@
 -- What is salvaged of a device, and what is told of it.
-use Rattle.std.proofs.Common.{◌≡◌, ◌≢◌, ◌⊎◌, ◌&&◌, ◌<◌, ◌≤◌, ◌+◌, ℕ, Bool, true, false, List, [], ◌∷◌, ◌++◌, get_or, length, suc, take, inl, inr, sym, subst, arith}
+use Rattle.std.proofs.Common.{◌≡◌, ◌≢◌, ◌∙◌, ◌⊎◌, ◌&&◌, ◌<◌, ◌≤◌, ◌+◌, ℕ, Bool, true, false, List, [], ◌∷◌, ◌++◌, get_or, length, suc, take, inl, inr, sym, subst, arith}
 use Rattle.std.specs.Prelude.{All, Contains, Err, IfOk, MatchOption, None, Ok, Option, Result, Some, min}
 use Rattle.std.specs.declared.alloc.AllocError.{AllocError}
 use Rattle.std.specs.Io.KnownBytes.{Appends}
@@ -106,6 +106,15 @@ pub read_before : {D : Type 0} (disks : PageDisk D) (old mid : D) (P : ℕ → I
     → P (disks.page_count mid) (seen (disks.state mid)) → P (disks.page_count old) (seen (disks.state old))
 read_before disks old mid P reads honest is =
     subst (λ (n : ℕ). P n (seen (disks.state old))) reads.pages (subst (λ (s : State). P (disks.page_count mid) (seen s)) (reads.same honest) is)
+
+-- what is so whatever was found
+pub whatever : {T E : Type 0} (P : Type 0) (r : Result T E) → P → IfOk r (λ _. P)
+whatever P (Ok x) so = so
+whatever P (Err e) so = tt
+
+-- two stores were found
+pub are_two : {X : Type 0} (both : X) (said : Option X) → Some both ≡ said → said ≢ None
+are_two both said is none = let clash : Some both ≡ None = is ∙ none in absurd (cc clash)
 
 -- the dimensions that a section says are those that its page spells
 pub says_first : (bytes : List ℕ) (it : Superblock) (g : Dimensions) → number_in it.format ≡ Four

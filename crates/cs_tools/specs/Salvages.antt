@@ -12,7 +12,7 @@ use Rattle.cs_frame.specs.Geometries.{Dimensions}
 use Rattle.cs_frame.specs.Superblocks.{SpellsSuperblock}
 use Rattle.cs_index.specs.State.{id_number, index_of}
 use Rattle.cs_inspect.specs.Listings.{AreFirst}
-use Rattle.cs_mount.specs.StorePairs.{pages_of}
+use Rattle.cs_mount.specs.StorePairs.{dimensions_on, pages_of}
 use Rattle.law_machine.specs.Index.{joined_bodies, live_at}
 use Rattle.cs_salvage.specs.Founds.{Found}
 use Rattle.cs_salvage.specs.Frames.{IsMeant}
@@ -48,6 +48,10 @@ SaysFirst bytes g = (number_in g.format ≡ Four)
 -- page 0 says these dimensions, with which a device has another number of pages than this one
 abbrev pub IsOfOtherLength : (count : ℕ) → Image → Dimensions → Type 0
 IsOfOtherLength count image g = SaysFirst (page image 0) g × (pages_of g ≢ count)
+
+-- there is no geometry to salvage by: no store of format 4 is there, and page 0 says none of another length
+abbrev pub HasNoGeometry : (count : ℕ) → Image → Type 0
+HasNoGeometry count image = (dimensions_on count image ≡ None) × ((g : Dimensions) → IsOfOtherLength count image g → ⊥)
 
 -- This is what frames on a device spell, those of the store alone or those of any, without the pages before the first
 -- that was looked at and those that couldn't be read: of each identifier the newest shard that is whole, and each newest

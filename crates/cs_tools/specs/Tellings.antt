@@ -10,9 +10,8 @@ use Rattle.cs_tools.specs.Advised.{advice_text, id_members, loss_text, run_lost_
 use Rattle.cs_tools.specs.Outputs.{quote}
 use Rattle.cs_tools.specs.Stats.{member}
 use Rattle.cs_tools.specs.Texts.{meaning_text, system_text}
-use Rattle.cs_tools.specs.declared.advices.Todo.{Todo}
 use Rattle.cs_tools.specs.declared.knowns.Content.{Content}
-use Rattle.cs_tools.specs.declared.knowns.Content.TheVariants.{Broken, Empty, Foreign, Left, Length, Store, Superseded, Torn, TwoStores, Unknown, Written}
+use Rattle.cs_tools.specs.declared.knowns.Content.TheVariants.{TwoStores}
 use Rattle.cs_tools.specs.declared.knowns.Known.{Known}
 use Rattle.cs_tools.specs.declared.outcomes.Outcome.{Outcome}
 use Rattle.cs_tools.specs.declared.outcomes.Outcome.TheVariants.{Absent, Damaged, Done, Failed, MayBeLost, NoStore, Refused, Unopened, Unread}

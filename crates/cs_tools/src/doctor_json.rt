@@ -1,9 +1,10 @@
 //! A diagnosis as a JSON object.
 ghost use Rattle.std.specs.Prelude.{◌≡◌, IfOk, Some, codes, map};
-ghost use Rattle.serde_json.specs.Data.{array, number, string, unsigned};
+ghost use Rattle.serde_json.specs.Data.{Data, array, number, string, unsigned};
 ghost use Rattle.serde_json.specs.Find.{get};
 ghost use Rattle.serde_json.specs.View.{items_of, view};
 ghost use Rattle.cs_tools.specs.Doctor.{status_of_file};
+ghost use Rattle.cs_tools.specs.DoctorReports.{HasMadeIn, TellsMadeIn, pages_array};
 ghost use Rattle.cs_tools.specs.Steps.{step_text};
 
 use crate::advices::system_text;
@@ -29,6 +30,7 @@ pub fn object_of(
 ) -> Result<Value, AllocError>
     ensures status { IfOk result (λ value. get (codes "status") (view value) ≡ Some (number (unsigned (status_of_file found.now)))) }
     ensures next { IfOk result (λ value. get (codes "next") (view value) ≡ Some (array (items_of (map (λ step. string (step_text file.now step)) steps.now)))) }
+    ensures found { IfOk result (λ value. (what : Data) × (get (codes "found") (view value) ≡ Some what) × TellsMadeIn found.now what) }
 {
     let status = found.status();
     let next = steps_value(alloc, file, steps)?;
@@ -49,7 +51,9 @@ fn steps_value(alloc: Global, file: &str, steps: &[Step]) -> Result<Value, Alloc
 }
 
 /// What was found of a file.
-fn found_value(alloc: Global, found: &FileDiagnosis) -> Result<Value, AllocError> {
+fn found_value(alloc: Global, found: &FileDiagnosis) -> Result<Value, AllocError>
+    ensures { IfOk result (λ value. TellsMadeIn found.now (view value)) }
+{
     match found {
         FileDiagnosis::Unopened(fault) => {
             let why = system_text(*fault);
@@ -69,7 +73,17 @@ fn found_value(alloc: Global, found: &FileDiagnosis) -> Result<Value, AllocError
 }
 
 /// What was found of a disk.
-fn diagnosis_value(alloc: Global, found: &Diagnosis) -> Result<Value, AllocError> {
+fn diagnosis_value(alloc: Global, found: &Diagnosis) -> Result<Value, AllocError>
+    ensures { IfOk result (λ value. HasMadeIn found.now.made.items (view value)) }
+{
+    let mut members = diagnosis_members(alloc, found)?;
+    let made = pages_value(alloc, &found.made)?;
+    put(&mut members, alloc, "made", made)?;
+    Ok(Value::Object(members))
+}
+
+/// What was found of a disk, but for the sections that were made.
+fn diagnosis_members(alloc: Global, found: &Diagnosis) -> Result<Map<String, Value>, AllocError> {
     let mut members = Map::new(alloc);
     put(
         &mut members,
@@ -91,12 +105,10 @@ fn diagnosis_value(alloc: Global, found: &Diagnosis) -> Result<Value, AllocError
     put(&mut members, alloc, "pairs", pairs)?;
     let hidden = pages_value(alloc, &found.hidden)?;
     put(&mut members, alloc, "passed_over", hidden)?;
-    let made = pages_value(alloc, &found.made)?;
-    put(&mut members, alloc, "made", made)?;
     put_store(alloc, &mut members, &found.store)?;
     let deep = deep_value(alloc, &found.store.head, &found.looked.deep)?;
     put(&mut members, alloc, "deep", deep)?;
-    Ok(Value::Object(members))
+    Ok(members)
 }
 
 /// What a disk holds.
@@ -236,12 +248,14 @@ fn numbers_value(alloc: Global, numbers: &[u16]) -> Result<Value, AllocError> {
 }
 
 /// An array of pages.
-fn pages_value(alloc: Global, pages: &[u64]) -> Result<Value, AllocError> {
+fn pages_value(alloc: Global, pages: &[u64]) -> Result<Value, AllocError>
+    ensures { IfOk result (λ value. view value ≡ pages_array pages.now) }
+{
     let mut values = Vec::new(alloc);
-    for page in pages {
-        values.push(Value::from(*page))?;
+    for k in 0..pages.len() {
+        values.push(Value::from(pages[k]))?;
     }
-    Ok(Value::Array(values))
+    Ok(Value::from(values))
 }
 
 /// What the index names, and what of that can be read.

@@ -1,7 +1,7 @@
 //! What the command `doctor` prints.
 ghost use Rattle.std.specs.Prelude.{◌≡◌, ◌⊎◌, ◌++◌, ◌∷◌, [], IfErr, IfOk, List, OnOk, flat_map, string_bytes, ℕ};
 ghost use Rattle.std.specs.Io.KnownBytes.{Appends};
-ghost use Rattle.cs_tools.specs.DoctorReports.{IsObjectOf, IsReport, IsSpelledBy, next_text, step_line};
+ghost use Rattle.cs_tools.specs.DoctorReports.{IsObjectOf, IsReport, IsSpelledBy, TellsMade, next_text, step_line};
 ghost use Rattle.cs_tools.specs.declared.outcomes.Outcome.TheVariants.{Failed, Refused};
 ghost use Rattle.serde_json.specs.Data.{Data};
 
@@ -53,7 +53,7 @@ fn page_with_steps(
     file: &str,
     steps: &[Step],
 ) -> Result<String, AllocError>
-    ensures { IfOk result (λ text. (page : List ℕ) × (string_bytes text ≡ page ++ next_text file.now steps.now)) }
+    ensures { IfOk result (λ text. (page : List ℕ) × TellsMade found.now page × (string_bytes text ≡ page ++ next_text file.now steps.now)) }
 {
     let mut text = page_of(alloc, found)?;
     add_next(alloc, &mut text, file, steps)?;

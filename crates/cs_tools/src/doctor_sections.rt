@@ -33,7 +33,7 @@ pub fn as_it_lies(alloc: Global, store: StoreFound) -> SectionsFound
 }
 
 /// Whether a store that is refused so may lack a section: a page isn't whole, or no superblock is found.
-fn may_lack_section(refusal: Refusal) -> bool
+pub fn may_lack_section(refusal: Refusal) -> bool
     ensures { result ≡ may_lack_section refusal }
 {
     match refusal {
@@ -104,7 +104,10 @@ fn sections_of<D: PageDisk>(
 }
 
 /// The pages of these sections.
-fn pages_of(alloc: Global, writes: &[(u64, [u8; 4096])]) -> Result<Vec<u64>, AllocError>
+pub fn pages_of_sections(
+    alloc: Global,
+    writes: &[(u64, [u8; 4096])],
+) -> Result<Vec<u64>, AllocError>
     ensures { IfOk result (λ pages. pages.items ≡ map (λ w. w.0) writes.now) }
 {
     let mut pages = Vec::new(alloc);
@@ -130,7 +133,7 @@ fn find_remade<D: PageDisk + Drop, P: Progress>(
     ensures honest { IfOk result (λ found. D.honest disk ↔ D.honest found.1) }
     ensures size { IfOk result (λ found. D.page_count found.1 ≡ D.page_count disk) }
 {
-    let made = pages_of(alloc, &writes)?;
+    let made = pages_of_sections(alloc, &writes)?;
     let shown = Remade::new(disk, writes);
     match find_store(alloc, shown, progress) {
         Ok((opened, shown)) => Ok((if_it_opens(alloc, opened, made, before), shown.into_disk())),

@@ -1,4 +1,6 @@
 //! A diagnosis as text.
+ghost use Rattle.std.specs.Prelude.{◌≡◌, ◌++◌, IfOk, OnOk, flat_map, string_bytes};
+ghost use Rattle.cs_tools.specs.DoctorReports.{HasMade, TellsMade, made_line};
 
 use crate::advices::{meaning, system_text};
 use crate::diagnoses::{
@@ -17,7 +19,9 @@ use uuid::Uuid;
 const LISTED: usize = 16;
 
 /// The lines of a diagnosis, but for the commands to type next.
-pub fn page_of(alloc: Global, found: &FileDiagnosis) -> Result<String, AllocError> {
+pub fn page_of(alloc: Global, found: &FileDiagnosis) -> Result<String, AllocError>
+    ensures { IfOk result (λ text. TellsMade found.now (string_bytes text)) }
+{
     match found {
         FileDiagnosis::Unopened(fault) => {
             let why = system_text(*fault);
@@ -60,16 +64,30 @@ fn length_text(
 }
 
 /// The lines of what was found of a disk.
-fn lines_of(alloc: Global, found: &Diagnosis) -> Result<String, AllocError> {
+fn lines_of(alloc: Global, found: &Diagnosis) -> Result<String, AllocError>
+    ensures { IfOk result (λ text. HasMade found.now.made.items (string_bytes text)) }
+{
+    let mut text = lines_of_pages(alloc, found)?;
+    add_all_made(alloc, &mut text, &found.made)?;
+    let rest = lines_of_store(alloc, found)?;
+    text.push_str(&rest)?;
+    Ok(text)
+}
+
+/// The lines of the geometry, the length and the pairs.
+fn lines_of_pages(alloc: Global, found: &Diagnosis) -> Result<String, AllocError> {
     let mut text = String::new(alloc);
     add_geometry(alloc, &mut text, &found.looked.geometry)?;
     add_content(alloc, &mut text, found)?;
     for k in 0..found.looked.pairs.len() {
         add_pair(alloc, &mut text, k, found.looked.pairs[k])?;
     }
-    for page in &found.made {
-        add_made(alloc, &mut text, *page)?;
-    }
+    Ok(text)
+}
+
+/// The lines of root and index, of all frames, and the last one.
+fn lines_of_store(alloc: Global, found: &Diagnosis) -> Result<String, AllocError> {
+    let mut text = String::new(alloc);
     add_store(alloc, &mut text, &found.store)?;
     add_deep(alloc, &mut text, &found.store.head, &found.looked.deep)?;
     let line = verdict_of(found);
@@ -169,8 +187,20 @@ fn add_pair(
     text.push_str(&line)
 }
 
+/// Adds the lines of the pages on which a section was made.
+fn add_all_made(alloc: Global, text: &mut String, made: &[u64]) -> Result<(), AllocError>
+    ensures { OnOk result (string_bytes text.new ≡ string_bytes text.old ++ flat_map made_line made.now) }
+{
+    for k in 0..made.len() {
+        add_made(alloc, text, made[k])?;
+    }
+    Ok(())
+}
+
 /// Adds the line of a page on which a section was made.
-fn add_made(alloc: Global, text: &mut String, page: u64) -> Result<(), AllocError> {
+fn add_made(alloc: Global, text: &mut String, page: u64) -> Result<(), AllocError>
+    ensures { OnOk result (string_bytes text.new ≡ string_bytes text.old ++ made_line page) }
+{
     let line = format!(in alloc; "section on page {page} lost, made from the index\n")?;
     text.push_str(&line)
 }

@@ -12,7 +12,7 @@ use std::alloc::{AllocError, Global};
 /// What a look at all extents gave.
 #[derive(Clone, Copy)]
 pub struct Survey {
-    /// The extent to empty, as `choose_sweep` of cs_inspect chooses it, except in formats 1 and 2.
+    /// The extent to empty, as `fewest_live` of cs_inspect tells it, except in formats 1 and 2.
     pub choice: Option<Choice>,
     /// How many headers of live chunks couldn't be read.
     pub unreadable: usize,

@@ -49,7 +49,7 @@ pub enum Stop {
 /// Empties extents, each with a sync after it, and prints what it freed. What was emptied before a refusal stays
 /// emptied.
 ///
-/// It empties the extent that `choose_sweep` of cs_inspect chooses, again and again until that chooses none. It does so
+/// It empties the extent that `fewest_live` of cs_inspect tells, again and again until that chooses none. It does so
 /// at most twice for each extent.
 ///
 /// An extent with a chunk whose header can't be read is passed over. If there is one it is printed how many headers can't
@@ -68,7 +68,7 @@ pub fn reclaim<D: PageDisk, W: Write>(
     ensures refusals { (r : Why) → result ≡ Refused r → MayRefuseReclaim r }
     // Where it ends well all is persistent, or nothing was worth it and nothing but reads was done.
     ensures kept { D.honest core.old.disk → (result ≡ Done) ⊎ (result ≡ Damaged) → IsPersistent core.new ⊎ ReadsOn D.PageDisk core.old core.new }
-    // Except in formats 1 and 2 it empties the extents that `choose_sweep` chooses, and prints a line for each. It ends when
+    // Except in formats 1 and 2 it empties the extents that `fewest_live` tells, and prints a line for each. It ends when
     // that chooses none, or after two for each extent. Then it prints how many extents are empty and how many were, and how
     // many headers can't be read.
     ensures chosen { LieApart core.old → (result ≡ Done) ⊎ (result ≡ Damaged)

@@ -1,7 +1,7 @@
 //! The command `reclaim` on stores of formats 1 and 2, where chunks and runs may lie on one extent.
 //!
 //! The command runs on a store that was just opened. The pages above an extent's write pointer aren't written then
-//! until the extent is emptied, so they count as garbage here. `choose_sweep` of cs_inspect doesn't count them.
+//! until the extent is emptied, so they count as garbage here. `uses` of cs_inspect doesn't count them.
 ghost use Rattle.std.specs.Prelude.{◌≡◌, ◌⊎◌, ◌<◌, IfErr, IfOk, IfSome, OnOk, Some, length};
 ghost use Rattle.cs_index.specs.State.{id_number};
 ghost use Rattle.law_machine.specs.Element.{Bytes as Held, Map};

@@ -1,11 +1,12 @@
 //! The command `export` over the frames of a device alone.
-ghost use Rattle.std.specs.Prelude.{◌≡◌, ◌≢◌, ◌⊎◌, ◌+◌, ◌*◌, ◌<◌, ◌≤◌, Err, IfErr, IfOk, List, MatchBool, MatchOption, OnOk, [], None, Some, length, true, false};
+ghost use Rattle.std.specs.Prelude.{◌≡◌, ◌≢◌, ◌⊎◌, ◌+◌, ◌*◌, ◌<◌, Err, IfErr, IfOk, List, MatchBool, MatchOption, [], None, Some, length, true, false};
 ghost use Rattle.std.specs.Io.KnownBytes.{Appends};
 ghost use Rattle.std.specs.List.{AllByRecursion, AllZip, list_all, list_any};
 ghost use Rattle.cs_chunk.specs.Reads.{IsCaused};
 ghost use Rattle.cs_disk.specs.Disk.{HasCause, seen};
 ghost use Rattle.cs_disk.specs.Reads.{OnlyReads};
 ghost use Rattle.cs_frame.specs.Geometries.{Dimensions, IsGeometry};
+ghost use Rattle.cs_mount.specs.Identities.{AreOfTwo, IsOfOne};
 ghost use Rattle.cs_mount.specs.StorePairs.{dimensions_on, pages_of};
 ghost use Rattle.cs_salvage.specs.Missing.{AreMissing};
 ghost use Rattle.cs_salvage.specs.Namings.{AreCounted, IsNaming};
@@ -13,7 +14,7 @@ ghost use Rattle.cs_salvage.specs.Passed.{ArePassed, RisesBy};
 ghost use Rattle.cs_salvage.specs.Shards.{AreNewest};
 ghost use Rattle.cs_tools.specs.Exports.{Shard, is_whole, piece_lines, shard_line};
 ghost use Rattle.cs_tools.specs.Repairs.{may_hide_root};
-ghost use Rattle.cs_tools.specs.Salvages.{AreAllFound, AreToldOf, IsInDoubt, IsJustThese, IsMeantBy, IsMeantSalvage, IsOfOtherLength, IsSalvaged, IsSure, IsToldOf, IsWholeScan, IsWrittenOut, MeansSalvage, Salvages, SaysFirst, Stands, dimensions_in};
+ghost use Rattle.cs_tools.specs.Salvages.{AreAllFound, AreToldOf, HasNoGeometry, IsInDoubt, IsJustThese, IsMeantBy, IsMeantSalvage, IsOfOtherLength, IsSalvaged, IsSure, IsToldOf, IsWholeScan, IsWrittenOut, MeansSalvage, Salvages, SaysFirst, Stands, dimensions_in};
 ghost use Rattle.cs_tools.specs.declared.outcomes.Outcome.TheVariants.{Damaged, Done, Failed};
 
 use crate::exports::{LINES, print_put, print_remark};
@@ -22,7 +23,7 @@ use crate::repairs::may_be_lost;
 use cs_disk::{DiskFault, PageDisk, refusal_of_disk};
 use cs_frame::{FormatFault, FormatNumber, Geometry, ShardId, Superblock, decode_section};
 use cs_inspect::{Progress, ids_from};
-use cs_mount::{Finding, find_geometry};
+use cs_mount::{Finding, find_geometry, two_stores};
 use cs_refusal::Refusal;
 use cs_salvage::{
     Finds, Missing, Naming, Rescue, Sought, Watcher, WholeShard, count_of, find_parts, lacking,
@@ -180,9 +181,8 @@ fn find_cut<D: PageDisk>(alloc: Global, disk: &mut D) -> Result<Option<Geometry>
 /// section is enough. If none is there, page 0 may say the geometry of a store on a device of another length: the file
 /// was cut, or lengthened.
 ///
-/// It is refused 43 NotAStore if there is neither, and if the device holds pages of two stores. It is refused 1
-/// DeviceFault, or 9 OutOfMemory.
-pub fn geometry_to_salvage<D: PageDisk>(alloc: Global, disk: &mut D) -> Result<Geometry, Refusal>
+/// It is refused 43 NotAStore if there is neither. It is refused 1 DeviceFault, or 9 OutOfMemory.
+fn geometry_to_salvage<D: PageDisk>(alloc: Global, disk: &mut D) -> Result<Geometry, Refusal>
     ensures geometry { D.honest disk.old → IfOk result (λ found. (dimensions_on (D.page_count disk.old) (seen (D.state disk.old)) ≡ Some found)
         ⊎ IsOfOtherLength (D.page_count disk.old) (seen (D.state disk.old)) found) }
     ensures refusals { IfErr result (λ r. (r ≡ Refusal.NotAStore) ⊎ (r ≡ Refusal.DeviceFault) ⊎ (r ≡ Refusal.OutOfMemory)) }
@@ -203,6 +203,34 @@ pub fn geometry_to_salvage<D: PageDisk>(alloc: Global, disk: &mut D) -> Result<G
     match find_cut(alloc, disk) {
         Ok(Some(geometry)) => Ok(geometry),
         Ok(None) => Err(Refusal::NotAStore),
+        Err(fault) => Err(refusal_of_disk(fault)),
+    }
+}
+
+/// The geometry by which a device of one store is salvaged: that of the store of format 4 that is there. One whole copy
+/// of the first section is enough. If none is there, page 0 may say the geometry of a store on a device of another
+/// length: the file was cut, or lengthened.
+///
+/// It is refused 43 NotAStore if there is neither, and if page 0 and the last page are of two stores: it isn't known
+/// which one is meant. It is refused 1 DeviceFault, or 9 OutOfMemory.
+pub fn geometry_of_one<D: PageDisk>(alloc: Global, disk: &mut D) -> Result<Geometry, Refusal>
+    ensures geometry { D.honest disk.old → IfOk result (λ found. (dimensions_on (D.page_count disk.old) (seen (D.state disk.old)) ≡ Some found)
+        ⊎ IsOfOtherLength (D.page_count disk.old) (seen (D.state disk.old)) found) }
+    // A device of two stores is refused, whatever page 0 says.
+    ensures one { D.honest disk.old → IfOk result (λ _. IsOfOne (D.page_count disk.old) (seen (D.state disk.old))) }
+    // It is refused 43 only if it is one of two stores, or if there is no geometry.
+    ensures no_store { D.honest disk.old → 0 < D.page_count disk.old → result ≡ Err Refusal.NotAStore
+        → AreOfTwo (D.page_count disk.old) (seen (D.state disk.old)) ⊎ HasNoGeometry (D.page_count disk.old) (seen (D.state disk.old)) }
+    ensures refusals { IfErr result (λ r. (r ≡ Refusal.NotAStore) ⊎ (r ≡ Refusal.DeviceFault) ⊎ (r ≡ Refusal.OutOfMemory)) }
+    ensures cause { IsCaused (D.failure_count disk.old) (D.failure_count disk.new) result }
+    ensures disk { OnlyReads D.PageDisk disk.old disk.new }
+{
+    if disk.pages() == 0 {
+        return Err(Refusal::NotAStore);
+    }
+    match two_stores(alloc, disk) {
+        Ok(None) => geometry_to_salvage(alloc, disk),
+        Ok(Some(_)) => Err(Refusal::NotAStore),
         Err(fault) => Err(refusal_of_disk(fault)),
     }
 }

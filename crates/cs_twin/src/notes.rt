@@ -173,6 +173,7 @@ impl Notes {
         ensures whole { (x : Pair) → slice_get pairs.now k ≡ Some x → OnOk result (0 < R.version rules.now x.page bytes.now) }
         ensures taken { D.honest disk.old → (x : Pair) → slice_get pairs.now k ≡ Some x → IsNewer (R.version rules.now) (seen (D.state disk.old)) x bytes.now → refused_of self.new ≡ refused_of self.old }
         ensures sound { OnOk result (IsUndoubted self.new) }
+        ensures unwritten { IsUndoubted self.old → IsErrOf result DiskFault.OutOfMemory → IsUndoubted self.new }
     {
         let pair = pairs[k];
         let version = match rules.version_of(pair.page, bytes) {
@@ -231,6 +232,7 @@ impl Notes {
         ensures whole { (x : Pair) → slice_get pairs.now k ≡ Some x → OnOk result (0 < R.version rules.now x.page bytes.now) }
         ensures taken { D.honest disk.old → IsUndoubted self.old → AreFenced (R.version rules.now) pairs.now (seen (D.state disk.old)) → (x : Pair) → slice_get pairs.now k ≡ Some x → IsNewer (R.version rules.now) (seen (D.state disk.old)) x bytes.now → refused_of self.new ≡ refused_of self.old }
         ensures sound { OnOk result (IsUndoubted self.new) }
+        ensures unwritten { IsUndoubted self.old → IsErrOf result DiskFault.OutOfMemory → IsUndoubted self.new }
     {
         match self.refresh(disk, rules, pairs) {
             Ok(()) => match self.trust {
@@ -298,6 +300,7 @@ impl Notes {
         ensures right { D.honest disk.new → AreRight (R.version rules.now) pairs.now self.new (D.state disk.new) }
         ensures cause { HasCause (failed (D.failure_count disk.old) self.old) (failed (D.failure_count disk.new) self.new) result }
         ensures refused { refused_of self.new ≡ refused_of self.old }
+        ensures sound { IsUndoubted self.old → OnOk result (IsUndoubted self.new) }
     {
         // Called for its contract alone: what is kept by a write and a flush.
         rules.keep();
@@ -341,6 +344,7 @@ impl Notes {
         ensures right { D.honest disk.new → AreRight (R.version rules.now) pairs.now self.new (D.state disk.new) }
         ensures cause { HasCause (failed (D.failure_count disk.old) self.old) (failed (D.failure_count disk.new) self.new) result }
         ensures refused { refused_of self.new ≡ refused_of self.old }
+        ensures sound { IsUndoubted self.old → OnOk result (IsUndoubted self.new) }
     {
         for k in 0..pairs.len() {
             match self.refill(disk, rules, pairs, k, filling) {
@@ -373,6 +377,7 @@ impl Notes {
         ensures right { D.honest disk.new → AreRight (R.version rules.now) pairs.now self.new (D.state disk.new) }
         ensures cause { HasCause (failed (D.failure_count disk.old) self.old) (failed (D.failure_count disk.new) self.new) result }
         ensures refused { IsUndoubted self.old → refused_of self.new ≡ refused_of self.old }
+        ensures sound { IsUndoubted self.old → OnOk result (IsUndoubted self.new) }
     {
         // Called for its contract alone: what is kept by a flush.
         rules.keep();

@@ -132,6 +132,8 @@ impl<D: PageDisk, R: PageRules> Paired<D, R> {
         ensures cause { HasCause (failures_of self.old) (failures_of self.new) result }
         // Where no write was in doubt it is refused by the disk below alone.
         ensures refusals { IsSound self.old → refusals_of self.new ≡ refusals_of self.old }
+        // It stays sound, so it goes on reading and writing pairs.
+        ensures sound { IsSound self.old → OnOk result (IsSound self.new) }
     {
         self.notes
             .fill_all(&mut self.disk, &self.rules, &self.pairs, Filling::Fence)
@@ -163,6 +165,8 @@ impl<D: PageDisk, R: PageRules> Paired<D, R> {
         ensures cause { HasCause (failures_of self.old) (failures_of self.new) result }
         // Where no write was in doubt it is refused by the disk below alone.
         ensures refusals { IsSound self.old → refusals_of self.new ≡ refusals_of self.old }
+        // It stays sound, so it goes on reading and writing pairs.
+        ensures sound { IsSound self.old → OnOk result (IsSound self.new) }
     {
         self.notes
             .fill_all(&mut self.disk, &self.rules, &self.pairs, Filling::Copy)

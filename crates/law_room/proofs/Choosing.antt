@@ -19,11 +19,11 @@ module _ (S : Shape) (J : ℕ) where
   last_apart o d e is other same = other (is ∙ ap (λ (x : ℕ). Some x) same)
 
   -- no more extents hold chunks after syncs; fewer do where one holds none any more
-  rested_few : (s t : Room) → IsRested S J s t → chunk_extents t S.extents ≤ chunk_extents s S.extents
+  pub rested_few : (s t : Room) → IsRested S J s t → chunk_extents t S.extents ≤ chunk_extents s S.extents
   rested_few s t rested = count_le (λ e. is_of_chunks (t.holds e)) (λ e. is_of_chunks (s.holds e)) S.extents
       (λ e lt on. ap is_of_chunks (rested.only e (chunks_is (t.holds e) on)))
 
-  rested_less : (s t : Room) (e : ℕ) → IsRested S J s t → e < S.extents → s.holds e ≡ OfChunks → (t.holds e ≡ OfChunks → ⊥)
+  pub rested_less : (s t : Room) (e : ℕ) → IsRested S J s t → e < S.extents → s.holds e ≡ OfChunks → (t.holds e ≡ OfChunks → ⊥)
       → chunk_extents t S.extents < chunk_extents s S.extents
   rested_less s t e rested lt is gone = count_less (λ d. is_of_chunks (t.holds d)) (λ d. is_of_chunks (s.holds d)) e S.extents lt
       (elim (cases_Bool (is_of_chunks (t.holds e))) [ inl on ↦ absurd (gone (chunks_is (t.holds e) on)) | inr off ↦ off ])
@@ -66,7 +66,7 @@ module _ (S : Shape) (J : ℕ) where
         omega (arith, few_first, few_second))
         (again.kept behind.place behind.chunks.1)
 
-    two_gain : chunk_extents u S.extents < chunk_extents s S.extents
+    pub two_gain : chunk_extents u S.extents < chunk_extents s S.extents
     two_gain =
         let few : chunk_extents w S.extents ≤ chunk_extents t S.extents = rested_few t w again in
         let less : chunk_extents t S.extents ≤ chunk_extents v S.extents = no_more S J v t a some rested.keeps first in

@@ -154,3 +154,18 @@ count_there f e (suc n) lt on = elim (cases_eq e n) [
   | inr other ↦ (let rest : 0 < how_many f n = count_there f e n (omega arith) on in
       let up : how_many f n ≤ how_many f (suc n) = omega arith in omega arith)
 ]
+
+-- one of the numbers below n is so, or none is
+pub find_below : (P : ℕ → Type 0) → ((e : ℕ) → P e ⊎ (P e → ⊥)) → (n : ℕ)
+    → ((e : ℕ) × (e < n) × P e) ⊎ ((e : ℕ) → e < n → P e → ⊥)
+find_below P test zero = inr (λ e lt is. omega arith)
+find_below P test (suc n) = ⊎_elim
+    (λ here. inl (n, omega arith, here))
+    (λ (not : P n → ⊥). ⊎_elim
+    (λ found. inl (found.0, (let lt : found.0 < n = found.1 in omega arith), found.2))
+    (λ (none : (e : ℕ) → e < n → P e → ⊥). inr (λ e lt is. elim (cases_eq e n) [
+      | inl same ↦ not (subst P same is)
+      | inr other ↦ none e (omega arith) is
+    ]))
+    (find_below P test n))
+    (test n)

@@ -1,3 +1,11 @@
+pub mod BrimDead
+pub mod BrimGain
+pub mod BrimKept
+pub mod BrimNumbers
+pub mod BrimRule
+pub mod BrimRuns
+pub mod BrimShare
+pub mod BrimPuts
 pub mod Choosing
 pub mod Chunks
 pub mod Counts
@@ -6,6 +14,8 @@ pub mod Gaining
 pub mod Given
 pub mod MachineAside
 pub mod MachineBlank
+pub mod MachineBrim
+pub mod MachineRule
 pub mod MachineChunks
 pub mod MachineCopies
 pub mod MachineCrash

@@ -53,6 +53,11 @@ runs_there x e is = go (x.pointer e == 0) (x.of_runs e) refl refl is
     go false true is_a is_b at = (grind (arith, nat_tests), is_b)
     go false false is_a is_b wrong = absurd (true≢false (sym wrong))
 
+-- where extents are filled up, any may be
+pub may_fill_all : (fills : Bool) (found : ℕ) → fills ≡ true → MayFill fills found
+may_fill_all true found is = tt
+may_fill_all false found is = absurd (true≢false (sym is))
+
 -- what the unfinished sweep holds, of extents and of room
 pub record IsSwept (S : Shape) (aside : ℕ → Bool) (x : Extents) (sweep : Option Sweep) : Type 0 where
   pub alone : (e : ℕ) → x.swept e ≡ false → x.fresh ≢ Some e → LeftAlone S sweep e
@@ -133,6 +138,16 @@ module _ (S : Shape) (aside : ℕ → Bool) (x : Extents) (r : Room) (of : AreEx
 
   pub pointer_is : (e : ℕ) → e < S.extents → aside e ≡ false → r.pointer e ≡ x.pointer e
   pointer_is e lt off = of.pointer e lt ∙ not_aside (aside e) 0 (x.pointer e) off
+
+  -- an extent of chunks of room is one of the machine, and isn't set aside
+  pub chunk_of : (e : ℕ) → e < S.extents → r.holds e ≡ OfChunks
+      → (aside e ≡ false) × (0 < x.pointer e) × (x.of_runs e ≡ false)
+  chunk_of e lt is = go (aside e) refl (ap is_of_chunks (sym (of.holds e lt) ∙ is))
+    where
+      go : (b : Bool) → aside e ≡ b → is_of_chunks (if b then Empty else holding x e) ≡ true
+          → (aside e ≡ false) × (0 < x.pointer e) × (x.of_runs e ≡ false)
+      go true at wrong = absurd (true≢false (sym wrong))
+      go false at there = (let found = chunks_there x e there in (at, found.0, found.1))
 
   -- no more extents of room hold runs
   pub runs_counted : (n : ℕ) → n ≤ S.extents → run_extents r n ≤ machine_runs x n

@@ -11,7 +11,7 @@ use Rattle.law_machine.specs.Element.{Copy, Locator, Opening}
 use Rattle.law_machine.specs.Extents.{Extents, ForMove, GoesApart, MayFill, Takes, fresh_by, taken_by}
 use Rattle.law_machine.specs.Formats.{Formats}
 use Rattle.law_machine.specs.Lists.{nth}
-use Rattle.law_room.proofs.MachineGoes.{empty_here, empty_still, filled_grows, filled_here, holds_given, holds_runs, pointer_given, pointer_is}
+use Rattle.law_room.proofs.MachineGoes.{chunk_of, empty_here, empty_still, filled_grows, filled_here, holds_given, holds_runs, may_fill_all, pointer_given, pointer_is}
 use Rattle.law_room.specs.Events.{GoesForCopy, TakesCopy, unless, with_copy}
 use Rattle.law_room.specs.OfMachine.{AreChunksOf, AreExtentsOf, IsChunkOf, IsFilled, copied_to, either_of, holding, is_copy_of, of_id}
 use Rattle.law_room.specs.Rooms.{Chunk, OfChunks, Room, Sweep}
@@ -48,6 +48,19 @@ module _ (S : Shape) (x : Extents) (r : Room) (of : AreExtentsOf S (λ (e : ℕ)
         ),
       )
 
+  -- where extents are filled up, what takes it in room does so in the machine
+  takes_filled : (k e : ℕ) → S.fills ≡ true → TakesCopy S r w k e → Takes S x ForMove k e
+  takes_filled k e filled takes =
+      let there = chunk_of S (λ (d : ℕ). false) x r of e takes.0.0 takes.0.1 in
+      let fits : r.pointer e + k ≤ S.pages = takes.0.2 in
+      let same : r.pointer e ≡ x.pointer e = pointer_is S (λ (d : ℕ). false) x r of e takes.0.0 refl in (
+        (takes.0.0, there.1, there.2, omega arith, may_fill_all S.fills (x.found e) filled),
+        elim (cases_Bool (x.swept e)) [
+          | inl on ↦ absurd (takes.1 (one e w.extent on swept))
+          | inr off ↦ off
+        ],
+      )
+
   still_fresh : (k e : ℕ) → 0 < x.pointer e → fresh_by S true ForMove x e x.fresh ≡ w.fresh
   still_fresh k e some = let test : (x.pointer e == 0) ≡ false = ne_eqb (x.pointer e) 0 (λ none. omega arith) in
       rw test (sym fresh)
@@ -65,6 +78,7 @@ module _ (S : Shape) (x : Extents) (r : Room) (of : AreExtentsOf S (λ (e : ℕ)
     (first.0, empty_here S (λ (d : ℕ). false) x r of e first.0 first.1, fits),
     fresh ∙ more,
     rw first.1 refl,
+    (λ filled d takes. none d (takes_filled k d filled takes)),
   ))
 
   -- e is there, has no runs, isn't being swept and may be filled up

@@ -14,7 +14,7 @@ use Rattle.law_machine.specs.Frames.{IsFormat}
 use Rattle.law_machine.specs.Lists.{with, ◌∈◌}
 use Rattle.law_machine.specs.Machine.{World}
 use Rattle.law_room.proofs.Counts.{count_le, count_more}
-use Rattle.law_room.proofs.MachineGoes.{IsSwept, chunks_counted, empty_here, empty_still, filled_grows, filled_here, holds_given, holds_runs, pointer_given, pointer_here, pointer_is, unless_some, unless_stays}
+use Rattle.law_room.proofs.MachineGoes.{IsSwept, chunk_of, chunks_counted, empty_here, empty_still, filled_grows, filled_here, holds_given, holds_runs, may_fill_all, pointer_given, pointer_here, pointer_is, unless_some, unless_stays}
 use Rattle.law_room.specs.Events.{GoesForPut, TakesPut, Writes, unless, with_chunk}
 use Rattle.law_room.specs.OfMachine.{AreExtentsOf, IsFilled, holding}
 use Rattle.law_room.specs.Rooms.{Chunk, OfChunks, Room, chunk_extents, is_of_chunks, opened_by}
@@ -52,6 +52,18 @@ module _ (S : Shape) (aside : ℕ → Bool) (x : Extents) (r : Room) (of : AreEx
         ),
       )
 
+  -- where extents are filled up, what takes it in room does so in the machine
+  pub takes_filled : (k e : ℕ) → S.fills ≡ true → TakesPut S r k e → Takes S x ForPut k e
+  takes_filled k e filled takes =
+      let there = chunk_of S aside x r of e takes.0.0 takes.0.1 in
+      let left = held.left e takes.0.0 takes.1 in
+      let fits : r.pointer e + k ≤ S.pages = takes.0.2 in
+      let same : r.pointer e ≡ x.pointer e = pointer_is S aside x r of e takes.0.0 there.0 in (
+        (takes.0.0, there.1, there.2, omega arith, may_fill_all S.fills (x.found e) filled),
+        left.0,
+        λ fresh. true≢false (sym (left.1 fresh) ∙ there.0),
+      )
+
   -- where a frame of a put goes in the machine
   pub put_goes : (k e : ℕ) → GoesApart S x ForPut k e → GoesForPut S r k e
   put_goes k e (inl (is, takes)) = inl (
@@ -65,6 +77,7 @@ module _ (S : Shape) (aside : ℕ → Bool) (x : Extents) (r : Room) (of : AreEx
   put_goes k e (inr (inr (none, first, fits, more))) = inr (inr (
     (λ d is takes. (let m = takes_machine k d is takes in none d m.1)),
     (first.0, empty_here S aside x r of e first.0 first.1, fits),
+    (λ filled d takes. none d (takes_filled k d filled takes)),
   ))
 
   -- the extent where it goes, and what lies there

@@ -73,7 +73,7 @@ module _ (S : Shape) (aside : ℕ → Bool) (x : Extents) (r : Room) (of : AreEx
   one_at_most None = omega arith
   one_at_most (Some e) = omega arith
 
-  none_takes : (k : ℕ) → ((e : ℕ) → GoesApart S x ForPut k e → ⊥) → (n d : ℕ) → d < n → Takes S x ForPut k d → ⊥
+  pub none_takes : (k : ℕ) → ((e : ℕ) → GoesApart S x ForPut k e → ⊥) → (n d : ℕ) → d < n → Takes S x ForPut k d → ⊥
   none_takes k none zero d lt takes = absurd (omega arith)
   none_takes k none (suc n) d lt takes = none d (inr (inl (
     (λ c noted there. none c (inl (noted, there))),
@@ -81,7 +81,7 @@ module _ (S : Shape) (aside : ℕ → Bool) (x : Extents) (r : Room) (of : AreEx
   )))
 
   -- a frame goes somewhere while one extent more may hold chunks
-  frame_goes : (k : ℕ) → k ≤ S.pages → suc (chunk_extents r S.extents) + S.run_extents + 2 ≤ S.extents
+  pub frame_goes : (k : ℕ) → k ≤ S.pages → suc (chunk_extents r S.extents) + S.run_extents + 2 ≤ S.extents
       → run_extents r S.extents ≤ S.run_extents → (e : ℕ) × GoesApart S x ForPut k e
   frame_goes k fits few runs = ⊎_elim (λ (at : (e : ℕ) × GoesApart S x ForPut k e). at)
       (λ (none : (e : ℕ) → GoesApart S x ForPut k e → ⊥). absurd (full none))
@@ -140,7 +140,7 @@ module _ (S : Shape) (F : Formats) (shape : IsShape S) (format : IsFormat S F) (
       go d true wrong = absurd (true≢false (sym wrong))
       go d false on = on
 
-  up : (f : ℕ → ℕ) (e k d : ℕ) → 0 < f d → 0 < with f e (f e + k) d
+  pub up : (f : ℕ → ℕ) (e k d : ℕ) → 0 < f d → 0 < with f e (f e + k) d
   up f e k d some = elim (cases_eq d e) [
     | inl same ↦ (let is : with f e (f e + k) d ≡ f e + k = with_same f e (f e + k) d same in
         let at : f d ≡ f e = ap f same in omega arith)

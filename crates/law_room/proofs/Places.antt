@@ -7,7 +7,7 @@ use Rattle.law_machine.specs.Lists.{◌∈◌}
 use Rattle.law_room.specs.Events.{GoesForCopy, IsLeft, LastIsFull, OnEmpty, TakesCopy}
 use Rattle.law_room.specs.Invariant.{IsSweep, Keeps, SweepsRight}
 use Rattle.law_room.specs.Rooms.{Chunk, Empty, Holding, Room, Sweep, chunk_extents, copied_pages, is_of_chunks, left_pages, live_pages, one_if, opened_by, pages_of, run_extents}
-use Rattle.law_room.proofs.Counts.{chunks_is, empty_there}
+use Rattle.law_room.proofs.Counts.{chunks_is, empty_there, find_below}
 use Rattle.law_room.proofs.Chunks.{left_le, sum_on}
 
 module _ (S : Shape) (J : ℕ) where
@@ -96,8 +96,20 @@ module _ (S : Shape) (J : ℕ) where
           (f, w.fresh, inl (fresh.1, ((target.0, target.1, omega (arith, small)), target.2), refl))
       go None at = ⊎_elim
           (λ takes. (takes.0, w.fresh, inl (takes.1, takes.2, refl)))
-          (λ full.
+          (λ full. ⊎_elim
+          (λ found. (found.0, w.fresh, inr (inl (full, found.2, refl))))
+          (λ (none : (e : ℕ) → e < S.extents → TakesCopy S s w c.pages e → ⊥).
           let empty = some_empty s keeps in
-          let all : left_pages s.chunks w.extent ≤ S.pages = left_fits s w keeps sweep in
-          (empty.0, Some empty.0, inr (inr (full, (empty.1, empty.2, omega (arith, small)), at, refl))))
+          let all : left_pages s.chunks w.extent ≤ S.pages = left_fits s w keeps sweep in (
+            empty.0,
+            Some empty.0,
+            inr (inr (
+              full,
+              (empty.1, empty.2, omega (arith, small)),
+              at,
+              refl,
+              (λ filled e takes. none e takes.0.0 takes),
+            )),
+          ))
+          (find_below (TakesCopy S s w c.pages) (takes_or_not s w c.pages) S.extents))
           (last_or_not s w c.pages s.last refl)

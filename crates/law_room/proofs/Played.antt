@@ -1,5 +1,5 @@
 -- The events of the examples, one after another.
-use Rattle.std.proofs.Common.{◌≡◌, inl, inr, ⊎_elim, ℕ, false, List, [], ◌∷◌, drop, ◌==◌, Option, Some, None, refl, sym, ap, ◌∙◌, arith}
+use Rattle.std.proofs.Common.{◌≡◌, inl, inr, ⊎_elim, ℕ, true, false, List, [], ◌∷◌, drop, ◌==◌, Option, Some, None, refl, sym, ap, ◌∙◌, arith}
 use Rattle.std.specs.Prelude.{is_some}
 use Rattle.std.proofs.lemmas.Bool.{true≢false}
 use Rattle.law_room.specs.Events.{Does, MoveOne, Put, Retire, Stage, abandoned, dropped, given, settled, staged, unless, with_chunk, with_copy}
@@ -41,8 +41,12 @@ two_moved s = with_copy example_shape s (sweep_of_0 (Some 2) (2 ∷ [])) (stored
 abbrev last_moved : Room
 last_moved = two_moved (one_moved (swept_0 (run_on_1 two_put)))
 
+-- extents of the example aren't filled up
+no_fill : {A : Type 0} → example_shape.fills ≡ true → A
+no_fill is = absurd (true≢false (sym is))
+
 pub put_1 : Does example_shape 1 new_room (Put 1 (1 ∷ [])) (put_on_0 new_room 1)
-put_1 = ((0, inr (inr ((λ e is. absurd (nothing e is)), (omega arith, refl, omega arith))), refl), omega arith)
+put_1 = ((0, inr (inr ((λ e is. absurd (nothing e is)), (omega arith, refl, omega arith), (λ is. no_fill is))), refl), omega arith)
 
 put_2 : Does example_shape 1 (put_on_0 new_room 1) (Put 2 (1 ∷ [])) two_put
 put_2 = ((0, inl (refl, ((omega arith, refl, omega arith), λ w is. absurd (nothing w is))), refl), omega arith)
@@ -61,7 +65,7 @@ move_1 = (
   refl,
   refl,
   (refl, refl),
-  inr (inr ((λ e is. absurd (nothing e is)), (omega arith, refl, omega arith), refl, refl)),
+  inr (inr ((λ e is. absurd (nothing e is)), (omega arith, refl, omega arith), refl, refl, (λ is. no_fill is))),
   refl,
 )
 
@@ -138,7 +142,7 @@ move = (
   refl,
   refl,
   (refl, refl),
-  inr (inr ((λ e is. absurd (nothing e is)), (omega arith, refl, omega arith), refl, refl)),
+  inr (inr ((λ e is. absurd (nothing e is)), (omega arith, refl, omega arith), refl, refl, (λ is. no_fill is))),
   refl,
 )
 

@@ -142,7 +142,7 @@ module _ (S : Shape) (J : ℕ) where
       (pairs_gain n n s t some keeps large few swept)
 
   -- two extents of chunks are there, so two with the least are
-  least_pair : (s : Room) → 2 ≤ chunk_extents s S.extents → (a : ℕ) × (b : ℕ) × IsLeastPair S J s a b
+  pub least_pair : (s : Room) → 2 ≤ chunk_extents s S.extents → (a : ℕ) × (b : ℕ) × IsLeastPair S J s a b
   least_pair s two =
       let test : ℕ → Bool = (λ e. is_of_chunks (s.holds e)) in
       let first = least_of (λ e. is_of_chunks (s.holds e)) (live_pages s.chunks) S.extents (omega arith) in

@@ -2,12 +2,9 @@
 use Rattle.std.proofs.Common.{◌≡◌, ◌≢◌, ◌⊎◌, inl, inr, ⊎_elim, ℕ, zero, suc, ◌+◌, ◌*◌, ◌<◌, ◌≤◌, ◌==◌, Bool, true, false, if◌then◌else◌, List, [], ◌∷◌, le_refl, refl, sym, ap, ◌∙◌, subst, arith}
 use Rattle.std.proofs.lemmas.Bool.{cases_Bool, cases_eq, cases_lt, eq-eqb, ne_eqb, true≢false}
 use Rattle.law_machine.specs.Lists.{◌∈◌}
+pub use Rattle.law_room.specs.Brim.{sum_to}
 use Rattle.law_room.specs.Rooms.{Chunk, all_pages, how_many, live_pages}
 use Rattle.law_room.proofs.Counts.{count_more, count_no, count_there, count_yes}
-
-abbrev pub sum_to : (ℕ → ℕ) → ℕ → ℕ
-sum_to h zero = 0
-sum_to h (suc n) = h n + sum_to h n
 
 -- h and f but for a
 abbrev pub except : (ℕ → ℕ) → ℕ → ℕ → ℕ
@@ -63,6 +60,65 @@ pub times : (a b q : ℕ) → a ≤ b → a * q ≤ b * q
 times zero b q le = omega arith
 times (suc a) zero q le = absurd (omega arith)
 times (suc a) (suc b) q le = (let rest : a * q ≤ b * q = times a b q (omega arith) in omega arith)
+
+pub sum_le : (h g : ℕ → ℕ) (n : ℕ) → ((e : ℕ) → e < n → h e ≤ g e) → sum_to h n ≤ sum_to g n
+sum_le h g zero each = omega arith
+sum_le h g (suc n) each = let rest : sum_to h n ≤ sum_to g n = sum_le h g n (λ e lt. each e (omega arith)) in
+    let here : h n ≤ g n = each n (omega arith) in omega arith
+
+-- p has at most k more
+pub sum_more : (h g : ℕ → ℕ) (p k n : ℕ) → ((e : ℕ) → e < n → e ≢ p → h e ≤ g e) → h p ≤ g p + k
+    → sum_to h n ≤ sum_to g n + k
+sum_more h g p k zero each more = omega arith
+sum_more h g p k (suc n) each more = elim (cases_eq n p) [
+  | inl same ↦ (
+      let here : h n ≤ g n + k = subst (λ (x : ℕ). h x ≤ g x + k) (sym same) more in
+      let rest : sum_to h n ≤ sum_to g n = sum_le h g n (λ e lt. each e (omega arith) (λ is. absurd (omega arith))) in
+      omega arith)
+  | inr other ↦ (
+      let here : h n ≤ g n = each n (omega arith) other in
+      let rest : sum_to h n ≤ sum_to g n + k = sum_more h g p k n (λ e lt. each e (omega arith)) more in omega arith)
+]
+
+pub sum_nothing : (h : ℕ → ℕ) (n : ℕ) → ((e : ℕ) → e < n → h e ≡ 0) → sum_to h n ≡ 0
+sum_nothing h zero none = refl
+sum_nothing h (suc n) none = let rest : sum_to h n ≡ 0 = sum_nothing h n (λ e lt. none e (omega arith)) in
+    let here : h n ≡ 0 = none n (omega arith) in omega arith
+
+pub sum_some : (h : ℕ → ℕ) (n : ℕ) → 0 < sum_to h n → (e : ℕ) × (e < n) × (0 < h e)
+sum_some h zero some = absurd (omega arith)
+sum_some h (suc n) some = elim (cases_lt 0 (h n)) [
+  | inl here ↦ (n, omega arith, here)
+  | inr none ↦ (let found = sum_some h n (omega arith) in
+      (found.0, (let lt : found.0 < n = found.1 in omega arith), found.2))
+]
+
+-- p has none
+pub sum_less : (h g : ℕ → ℕ) (p n : ℕ) → p < n → ((e : ℕ) → e < n → h e ≤ g e) → h p ≡ 0 → sum_to h n + g p ≤ sum_to g n
+sum_less h g p zero lt each none = absurd (omega arith)
+sum_less h g p (suc n) lt each none = elim (cases_eq p n) [
+  | inl same ↦ (
+      let rest : sum_to h n ≤ sum_to g n = sum_le h g n (λ e l. each e (omega arith)) in
+      let here : h n ≡ 0 = ap h (sym same) ∙ none in
+      let at : g p ≡ g n = ap g same in omega arith)
+  | inr other ↦ (
+      let rest : sum_to h n + g p ≤ sum_to g n = sum_less h g p n (omega arith) (λ e l. each e (omega arith)) none in
+      let here : h n ≤ g n = each n (omega arith) in omega arith)
+]
+
+-- each number that passes the test has at least q
+pub sum_times : (f : ℕ → Bool) (h : ℕ → ℕ) (q n : ℕ) → ((e : ℕ) → e < n → f e ≡ true → q ≤ h e)
+    → how_many f n * q ≤ sum_to h n
+sum_times f h q zero each = omega arith
+sum_times f h q (suc n) each =
+    let rest : how_many f n * q ≤ sum_to h n = sum_times f h q n (λ e lt. each e (omega arith)) in
+    elim (cases_Bool (f n)) [
+      | inl on ↦ (let a : how_many f (suc n) * q ≡ suc (how_many f n) * q = ap (λ (k : ℕ). k * q) (count_yes f n on) in
+          let b : suc (how_many f n) * q ≡ how_many f n * q + q = omega arith in
+          let here : q ≤ h n = each n (omega arith) on in omega arith)
+      | inr off ↦ (let a : how_many f (suc n) * q ≡ how_many f n * q = ap (λ (k : ℕ). k * q) (count_no f n off) in
+          omega arith)
+    ]
 
 -- each number that passes the test has at least half of q
 pub sum_bound : (f : ℕ → Bool) (h : ℕ → ℕ) (q n : ℕ) → ((e : ℕ) → e < n → f e ≡ true → q ≤ 2 * h e)
@@ -176,7 +232,7 @@ point_one x p (suc n) = elim (cases_eq x n) [
       let here : point x p n ≡ 0 = rw off in omega arith)
 ]
 
-sum_plus : (g h : ℕ → ℕ) (n : ℕ) → sum_to (λ e. g e + h e) n ≡ sum_to g n + sum_to h n
+pub sum_plus : (g h : ℕ → ℕ) (n : ℕ) → sum_to (λ e. g e + h e) n ≡ sum_to g n + sum_to h n
 sum_plus g h zero = refl
 sum_plus g h (suc n) = let rest : sum_to (λ e. g e + h e) n ≡ sum_to g n + sum_to h n = sum_plus g h n in omega arith
 

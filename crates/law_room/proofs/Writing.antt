@@ -11,15 +11,15 @@ use Rattle.law_room.specs.Invariant.{Keeps}
 use Rattle.law_room.specs.Rooms.{Holding, OfChunks, Room, Sweep, chunk_extents, is_of_chunks, run_extents}
 use Rattle.law_room.specs.Sweeps.{FillsAtMost}
 use Rattle.law_room.proofs.Gaining.{some_sweep}
-use Rattle.law_room.proofs.Counts.{chunks_is, count_le, count_more, empty_there}
+use Rattle.law_room.proofs.Counts.{chunks_is, count_le, count_more, empty_there, find_below}
 use Rattle.law_room.proofs.Given.{empty_alone, write_all, Orderly, drop_one, holds_here, holds_there, orderly, pointer_here, put_one}
 
-sum_is : (k : ℕ) (ks : List ℕ) → sum (k ∷ ks) ≡ k + sum ks
+pub sum_is : (k : ℕ) (ks : List ℕ) → sum (k ∷ ks) ≡ k + sum ks
 sum_is k ks = sum_by-cons (λ (x : ℕ). x) k ks
 
 module _ (S : Shape) (J : ℕ) where
   -- a frame more takes at most one extent more
-  one_write : (s : Room) (id k e : ℕ)
+  pub one_write : (s : Room) (id k e : ℕ)
       → chunk_extents (with_chunk S s id k e) S.extents ≤ suc (chunk_extents s S.extents)
   one_write s id k e = count_more (λ d. is_of_chunks ((given s e k OfChunks).holds d)) (λ d. is_of_chunks (s.holds d)) e
       S.extents (λ d lt on. elim (cases_eq d e) [
@@ -28,7 +28,7 @@ module _ (S : Shape) (J : ℕ) where
       ])
 
   -- and none where it goes behind chunks
-  same_write : (s : Room) (id k e : ℕ) → s.holds e ≡ OfChunks
+  pub same_write : (s : Room) (id k e : ℕ) → s.holds e ≡ OfChunks
       → chunk_extents (with_chunk S s id k e) S.extents ≤ chunk_extents s S.extents
   same_write s id k e is = count_le (λ d. is_of_chunks ((given s e k OfChunks).holds d)) (λ d. is_of_chunks (s.holds d))
       S.extents (λ d lt on. elim (cases_eq d e) [
@@ -146,7 +146,7 @@ module _ (S : Shape) (J : ℕ) where
       (subst (λ (x : List ℕ). Writes S (dropped s id) id x t) (sym parts.1) writes) in (writes, omega arith)
 
   -- where a frame goes
-  some_or_not : (o : Option ℕ) (e : ℕ) → (o ≡ Some e) ⊎ (o ≡ Some e → ⊥)
+  pub some_or_not : (o : Option ℕ) (e : ℕ) → (o ≡ Some e) ⊎ (o ≡ Some e → ⊥)
   some_or_not None e = inr (λ is. let wrong : None ≡ Some e = is in cc)
   some_or_not (Some d) e = elim (cases_eq d e) [
     | inl same ↦ inl (ap (λ (x : ℕ). Some x) same)
@@ -164,7 +164,7 @@ module _ (S : Shape) (J : ℕ) where
         (some_or_not v.fresh e)
   ]
 
-  takes_or_not : (s : Room) (k e : ℕ) → TakesPut S s k e ⊎ (TakesPut S s k e → ⊥)
+  pub takes_or_not : (s : Room) (k e : ℕ) → TakesPut S s k e ⊎ (TakesPut S s k e → ⊥)
   takes_or_not s k e = elim (cases_lt e S.extents) [
     | inr out ↦ inr (λ takes. let lt : e < S.extents = takes.0.0 in omega arith)
     | inl lt ↦ elim (cases_Bool (is_of_chunks (s.holds e))) [
@@ -185,14 +185,30 @@ module _ (S : Shape) (J : ℕ) where
       (subst (λ (x : ℕ). TakesPut S s k x) (sym (some_number d e (sym is ∙ at))) takes)))
       (takes_or_not s k d)
 
+  -- it goes behind chunks, or it fits behind none
+  pub put_behind : (s : Room) (k : ℕ)
+      → ((e : ℕ) × GoesForPut S s k e × (s.holds e ≡ OfChunks)) ⊎ ((e : ℕ) → TakesPut S s k e → ⊥)
+  put_behind s k = ⊎_elim
+      (λ takes. inl (takes.0, inl (takes.1, takes.2), takes.2.0.1))
+      (λ full. ⊎_elim
+      (λ found. inl (found.0, inr (inl (full, found.2)), found.2.0.1))
+      (λ (none : (e : ℕ) → e < S.extents → TakesPut S s k e → ⊥). inr (λ e takes. none e takes.0.0 takes))
+      (find_below (TakesPut S s k) (takes_or_not s k) S.extents))
+      (open_or_not s k s.open_extent refl)
+
+  -- then it goes to an empty extent
+  pub put_empty : (s : Room) (k : ℕ) → Orderly S J s → chunk_extents s S.extents + J < S.extents → k ≤ S.pages
+      → ((e : ℕ) → TakesPut S s k e → ⊥) → (e : ℕ) × GoesForPut S s k e
+  put_empty s k keeps left fits none = let runs : run_extents s S.extents ≤ J = keeps.runs in
+      let empty = empty_there s.holds S.extents (omega arith) in
+      (empty.0, inr (inr ((λ e is takes. none e takes), (empty.1, empty.2, fits), (λ filled e takes. none e takes))))
+
   put_goes : (s : Room) (k : ℕ) → Orderly S J s → chunk_extents s S.extents + J < S.extents → k ≤ S.pages
       → (e : ℕ) × GoesForPut S s k e
   put_goes s k keeps left fits = ⊎_elim
-      (λ takes. (takes.0, inl (takes.1, takes.2)))
-      (λ full. let runs : run_extents s S.extents ≤ J = keeps.runs in
-      let empty = empty_there s.holds S.extents (omega arith) in
-      (empty.0, inr (inr (full, (empty.1, empty.2, fits)))))
-      (open_or_not s k s.open_extent refl)
+      (λ behind. (behind.0, behind.1))
+      (λ none. put_empty s k keeps left fits none)
+      (put_behind s k)
 
   rest_there : (ks : List ℕ) (s : Room) (id e : ℕ) → GoesOn s e ks → (t : Room) × Writes S s id ks t
   rest_there [] s id e on = (s, refl)

@@ -133,12 +133,17 @@ module _ (S : Shape) where
   abbrev pub OpenIsFull : Room → ℕ → Type 0
   OpenIsFull s k = (e : ℕ) → s.open_extent ≡ Some e → TakesPut s k e → ⊥
 
-  -- a put's frame of k pages goes behind the last one, where it doesn't fit there behind other chunks or on an empty extent
+  -- where extents are filled up, it fits behind no extent
+  abbrev pub NoneTakesPut : Room → ℕ → Type 0
+  NoneTakesPut s k = S.fills ≡ true → (e : ℕ) → TakesPut s k e → ⊥
+
+  -- a put's frame of k pages goes behind the last one; if it doesn't fit there, behind other chunks; or on an empty extent, where
+  -- extents are filled up only if it fits behind none
   abbrev pub GoesForPut : Room → (k e : ℕ) → Type 0
   GoesForPut s k e =
       ((s.open_extent ≡ Some e) × TakesPut s k e)
       ⊎ (OpenIsFull s k × TakesPut s k e)
-      ⊎ (OpenIsFull s k × OnEmpty s k e)
+      ⊎ (OpenIsFull s k × OnEmpty s k e × NoneTakesPut s k)
 
   -- the frame of a put's chunk is written to e
   abbrev pub with_chunk : Room → (id k e : ℕ) → Room
@@ -164,13 +169,17 @@ module _ (S : Shape) where
   abbrev pub LastIsFull : Room → Sweep → ℕ → Type 0
   LastIsFull s w k = (e : ℕ) → s.last ≡ Some e → TakesCopy s w k e → ⊥
 
-  -- a copy of k pages goes behind the last one, where it doesn't fit there behind other chunks or on an empty extent; the sweep
-  -- has opened none, or this one
+  -- where extents are filled up, it fits behind no extent
+  abbrev pub NoneTakesCopy : Room → Sweep → ℕ → Type 0
+  NoneTakesCopy s w k = S.fills ≡ true → (e : ℕ) → TakesCopy s w k e → ⊥
+
+  -- a copy of k pages goes behind the last one; if it doesn't fit there, behind other chunks; or on an empty extent, where extents
+  -- are filled up only if it fits behind none. The sweep has opened none, or this one
   abbrev pub GoesForCopy : Room → Sweep → (k e : ℕ) → Option ℕ → Type 0
   GoesForCopy s w k e fresh =
       ((s.last ≡ Some e) × TakesCopy s w k e × (fresh ≡ w.fresh))
       ⊎ (LastIsFull s w k × TakesCopy s w k e × (fresh ≡ w.fresh))
-      ⊎ (LastIsFull s w k × OnEmpty s k e × (w.fresh ≡ None) × (fresh ≡ Some e))
+      ⊎ (LastIsFull s w k × OnEmpty s k e × (w.fresh ≡ None) × (fresh ≡ Some e) × NoneTakesCopy s w k)
 
   -- the copy of a chunk is written to e. The chunk itself lies where it lay
   abbrev pub with_copy : Room → Sweep → (before : List Chunk) → Chunk → (behind : List Chunk) → ℕ → Option ℕ → Room

@@ -1,3 +1,5 @@
+pub mod Brim
+pub mod BrimOfMachine
 pub mod Events
 pub mod Example
 pub mod Invariant

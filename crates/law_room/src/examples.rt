@@ -3,6 +3,7 @@ ghost use Rattle.law_machine.specs.Device.{IsShape, Shape};
 ghost use Rattle.law_machine.specs.Example.{telling_format};
 ghost use Rattle.law_machine.specs.Frames.{IsFormat};
 ghost use Rattle.law_machine.specs.State.{State};
+ghost use Rattle.law_room.specs.Brim.{FitBeside};
 ghost use Rattle.law_room.specs.Example.{Plays, example_abandoned, example_events, example_opened, example_root, example_shape, new_room};
 ghost use Rattle.law_room.specs.Invariant.{Keeps};
 ghost use Rattle.law_room.specs.Lives.{IsFormatWithRoom, IsMade, Lives};
@@ -32,4 +33,13 @@ pub fn formats_with_room_exist()
         × ChunksFit S (telling_format S) }
     ensures made { (S : Shape) → IsShape S → S.apart ≡ true → 1 ≤ S.greatest_number → 0 < S.greatest_generation
         → (s : State) × IsMade S (telling_format S) s × Lives S (telling_format S) s [] s }
+{}
+
+/// With 64 extents of 256 pages, two of which may hold runs, 60 may hold chunks. A put of one page has room beside all of
+/// their pages but one; a put of eight frames of 33 pages has room beside 80 % of all pages.
+pub fn how_much_may_live_beside_a_put()
+    ensures page { (S : Shape) → S.extents ≡ 64 → S.pages ≡ 256 → FitBeside S 2 15359 (1 ∷ []) }
+    ensures no_more { (S : Shape) → S.extents ≡ 64 → S.pages ≡ 256 → FitBeside S 2 15360 (1 ∷ []) → ⊥ }
+    ensures eight { (S : Shape) → S.extents ≡ 64 → S.pages ≡ 256
+        → FitBeside S 2 13208 (33 ∷ 33 ∷ 33 ∷ 33 ∷ 33 ∷ 33 ∷ 33 ∷ 33 ∷ []) }
 {}

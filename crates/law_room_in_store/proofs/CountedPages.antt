@@ -35,9 +35,11 @@ use Rattle.cs_core.proofs.Gets.{newest_there}
 use Rattle.cs_core.specs.States.{IsStateOf}
 use Rattle.cs_core.specs.Stored.{Stored}
 use Rattle.law_room.specs.OfMachine.{AreChunksOf, HasPages, IsRoomOf, copies_now, of_id}
+use Rattle.law_room.specs.Brim.{greatest_chunk}
 use Rattle.law_room.specs.Rooms.{Chunk, Room, live_pages}
-use Rattle.law_room_in_store.proofs.HeadSums.{AllMatched, AtLeast, Exactly, Matched, all_exact, all_least}
+use Rattle.law_room_in_store.proofs.HeadSums.{AllMatched, AtLeast, Exactly, Matched, all_exact, all_least, greatest_exact}
 use Rattle.cs_inspect.specs.Chunks.{AreLiveChunks, Chunk as Listed, chunks_from}
+use Rattle.cs_inspect.specs.Brim.{greatest_in}
 use Rattle.cs_inspect.specs.Uses.{head_of, heads_of, live_on, pages_counted, pages_in, unless_fault, unreadable_on}
 
 live_of_merged : (o : Option (List Place)) → live (if_live o) ≡ live o
@@ -201,3 +203,8 @@ module _ (v : Stored) (whole : IsWhole v.extents) (graph : IsWholeGraph v.graph)
       live_exactly sane e = subst (λ (cs : List Listed). (live_pages r.chunks e ≡ live_on e (heads_of x view cs))
           × (unreadable_on e (heads_of x view cs) ≡ 0)) (sym are_live.2)
           (all_exact (head_of x view) e entries r.chunks are_live.1.0 (all_as_said sane))
+
+      -- the greatest of them is the greatest that headers count
+      pub greatest_exactly : NoneDamaged (map_now s) → greatest_chunk r.chunks ≡ greatest_in (heads_of x view chunks)
+      greatest_exactly sane = subst (λ (cs : List Listed). greatest_chunk r.chunks ≡ greatest_in (heads_of x view cs)) (sym are_live.2)
+          (greatest_exact (head_of x view) entries r.chunks are_live.1.0 (all_as_said sane))

@@ -1,5 +1,5 @@
 -- What headers count of chunks, and what room has of them.
-use Rattle.std.proofs.Common.{◌≡◌, inl, inr, ℕ, ◌+◌, ◌≤◌, ◌==◌, Bool, true, false, List, [], ◌∷◌, ◌++◌, Option, Some, map, if◌then◌else◌, eq-eqb, ne_eqb, add_assoc, le_refl, refl, sym, ap, ap₂, ◌∙◌, subst, arith}
+use Rattle.std.proofs.Common.{◌≡◌, inl, inr, ℕ, ◌+◌, ◌≤◌, ◌==◌, max, Bool, true, false, List, [], ◌∷◌, ◌++◌, Option, Some, map, if◌then◌else◌, eq-eqb, ne_eqb, add_assoc, le_refl, refl, sym, ap, ap₂, ◌∙◌, subst, arith}
 use Rattle.std.proofs.lemmas.Bool.{cases_eq}
 use Rattle.law_machine.proofs.Counting.{none_below}
 use Rattle.law_machine.specs.Element.{Entry}
@@ -9,8 +9,10 @@ use Rattle.law_room.proofs.Chunks.{sum_append}
 use Rattle.law_room.proofs.MachineBlank.{in_id}
 use Rattle.law_room.proofs.MachineIds.{id_without, other_without}
 use Rattle.law_room.specs.OfMachine.{of_id}
+use Rattle.law_room.specs.Brim.{greatest_chunk}
 use Rattle.law_room.specs.Rooms.{Chunk, live_pages, pages_of, without}
 use Rattle.cs_inspect.specs.Chunks.{Chunk as Listed, chunks_from, chunks_of}
+use Rattle.cs_inspect.specs.Brim.{greatest_in}
 use Rattle.cs_inspect.specs.Uses.{Head, missing_in, pages_in, sum_on}
 
 -- a header counts a chunk where it lies, and as many pages at least; just as many
@@ -166,3 +168,49 @@ module _ (head : Listed → Head) where
         omega (arith, one, live_more, parts, heads_split pages_in e x es),
         omega (arith, read, read_more, heads_split missing_in e x es),
       )
+
+-- ---- the greatest
+
+greatest_both : (xs ys : List Head) → greatest_in (xs ++ ys) ≡ max (greatest_in xs) (greatest_in ys)
+greatest_both [] ys = none (greatest_in ys)
+  where
+    none : (n : ℕ) → n ≡ max 0 n
+    none n = omega arith
+greatest_both (h ∷ hs) ys = turned (pages_in h.1) (greatest_in (hs ++ ys)) (greatest_in hs) (greatest_in ys) (greatest_both hs ys)
+  where
+    turned : (a b c d : ℕ) → b ≡ max c d → max a b ≡ max (max a c) d
+    turned a b c d is = omega (arith, is)
+
+last_greatest : (rest : List Chunk) (c : Chunk) → greatest_chunk (rest ++ c ∷ []) ≡ max c.pages (greatest_chunk rest)
+last_greatest [] c = refl
+last_greatest (d ∷ rest) c = turned d.pages (greatest_chunk (rest ++ c ∷ [])) c.pages (greatest_chunk rest) (last_greatest rest c)
+  where
+    turned : (a b c d : ℕ) → b ≡ max c d → max a b ≡ max c (max a d)
+    turned a b c d is = omega (arith, is)
+
+shard_greatest : (hs : List Head) (cs : List Chunk) → Matched Exactly cs hs → greatest_chunk cs ≡ greatest_in hs
+shard_greatest [] cs none = ap (λ (xs : List Chunk). greatest_chunk xs) none
+shard_greatest (h ∷ hs) cs (c, rest, is, one, more) =
+    ap (λ (xs : List Chunk). greatest_chunk xs) is ∙ last_greatest rest c
+    ∙ ap₂ (λ (n m : ℕ). max n m) (sym (ap (λ (o : Option ℕ). pages_in o) one.pages)) (shard_greatest hs rest more)
+
+-- the greatest of all is that of one shard or that of the others
+split_greatest : (id : ℕ) (cs : List Chunk) → greatest_chunk cs ≡ max (greatest_chunk (of_id id cs)) (greatest_chunk (without id cs))
+split_greatest id [] = refl
+split_greatest id (c ∷ cs) = go (c.id == id) (split_greatest id cs)
+  where
+    go : (b : Bool) → greatest_chunk cs ≡ max (greatest_chunk (of_id id cs)) (greatest_chunk (without id cs))
+        → max c.pages (greatest_chunk cs) ≡ max (greatest_chunk (if b then c ∷ of_id id cs else of_id id cs)) (greatest_chunk (if b then without id cs else c ∷ without id cs))
+    go true same = omega (arith, same)
+    go false same = omega (arith, same)
+
+module _ (head : Listed → Head) where
+  pub greatest_exact : (es : List Entry) (cs : List Chunk) → Ascending es → AllMatched head Exactly es cs → greatest_chunk cs ≡ greatest_in (map head (chunks_of es))
+  greatest_exact [] cs order all = ap (λ (xs : List Chunk). greatest_chunk xs) (nothing cs all)
+  greatest_exact (x ∷ es) cs order all =
+      split_greatest x.id cs
+      ∙ ap₂ (λ (n m : ℕ). max n m)
+      (shard_greatest (map head (chunks_from x.id 0 x.locators)) (of_id x.id cs) (first_matched head Exactly x es cs all))
+      (greatest_exact es (without x.id cs) (tail_order head x es order) (rest_matched head Exactly x es cs order all))
+      ∙ sym (ap (λ (hs : List Head). greatest_in hs) (heads_both head (chunks_from x.id 0 x.locators) (chunks_of es))
+      ∙ greatest_both (map head (chunks_from x.id 0 x.locators)) (map head (chunks_of es)))

@@ -15,7 +15,9 @@ pub mod KeepingRoom
 pub mod LiveTotals
 pub mod NeverFull
 pub mod Reached
+pub mod PutsToBrim
 pub mod ReclaimChoices
+pub mod ReclaimedPuts
 pub mod ReclaimsChoose
 pub mod ReclaimsGain
 pub mod ReclaimsLeave

@@ -22,7 +22,7 @@ use Rattle.law_machine.specs.State as model
 use Rattle.law_refinement.specs.Devices.{pages_now}
 use Rattle.cs_store.specs.declared.reclaims.Reclaimed.{Reclaimed}
 use Rattle.cs_store.specs.Reclaims.{Reclaims, reclaimed_extent}
-use Rattle.cs_inspect.specs.Choices.{GoesBy, ReadsOn}
+use Rattle.cs_inspect.specs.Choices.{GoesNext, ReadsOn}
 use Rattle.cs_inspect.specs.Chunks.{AreLiveChunks, Chunk, chunks_of}
 use Rattle.cs_inspect.specs.Uses.{heads_of}
 use Rattle.law_room_in_store.proofs.Reaching.{Anything, any_sync, reaches_events, reaches_ready}
@@ -47,7 +47,7 @@ module _ {D : Type 0} (disks : PageDisk D) where
     pub read : View D
     pub reads : ReadsOn disks v read
     pub reclaims : Reclaims disks read found w
-    pub goes : GoesBy disks (heads_of v.store.extents view chunks) (names (index_of v.store.index)) v read (reclaimed_extent found)
+    pub goes : GoesNext disks (heads_of v.store.extents view chunks) (names (index_of v.store.index)) v read (reclaimed_extent found)
 
   -- what is done behind the reads doesn't lower the count of failures
   pub reclaimed_later : (read w : View D) (found : Option Reclaimed) → Reclaims disks read found w

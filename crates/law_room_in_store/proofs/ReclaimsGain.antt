@@ -18,9 +18,10 @@ use Rattle.law_room.proofs.MachineRetire.{retired_fresh}
 use Rattle.law_room.proofs.MachineSteps.{history_room, step_room, young_history, young_step}
 use Rattle.law_room.proofs.MachineSwept.{sweep_room, syncs, young_swept}
 use Rattle.law_room.proofs.Sharing.{sweep_leaves}
-use Rattle.law_room.specs.OfMachine.{HasRoomNow, IsSweepOf, NoneWorn}
+use Rattle.law_room.specs.Brim.{IsNext, NextSwept}
+use Rattle.law_room.specs.OfMachine.{HasRoomNow, IsRoomOf, IsSweepOf, NoneWorn}
 use Rattle.law_room.specs.Rooms.{Room, Sweep}
-use Rattle.law_room.specs.Sweeps.{ChosenSwept, IsChosen, IsSwept, Syncs as SyncsInRoom}
+use Rattle.law_room.specs.Sweeps.{IsSwept, Syncs as SyncsInRoom}
 use Rattle.law_room.specs.SweepsOfMachine.{IsCopying, IsSweptIn, IsSyncing}
 use Rattle.cs_core.specs.declared.events.Event.{Event}
 use Rattle.cs_core.specs.declared.events.Event.TheVariants.{BeginSweep, MoveOne, Retire}
@@ -68,7 +69,7 @@ module _ {D : Type 0} (disks : PageDisk D) (S : Shape) where
 
   -- ---- one sweep
 
-  still_at : (v w : View D) (s : model.State) → IsAt disks S v s → Stays disks v w → IsAt disks S w s
+  pub still_at : (v w : View D) (s : model.State) → IsAt disks S v s → Stays disks v w → IsAt disks S w s
   still_at v w s at stays = record {
     same = ap (λ (u : Stored). shape u.extents) stays.0.store ∙ at.same;
     honest = stays.1.0 at.honest;
@@ -169,6 +170,11 @@ reclaims_reach disks (suc k) v w (swept, mid, next, call, synced, more) = reache
     (reaches_ran disks v mid call.ran)
     (reaches_then disks Anything mid next w (synced_reaches disks mid next synced) (reclaims_reach disks k next w more))
 
+pub reclaims_roomy : {D : Type 0} (disks : PageDisk D) (k : ℕ) (v w : View D) → IsRoomyCore disks v → ReclaimsBy disks k v w → IsRoomyCore disks w
+reclaims_roomy disks zero v w roomy is = subst (λ (u : View _). IsRoomyCore disks u) (sym is) roomy
+reclaims_roomy disks (suc k) v w roomy (swept, mid, next, call, synced, more) =
+    reclaims_roomy disks k next w (synced_roomy disks mid next (ran_roomy disks v mid roomy call.ran) synced) more
+
 module _ {D : Type 0} (disks : PageDisk D) (sized : (d : D) → disks.honest d → length (disks.state d).durable ≡ disks.page_count d)
     (S : Shape) (shape_is : IsShape S) (format : IsFormat S (formats_of S)) (apart : S.apart ≡ true) where
   pub young_at : (v : View D) (s : model.State) → IsAt disks S v s → NoneWornIn v → NoneWorn S s
@@ -185,7 +191,7 @@ module _ {D : Type 0} (disks : PageDisk D) (sized : (d : D) → disks.honest d �
     pub extent : ℕ
     pub rested : Room
     pub count : ℕ
-    pub choice : IsChosen S S.run_extents r extent
+    pub choice : IsNext S S.run_extents r extent
     pub synced : SyncsInRoom S S.run_extents count r rested
     pub swept : IsSwept S S.run_extents rested extent after
     pub idle : IsIdle next
@@ -238,9 +244,10 @@ module _ {D : Type 0} (disks : PageDisk D) (sized : (d : D) → disks.honest d �
         extent = swept.extent;
         rested = rests.1;
         count = rests.0;
-        choice = subst (λ (T : Shape). IsChosen T T.run_extents r swept.extent) at.same
+        choice = subst (λ (T : Shape). IsNext T T.run_extents r swept.extent) at.same
             (chosen disks sized v mid (Some swept) call chose none roomy idle s at.is_in r
-            (subst (λ (T : Shape). HasRoomNow T (formats_of T) s r) (sym at.same) has) swept.extent swept.dead refl);
+            (subst (λ (T : Shape). HasRoomNow T (formats_of T) s r) (sym at.same) has) r
+            (subst (λ (T : Shape). IsRoomOf T (formats_of T) s r) (sym at.same) has.room) swept.extent swept.dead refl);
         synced = rests.2;
         swept = sweeps.1;
         idle = idle_after next one.0 three.0 rests.1 sweeps.0 swept.extent three.1 then_young rests.3 sweeps.2 whole sweeps.1;
@@ -253,7 +260,7 @@ module _ {D : Type 0} (disks : PageDisk D) (sized : (d : D) → disks.honest d �
     pub here : IsAt disks S w then_in
     pub after : Room
     pub has : HasRoomNow S (formats_of S) then_in after
-    pub swept : ChosenSwept S S.run_extents k r after
+    pub swept : NextSwept S S.run_extents k r after
     pub idle : IsIdle w
     pub roomy : IsRoomyCore disks w
 

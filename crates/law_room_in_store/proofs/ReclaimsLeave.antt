@@ -1,5 +1,5 @@
 -- What reclaims leave for puts, and what a sync leaves behind a sweep that was given up.
-use Rattle.std.proofs.Common.{◌≡◌, inl, inr, ℕ, ◌+◌, ◌-◌, ◌*◌, ◌<◌, ◌≤◌, Bool, true, false, [], ◌∷◌, None, length, le_refl, refl, sym, ap, ◌∙◌, subst, arith}
+use Rattle.std.proofs.Common.{◌≡◌, inl, inr, ℕ, ◌+◌, ◌-◌, ◌*◌, ◌<◌, ◌≤◌, Bool, true, false, [], ◌∷◌, None, length, le_refl, true≢false, refl, sym, ap, ◌∙◌, subst, arith}
 use Rattle.cs_refusal.specs.declared.refusals.Refusal.TheVariants.{HistoryFull}
 use Rattle.cs_disk.specs.declared.disk.PageDisk.{Ghosts as PageDisk}
 use Rattle.cs_extent.specs.State.{extents_of, shape}
@@ -7,16 +7,20 @@ use Rattle.cs_frame.specs.Formats.{formats_of}
 use Rattle.law_machine.specs.Apart.{any_swept}
 use Rattle.law_machine.specs.Device.{IsShape, Shape}
 use Rattle.law_machine.specs.Extents.{Extents}
+use Rattle.law_machine.specs.Format.{Format, Four, Two}
 use Rattle.law_machine.specs.Frames.{IsFormat}
+use Rattle.law_machine.specs.Geometry.{apart_in, fills_in}
 use Rattle.law_machine.specs.State as model
 use Rattle.law_machine.specs.Step.{Step}
 use Rattle.law_refinement.proofs.Shapes.{shape_of_store}
-use Rattle.law_room.proofs.Choosing.{chosen_left, none_left}
+use Rattle.law_room.proofs.BrimKept.{left_then}
+use Rattle.law_room.proofs.BrimRuns.{along, most_sweeps}
 use Rattle.law_room.proofs.MachineAside.{IsOfRound, rounds_leave, stage_marks, staged_fresh, unchanged_fresh}
 use Rattle.law_room.proofs.MachineSweeps.{no_sweep}
+use Rattle.law_room.proofs.Sharing.{none_fits}
+use Rattle.law_room.specs.Brim.{NoneNext, NothingDead, dead_extents}
 use Rattle.law_room.specs.OfMachine.{HasRoomNow}
-use Rattle.law_room.specs.Rooms.{Room, all_pages, chunk_extents}
-use Rattle.law_room.specs.Sweeps.{ChosenSwept, NoTwoFit}
+use Rattle.law_room.specs.Rooms.{Room, all_pages, chunk_extents, opened_by}
 use Rattle.cs_core.specs.declared.events.Event.TheVariants.{Stage}
 use Rattle.cs_core.specs.declared.events.Reply.{Reply}
 use Rattle.cs_core.specs.declared.events.Reply.TheVariants.{Refused, Staged, Unchanged}
@@ -30,13 +34,18 @@ use Rattle.law_room_in_store.proofs.CoreSweeps.{chunks_counted, room_in}
 use Rattle.law_room_in_store.proofs.HavingRoom.{format_is}
 use Rattle.law_room_in_store.proofs.KeepingRoom.{IsRoomyState, reached_state, state_of, young_before}
 use Rattle.law_room_in_store.proofs.ReclaimChoices.{chose_by, none_within}
-use Rattle.law_room_in_store.proofs.ReclaimsChoose.{none_chosen}
+use Rattle.law_room_in_store.proofs.ReclaimsChoose.{none_chosen, nothing_dead}
 use Rattle.law_room_in_store.proofs.ReclaimsGain.{AreLinked, links, none_below, one_in, reached_in, reclaims_reach}
 use Rattle.law_room_in_store.proofs.Reaching.{Anything, IsOfRounds, all_turns, any_sync, reaches_events, reaches_finishes, reaches_ran, reaches_then, reaches_went}
 use Rattle.law_room_in_store.specs.Cores.{NoneWornIn}
-use Rattle.law_room_in_store.specs.Reclaims.{IsIdle, IsReclaim, NoneFailed, ReclaimsBy}
+use Rattle.law_room_in_store.specs.Reclaims.{DeadAtMost, IsIdle, IsReclaim, LiveFewFor, NoneFailed, NothingDeadIn, ReclaimsBy}
 use Rattle.law_room_in_store.specs.Roomy.{IsRoomyCore}
 use Rattle.law_room_in_store.specs.Sweeps.{AreLeftForPuts, LiveAtMost, chunk_extents_of}
+
+-- where chunks and runs lie apart extents are filled up
+pub fills_apart : (format : Format) → apart_in format ≡ true → fills_in format ≡ true
+fills_apart Two wrong = absurd (true≢false (sym wrong))
+fills_apart (Four store device) apart = refl
 
 -- where no call of the disk failed as one more found nothing to sweep, none failed before that either
 pub none_parts : {D : Type 0} (disks : PageDisk D) (v w x : View D) (k : ℕ) → ReclaimsBy disks k v w → IsReclaim disks w None x → NoneFailed disks v x
@@ -45,6 +54,16 @@ none_parts disks v w x k by call none = (
   none_within disks v v w x (le_refl (disks.failure_count v.disk)) (reaches_ran disks w x call.ran).later none,
   none_within disks v w x x (reclaims_reach disks k v w by).later (le_refl (disks.failure_count x.disk)) none,
 )
+
+-- a state of w with a room in which nothing is dead and at most so many pages live
+pub record RestsAt {D : Type 0} (disks : PageDisk D) (v w : View D) (live : ℕ) : Type 0 where
+  pub of_state : model.State
+  pub here : IsAt disks (shape v.store.extents) w of_state
+  pub room : Room
+  pub has : HasRoomNow (shape v.store.extents) (formats_of (shape v.store.extents)) of_state room
+  pub rests : room.sweep ≡ None
+  pub nothing : NothingDead (shape v.store.extents) room
+  pub few : all_pages room.chunks ≤ live
 
 module _ {D : Type 0} (disks : PageDisk D) (sized : (d : D) → disks.honest d → length (disks.state d).durable ≡ disks.page_count d)
     (v : View D) (roomy : IsRoomyCore disks v) (idle : IsIdle v) where
@@ -90,12 +109,36 @@ module _ {D : Type 0} (disks : PageDisk D) (sized : (d : D) → disks.honest d �
     no_sweep_goes : (first before).0.sweep ≡ None
     no_sweep_goes = no_sweep (shape v.store.extents) s (first before).0.sweep no_mark (first before).1.room.sweep
 
-    -- two reclaims for each of n extents leave these
-    pub left_by_all : (n : ℕ) → k ≡ 2 * n → AreLeftForPuts n w
-    left_by_all n is = as_left n (chosen_left (shape v.store.extents) (shape v.store.extents).run_extents n (first before).0 linked.after
-        (first before).1.keeps some no_sweep_goes
-        (subst (λ (j : ℕ). ChosenSwept (shape v.store.extents) (shape v.store.extents).run_extents j (first before).0 linked.after) is
-        linked.swept))
+    filled : (shape v.store.extents).fills ≡ true
+    filled = fills_apart v.store.extents.format roomy.apart
+
+    -- so many sweeps were made at most
+    most : k + dead_extents linked.after (shape v.store.extents).extents + 2 * chunk_extents linked.after (shape v.store.extents).extents
+        ≤ dead_extents (first before).0 (shape v.store.extents).extents
+        + 2 * chunk_extents (first before).0 (shape v.store.extents).extents + 1
+    most = most_sweeps (shape v.store.extents) (shape v.store.extents).run_extents k (first before).0 linked.after some filled
+        (first before).1.keeps linked.swept
+
+    dead_first : (dead : ℕ) → DeadAtMost disks.state v dead → dead_extents (first before).0 (shape v.store.extents).extents ≤ dead
+    dead_first dead at_most = at_most (first before).0
+        (room_in disks (shape v.store.extents) v s (first before).0 at_start (first before).1.room)
+
+    -- two reclaims for each of n extents leave these, and one for each extent with dead pages
+    pub left_by_all : (n dead : ℕ) → DeadAtMost disks.state v dead → 2 * n + dead ≤ k → AreLeftForPuts n w
+    left_by_all n dead at_most enough =
+        let quota : chunk_extents (first before).0 (shape v.store.extents).extents + (shape v.store.extents).run_extents + 2
+        ≤ (shape v.store.extents).extents + opened_by (first before).0.sweep = (first before).1.keeps.quotas.chunks in
+        let no_fresh : opened_by (first before).0.sweep ≡ 0 = ap opened_by no_sweep_goes in
+        as_left n (omega (arith, most, dead_first dead at_most, enough, quota, no_fresh))
+
+    -- so many are made at most
+    pub reclaims_end : (dead : ℕ) → DeadAtMost disks.state v dead → k + 2 * chunk_extents_of w ≤ dead + 2 * chunk_extents_of v + 1
+    reclaims_end dead at_most =
+        let was : chunk_extents (first before).0 (shape v.store.extents).extents ≡ chunk_extents_of v =
+        chunks_counted disks (shape v.store.extents) v s (first before).0 at_start (first before).1.room in
+        let now : chunk_extents linked.after (shape v.store.extents).extents ≡ chunk_extents_of w =
+        chunks_counted disks (shape v.store.extents) w linked.then_in linked.after linked.here linked.has.room in
+        omega (arith, most, dead_first dead at_most, was, now)
 
     -- fewer do, where a further one finds nothing to sweep and little enough lives
     pub left_by_fewer : (n pages : ℕ) (x : View D) → (shape v.store.extents).run_extents + n + 3 ≤ (shape v.store.extents).extents
@@ -106,13 +149,61 @@ module _ {D : Type 0} (disks : PageDisk D) (sized : (d : D) → disks.honest d �
     left_by_fewer n pages x large live share call none_behind =
         let few : all_pages (first before).0.chunks ≤ pages = live (first before).0
         (room_in disks (shape v.store.extents) v s (first before).0 at_start (first before).1.room) in
-        let none : NoTwoFit (shape v.store.extents) (shape v.store.extents).run_extents linked.after =
-        subst (λ (T : Shape). NoTwoFit T T.run_extents linked.after) linked.here.same
+        let has : HasRoomNow (shape w.store.extents) (formats_of (shape w.store.extents)) linked.then_in linked.after =
+        subst (λ (T : Shape). HasRoomNow T (formats_of T) linked.then_in linked.after) (sym linked.here.same) linked.has in
+        let none : NoneNext (shape v.store.extents) (shape v.store.extents).run_extents linked.after =
+        subst (λ (T : Shape). NoneNext T T.run_extents linked.after) linked.here.same
         (none_chosen disks sized w x None call (chose_by disks sized w linked.roomy x None call linked.then_in linked.here.is_in) none_behind
-        linked.roomy linked.idle linked.then_in linked.here.is_in linked.after
-        (subst (λ (T : Shape). HasRoomNow T (formats_of T) linked.then_in linked.after) (sym linked.here.same) linked.has) refl) in
-        as_left n (none_left (shape v.store.extents) (shape v.store.extents).run_extents n k (first before).0 linked.after
-        (first before).1.keeps some large (omega (arith, few, share)) linked.swept none)
+        linked.roomy linked.idle linked.then_in linked.here.is_in linked.after has linked.after has.room has.keeps refl) in
+        let all : all_pages linked.after.chunks ≡ all_pages (first before).0.chunks =
+        (along (shape v.store.extents) (shape v.store.extents).run_extents k (first before).0 linked.after some (first before).1.keeps
+        no_sweep_goes linked.swept).2 in
+        as_left n (none_fits (shape v.store.extents) (shape v.store.extents).run_extents n linked.after large
+        (omega (arith, few, share, all)) none.no_two)
+
+    -- by the greatest chunk
+    pub left_by_greatest : (n c : ℕ) (x : View D) → (shape v.store.extents).run_extents + n + 3 ≤ (shape v.store.extents).extents
+        → LiveFewFor disks.state v n c → IsReclaim disks w None x → NoneFailed disks w x → AreLeftForPuts n w
+    left_by_greatest n c x large few call none_behind =
+        let has : HasRoomNow (shape w.store.extents) (formats_of (shape w.store.extents)) linked.then_in linked.after =
+        subst (λ (T : Shape). HasRoomNow T (formats_of T) linked.then_in linked.after) (sym linked.here.same) linked.has in
+        as_left n (left_then (shape v.store.extents) (shape v.store.extents).run_extents n c k (first before).0 linked.after some
+        (first before).1.keeps no_sweep_goes large
+        (few (first before).0 (room_in disks (shape v.store.extents) v s (first before).0 at_start (first before).1.room)) linked.swept
+        (subst (λ (T : Shape). NoneNext T T.run_extents linked.after) linked.here.same
+        (none_chosen disks sized w x None call (chose_by disks sized w linked.roomy x None call linked.then_in linked.here.is_in) none_behind
+        linked.roomy linked.idle linked.then_in linked.here.is_in linked.after has linked.after has.room has.keeps refl)))
+
+    -- where a further one finds nothing to sweep, nothing is dead, and no more lives than before
+    pub rests_at : (live : ℕ) (x : View D) → LiveAtMost disks.state v live → IsReclaim disks w None x → NoneFailed disks w x → RestsAt disks v w live
+    rests_at live x most call none_behind =
+        let few : all_pages (first before).0.chunks ≤ live = most (first before).0
+        (room_in disks (shape v.store.extents) v s (first before).0 at_start (first before).1.room) in
+        let has : HasRoomNow (shape w.store.extents) (formats_of (shape w.store.extents)) linked.then_in linked.after =
+        subst (λ (T : Shape). HasRoomNow T (formats_of T) linked.then_in linked.after) (sym linked.here.same) linked.has in
+        let left = along (shape v.store.extents) (shape v.store.extents).run_extents k (first before).0 linked.after some (first before).1.keeps
+        no_sweep_goes linked.swept in
+        let all : all_pages linked.after.chunks ≡ all_pages (first before).0.chunks = left.2 in record {
+          of_state = linked.then_in;
+          here = linked.here;
+          room = linked.after;
+          has = linked.has;
+          rests = left.1;
+          nothing = subst (λ (T : Shape). NothingDead T linked.after) linked.here.same
+              (nothing_dead disks sized w x None call (chose_by disks sized w linked.roomy x None call linked.then_in linked.here.is_in) none_behind
+              linked.roomy linked.idle linked.then_in linked.here.is_in linked.after has linked.after has.room refl);
+          few = omega (arith, few, all);
+        }
+
+-- a call that finds nothing to sweep says that nothing is dead
+module _ {D : Type 0} (disks : PageDisk D) (sized : (d : D) → disks.honest d → length (disks.state d).durable ≡ disks.page_count d)
+    (v x : View D) (roomy : IsRoomyCore disks v) (idle : IsIdle v) (young : NoneWornIn v) (call : IsReclaim disks v None x)
+    (unfailed : NoneFailed disks v x) where
+  pub none_dead : NothingDeadIn disks.state v
+  none_dead r is =
+      let first = state_roomy disks v roomy.geometry roomy.apart roomy.room young is.of_state is.is_in in
+      nothing_dead disks sized v x None call (chose_by disks sized v roomy x None call is.of_state is.is_in) unfailed roomy idle
+      is.of_state is.is_in first.0 first.1.room r is.room refl
 
 -- ---- syncs
 

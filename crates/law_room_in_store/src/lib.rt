@@ -12,6 +12,7 @@ mod lives;
 mod room_by_reclaims;
 mod room_for_puts;
 mod room_of_stores;
+mod room_to_the_brim;
 
 pub use cores::{
     a_new_core_has_room, nothing_but_a_put_is_refused_full, room_stays,
@@ -30,3 +31,4 @@ pub use room_of_stores::{
     a_put_of_a_store_finds_room, calls_keep_stores_roomy,
     nothing_but_a_put_of_a_store_is_refused_full,
 };
+pub use room_to_the_brim::a_put_finds_room_to_the_brim;

@@ -7,6 +7,7 @@ mod fences;
 mod files;
 mod histories;
 mod images;
+mod left_out;
 mod migrations;
 mod moments;
 mod mounts;

@@ -9,9 +9,9 @@ loop-extent-preserved c =
     let e = c.loop-extent.extent in
     let found = c.loop-extent.found in
     elim c.if-is_fewer.branch [
-      | then-is_fewer w ↦ subst (IsFewestTo uses c.args.but (e + 1)) (sym w.found-is) (fewest_taken uses c.args.but e found c.loop-extent.invariant w.if-is_fewer.ensures)
-      | else-is_fewer w ↦ subst (IsFewestTo uses c.args.but (e + 1)) (sym w.found-is) (fewest_kept uses c.args.but e found c.loop-extent.invariant w.if-is_fewer.ensures)
+      | then-is_fewer w ↦ subst (IsFewestTo uses c.args.but c.args.dead (e + 1)) (sym w.found-is) (fewest_taken uses c.args.but c.args.dead e found c.loop-extent.invariant w.if-is_fewer.ensures)
+      | else-is_fewer w ↦ subst (IsFewestTo uses c.args.but c.args.dead (e + 1)) (sym w.found-is) (fewest_kept uses c.args.but c.args.dead e found c.loop-extent.invariant w.if-is_fewer.ensures)
     ]
 
 pub returns : goal.returns
-returns c = fewest_of_all c.args.uses.now c.args.but c.loop-extent.extent c.loop-extent.found c.loop-extent-test.false c.loop-extent.invariant
+returns c = fewest_of_all c.args.uses.now c.args.but c.args.dead c.loop-extent.extent c.loop-extent.found c.loop-extent-test.false c.loop-extent.invariant

@@ -6,6 +6,7 @@ use Rattle.cs_index.specs.declared.live.LiveChunk.{LiveChunk}
 use Rattle.law_machine.specs.Device.{Shape}
 use Rattle.cs_inspect.specs.Chunks.{chunk_of}
 use Rattle.cs_inspect.specs.Uses.{AreRead, AreTallied, heads_of, missing_in, pages_in}
+use Rattle.cs_inspect.proofs.Brim.{greatest_read}
 use Rattle.cs_inspect.proofs.Reading.{all_written, extents_there, heads_step, newest_there, no_sums, none_read, place_inside, same_on, shape_there, tallied_so}
 use Rattle.cs_inspect.proofs.surveys.tally_chunks.Goals as goal
 
@@ -25,6 +26,7 @@ loop-k-init g c =
         tallied_so [] (replicate n 0) (replicate n 0) c.in_ok-live.live.items c.in_ok-unreadable.unreadable.items (c.in_ok-live.ensures.items_if_clones_equal (λ y is. is)) (c.in_ok-unreadable.ensures.items_if_clones_equal (λ y is. is))
             (no_sums pages_in n, no_sums missing_in n),
         λ h view are. none_read (g.D.PageDisk.failure_count c.args.core.now.disk),
+        refl,
       );
     }
 
@@ -81,6 +83,7 @@ loop-k-preserved g c =
         λ h view are. heads_step first.store.extents mid.store.extents view chunks k chunk read pages (g.D.PageDisk.failure_count first.disk) (g.D.PageDisk.failure_count mid.disk) (g.D.PageDisk.failure_count c.pages_at.new.core.disk)
             (extents_there first mid was.same) (slice_get-get_or chunks k _ c.loop-k-test.true) was.disk.failures c.in_ok-pages.ensures.disk.failures (was.tallied.2 h view are)
             (c.in_ok-pages.ensures.read (was.disk.honesty.0 h) view (newest_there first mid was.same g.D.PageDisk was.disk h view are)),
+        greatest_read read chunk.place.extent pages c.loop-k.greatest _ _ was.tallied.3 c.unwrap_or.ensures c.max-greatest.ensures,
       );
     }
 
@@ -91,4 +94,5 @@ returns-clause-tallied g c =
       tallied.1,
       λ h view are. subst (λ (chunks : List LiveChunk). AreRead (g.D.PageDisk.failure_count c.args.core.now.disk) (g.D.PageDisk.failure_count c.loop-k.core.disk) (heads_of c.args.core.now.store.extents view (map chunk_of chunks)) tallied.0)
           (take_all c.loop-k.k c.args.chunks.now c.loop-k-test.false) (tallied.2 h view are),
+      tallied.3,
     )

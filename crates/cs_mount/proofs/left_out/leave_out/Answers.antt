@@ -13,7 +13,7 @@ use Rattle.cs_mount.specs.LeftOut.{IsAtRest, IsLeftOut, NothingOn}
 use Rattle.cs_mount.specs.StorePairs.{store_version}
 use Rattle.cs_mount.specs.Torn.{dimensions_of}
 use Rattle.cs_mount.proofs.Closing.{honest_there, just_when, not_unsettled, not_unswept}
-use Rattle.cs_mount.proofs.Leaving.{calls_at_most, calls_in_all, crossed_again, crossed_left, crossed_or_same, crossed_out, crossed_recovers_then, not_crossed_recovers, of_disk, opened_out, opened_same, same_dimensions, section_whole, still_out, worn_here}
+use Rattle.cs_mount.proofs.Leaving.{calls_at_most, calls_in_all, crossed_again, crossed_keeps, crossed_left, crossed_or_same, crossed_out, crossed_recovers_then, not_crossed_recovers, of_disk, opened_out, opened_same, same_dimensions, section_whole, still_out, worn_here}
 use Rattle.cs_mount.proofs.left_out.leave_out.Goals as goal
 
 pub returns-then-not-has_twins-clause-recovers : goal.returns-then-not-has_twins-clause-recovers
@@ -22,17 +22,26 @@ returns-then-not-has_twins-clause-recovers g c = λ h n m found whole. subst (λ
 pub returns-then-not-has_twins-clause-crash : goal.returns-then-not-has_twins-clause-crash
 returns-then-not-has_twins-clause-crash g c = λ h n m found. still_out _ c.args.core c.progress.ensures.core c.into_disk-disk.result c.into_disk-disk.ensures (λ image. IsLeftOut (dimensions_of c.args.core.store.extents) c.args.extent found.runs (seen (state_shown c.args.core.disk)) image) (λ image left. let p = c.args.core.disk in only_pairs (store_version p.rules.geometry) p.pairs.items (g.D.PageDisk.state p.disk) (p.shows h) (g.D.PageDisk.left_since p.disk) (g.D.PageDisk.moment p.disk) (λ below is. g.met.D.PageDisk.only_now p.disk below h is) image left)
 
+pub returns-then-not-has_twins-clause-keeps : goal.returns-then-not-has_twins-clause-keeps
+returns-then-not-has_twins-clause-keeps g c = λ h n m found whole. still_out _ c.args.core c.progress.ensures.core c.into_disk-disk.result c.into_disk-disk.ensures (λ image. Recovers (shape c.args.core.store.extents) (formats_of (shape c.args.core.store.extents)) (page image) n m) (λ image left. let p = c.args.core.disk in only_pairs (store_version p.rules.geometry) p.pairs.items (g.D.PageDisk.state p.disk) (p.shows h) (g.D.PageDisk.left_since p.disk) (g.D.PageDisk.moment p.disk) (λ below is. g.met.D.PageDisk.only_now p.disk below h is) image left)
+
 pub returns-then-not-rests-clause-recovers : goal.returns-then-not-rests-clause-recovers
 returns-then-not-rests-clause-recovers g c = λ h n m found whole. subst (λ (z : _). Recovers (shape c.args.core.store.extents) (formats_of (shape c.args.core.store.extents)) (page (seen (state_shown z))) n m) (sym c.into_disk-disk.ensures) found
 
 pub returns-then-not-rests-clause-crash : goal.returns-then-not-rests-clause-crash
 returns-then-not-rests-clause-crash g c = λ h n m found. still_out _ c.args.core c.progress.ensures.core c.into_disk-disk.result c.into_disk-disk.ensures (λ image. IsLeftOut (dimensions_of c.args.core.store.extents) c.args.extent found.runs (seen (state_shown c.args.core.disk)) image) (λ image left. let p = c.args.core.disk in only_pairs (store_version p.rules.geometry) p.pairs.items (g.D.PageDisk.state p.disk) (p.shows h) (g.D.PageDisk.left_since p.disk) (g.D.PageDisk.moment p.disk) (λ below is. g.met.D.PageDisk.only_now p.disk below h is) image left)
 
+pub returns-then-not-rests-clause-keeps : goal.returns-then-not-rests-clause-keeps
+returns-then-not-rests-clause-keeps g c = λ h n m found whole. still_out _ c.args.core c.progress.ensures.core c.into_disk-disk.result c.into_disk-disk.ensures (λ image. Recovers (shape c.args.core.store.extents) (formats_of (shape c.args.core.store.extents)) (page image) n m) (λ image left. let p = c.args.core.disk in only_pairs (store_version p.rules.geometry) p.pairs.items (g.D.PageDisk.state p.disk) (p.shows h) (g.D.PageDisk.left_since p.disk) (g.D.PageDisk.moment p.disk) (λ below is. g.met.D.PageDisk.only_now p.disk below h is) image left)
+
 pub returns-then-extent-from-clause-recovers : goal.returns-then-extent-from-clause-recovers
 returns-then-extent-from-clause-recovers g c = λ h n m found whole. subst (λ (z : _). Recovers (shape c.args.core.store.extents) (formats_of (shape c.args.core.store.extents)) (page (seen (state_shown z))) n m) (sym c.into_disk-disk.ensures) found
 
 pub returns-then-extent-from-clause-crash : goal.returns-then-extent-from-clause-crash
 returns-then-extent-from-clause-crash g c = λ h n m found. still_out _ c.args.core c.progress.ensures.core c.into_disk-disk.result c.into_disk-disk.ensures (λ image. IsLeftOut (dimensions_of c.args.core.store.extents) c.args.extent found.runs (seen (state_shown c.args.core.disk)) image) (λ image left. let p = c.args.core.disk in only_pairs (store_version p.rules.geometry) p.pairs.items (g.D.PageDisk.state p.disk) (p.shows h) (g.D.PageDisk.left_since p.disk) (g.D.PageDisk.moment p.disk) (λ below is. g.met.D.PageDisk.only_now p.disk below h is) image left)
+
+pub returns-then-extent-from-clause-keeps : goal.returns-then-extent-from-clause-keeps
+returns-then-extent-from-clause-keeps g c = λ h n m found whole. still_out _ c.args.core c.progress.ensures.core c.into_disk-disk.result c.into_disk-disk.ensures (λ image. Recovers (shape c.args.core.store.extents) (formats_of (shape c.args.core.store.extents)) (page image) n m) (λ image left. let p = c.args.core.disk in only_pairs (store_version p.rules.geometry) p.pairs.items (g.D.PageDisk.state p.disk) (p.shows h) (g.D.PageDisk.left_since p.disk) (g.D.PageDisk.moment p.disk) (λ below is. g.met.D.PageDisk.only_now p.disk below h is) image left)
 
 pub returns-then-not-rests-clause-refused : goal.returns-then-not-rests-clause-refused
 returns-then-not-rests-clause-refused g c = λ h n m found. inl (ap (λ z. seen (state_shown z)) c.into_disk-disk.ensures)
@@ -55,6 +64,9 @@ returns-in-Ok-cross_out-clause-again g c = λ h twins n m found.
 pub returns-in-Ok-cross_out-clause-crash : goal.returns-in-Ok-cross_out-clause-crash
 returns-in-Ok-cross_out-clause-crash g c = λ h n m found. crossed_left _ c.args.core c.progress.ensures.core c.progress.ensures.whole.geometry (sym (ap twins_in (c.format.ensures.format ∙ c.geometry-geometry.ensures.format ∙ ap (λ x. (shape x).format) c.extents.ensures)) ∙ sym c.has_twins.ensures ∙ c.if-not-has_twins.false) c.into_disk-disk.result c.into_disk-disk.ensures c.in-Ok.disk c.cross_out.new.disk (c.in-Ok.ensures.kept (honest_there _ c.args.core c.progress.ensures.core c.into_disk-disk.result c.into_disk-disk.ensures h)) c.geometry-geometry.result (same_dimensions c.args.core.store.extents c.geometry-geometry.result (c.geometry-geometry.ensures.format ∙ ap (λ x. (shape x).format) c.extents.ensures) (c.geometry-geometry.ensures.extents ∙ ap (λ x. (shape x).extents) c.extents.ensures) (c.geometry-geometry.ensures.pages ∙ ap (λ x. (shape x).pages) c.extents.ensures) (c.geometry-geometry.ensures.sections ∙ ap (λ x. (shape x).sections) c.extents.ensures)) n m found c.args.extent (omega (arith, c.if-extent-from.false, c.from.ensures, c.extents-2.ensures, c.geometry-geometry.ensures.extents, ap (λ x. (shape x).extents) c.extents.ensures)) c.in-Ok.lives (of_disk _ c.args.core c.progress.ensures.core c.progress.ensures.whole.geometry (sym (ap twins_in (c.format.ensures.format ∙ c.geometry-geometry.ensures.format ∙ ap (λ x. (shape x).format) c.extents.ensures)) ∙ sym c.has_twins.ensures ∙ c.if-not-has_twins.false) c.into_disk-disk.result c.into_disk-disk.ensures (λ (runs : List Run). MatchBool c.in-Ok.lives (¬ NothingOn runs c.args.extent) (NothingOn runs c.args.extent)) (c.in-Ok.ensures.lives (honest_there _ c.args.core c.progress.ensures.core c.into_disk-disk.result c.into_disk-disk.ensures h)) n m found) (c.in-Ok.ensures.crash (honest_there _ c.args.core c.progress.ensures.core c.into_disk-disk.result c.into_disk-disk.ensures h)) (c.cross_out.ensures.crash (c.in-Ok.ensures.honest.0 (honest_there _ c.args.core c.progress.ensures.core c.into_disk-disk.result c.into_disk-disk.ensures h)))
 
+pub returns-in-Ok-cross_out-clause-keeps : goal.returns-in-Ok-cross_out-clause-keeps
+returns-in-Ok-cross_out-clause-keeps g c = λ h n m found whole. crossed_keeps _ c.args.core c.progress.ensures.core c.progress.ensures.whole.geometry (sym (ap twins_in (c.format.ensures.format ∙ c.geometry-geometry.ensures.format ∙ ap (λ x. (shape x).format) c.extents.ensures)) ∙ sym c.has_twins.ensures ∙ c.if-not-has_twins.false) c.into_disk-disk.result c.into_disk-disk.ensures c.in-Ok.disk c.cross_out.new.disk (c.in-Ok.ensures.kept (honest_there _ c.args.core c.progress.ensures.core c.into_disk-disk.result c.into_disk-disk.ensures h)) c.geometry-geometry.result (same_dimensions c.args.core.store.extents c.geometry-geometry.result (c.geometry-geometry.ensures.format ∙ ap (λ x. (shape x).format) c.extents.ensures) (c.geometry-geometry.ensures.extents ∙ ap (λ x. (shape x).extents) c.extents.ensures) (c.geometry-geometry.ensures.pages ∙ ap (λ x. (shape x).pages) c.extents.ensures) (c.geometry-geometry.ensures.sections ∙ ap (λ x. (shape x).sections) c.extents.ensures)) n m found c.args.extent (omega (arith, c.if-extent-from.false, c.from.ensures, c.extents-2.ensures, c.geometry-geometry.ensures.extents, ap (λ x. (shape x).extents) c.extents.ensures)) c.in-Ok.lives (of_disk _ c.args.core c.progress.ensures.core c.progress.ensures.whole.geometry (sym (ap twins_in (c.format.ensures.format ∙ c.geometry-geometry.ensures.format ∙ ap (λ x. (shape x).format) c.extents.ensures)) ∙ sym c.has_twins.ensures ∙ c.if-not-has_twins.false) c.into_disk-disk.result c.into_disk-disk.ensures (λ (runs : List Run). MatchBool c.in-Ok.lives (¬ NothingOn runs c.args.extent) (NothingOn runs c.args.extent)) (c.in-Ok.ensures.lives (honest_there _ c.args.core c.progress.ensures.core c.into_disk-disk.result c.into_disk-disk.ensures h)) n m found) whole (c.in-Ok.ensures.crash (honest_there _ c.args.core c.progress.ensures.core c.into_disk-disk.result c.into_disk-disk.ensures h)) (c.cross_out.ensures.crash (c.in-Ok.ensures.honest.0 (honest_there _ c.args.core c.progress.ensures.core c.into_disk-disk.result c.into_disk-disk.ensures h)))
+
 pub returns-in-Ok-cross_out-clause-calls : goal.returns-in-Ok-cross_out-clause-calls
 returns-in-Ok-cross_out-clause-calls g c = λ h twins. calls_in_all _ _ _ _ (ap (λ z. g.D.PageDisk.moment z.disk) c.into_disk-disk.ensures) (c.in-Ok.ensures.calls (honest_there _ c.args.core c.progress.ensures.core c.into_disk-disk.result c.into_disk-disk.ensures h)) (c.in-Ok-cross_out.ensures.calls (c.in-Ok.ensures.honest.0 (honest_there _ c.args.core c.progress.ensures.core c.into_disk-disk.result c.into_disk-disk.ensures h)))
 
@@ -66,6 +78,9 @@ returns-in-Err-cross_out-clause-recovers g c = λ h n m found whole. not_crossed
 
 pub returns-in-Err-cross_out-clause-crash : goal.returns-in-Err-cross_out-clause-crash
 returns-in-Err-cross_out-clause-crash g c = λ h n m found. crossed_left _ c.args.core c.progress.ensures.core c.progress.ensures.whole.geometry (sym (ap twins_in (c.format.ensures.format ∙ c.geometry-geometry.ensures.format ∙ ap (λ x. (shape x).format) c.extents.ensures)) ∙ sym c.has_twins.ensures ∙ c.if-not-has_twins.false) c.into_disk-disk.result c.into_disk-disk.ensures c.in-Ok.disk c.cross_out.new.disk (c.in-Ok.ensures.kept (honest_there _ c.args.core c.progress.ensures.core c.into_disk-disk.result c.into_disk-disk.ensures h)) c.geometry-geometry.result (same_dimensions c.args.core.store.extents c.geometry-geometry.result (c.geometry-geometry.ensures.format ∙ ap (λ x. (shape x).format) c.extents.ensures) (c.geometry-geometry.ensures.extents ∙ ap (λ x. (shape x).extents) c.extents.ensures) (c.geometry-geometry.ensures.pages ∙ ap (λ x. (shape x).pages) c.extents.ensures) (c.geometry-geometry.ensures.sections ∙ ap (λ x. (shape x).sections) c.extents.ensures)) n m found c.args.extent (omega (arith, c.if-extent-from.false, c.from.ensures, c.extents-2.ensures, c.geometry-geometry.ensures.extents, ap (λ x. (shape x).extents) c.extents.ensures)) c.in-Ok.lives (of_disk _ c.args.core c.progress.ensures.core c.progress.ensures.whole.geometry (sym (ap twins_in (c.format.ensures.format ∙ c.geometry-geometry.ensures.format ∙ ap (λ x. (shape x).format) c.extents.ensures)) ∙ sym c.has_twins.ensures ∙ c.if-not-has_twins.false) c.into_disk-disk.result c.into_disk-disk.ensures (λ (runs : List Run). MatchBool c.in-Ok.lives (¬ NothingOn runs c.args.extent) (NothingOn runs c.args.extent)) (c.in-Ok.ensures.lives (honest_there _ c.args.core c.progress.ensures.core c.into_disk-disk.result c.into_disk-disk.ensures h)) n m found) (c.in-Ok.ensures.crash (honest_there _ c.args.core c.progress.ensures.core c.into_disk-disk.result c.into_disk-disk.ensures h)) (c.cross_out.ensures.crash (c.in-Ok.ensures.honest.0 (honest_there _ c.args.core c.progress.ensures.core c.into_disk-disk.result c.into_disk-disk.ensures h)))
+
+pub returns-in-Err-cross_out-clause-keeps : goal.returns-in-Err-cross_out-clause-keeps
+returns-in-Err-cross_out-clause-keeps g c = λ h n m found whole. crossed_keeps _ c.args.core c.progress.ensures.core c.progress.ensures.whole.geometry (sym (ap twins_in (c.format.ensures.format ∙ c.geometry-geometry.ensures.format ∙ ap (λ x. (shape x).format) c.extents.ensures)) ∙ sym c.has_twins.ensures ∙ c.if-not-has_twins.false) c.into_disk-disk.result c.into_disk-disk.ensures c.in-Ok.disk c.cross_out.new.disk (c.in-Ok.ensures.kept (honest_there _ c.args.core c.progress.ensures.core c.into_disk-disk.result c.into_disk-disk.ensures h)) c.geometry-geometry.result (same_dimensions c.args.core.store.extents c.geometry-geometry.result (c.geometry-geometry.ensures.format ∙ ap (λ x. (shape x).format) c.extents.ensures) (c.geometry-geometry.ensures.extents ∙ ap (λ x. (shape x).extents) c.extents.ensures) (c.geometry-geometry.ensures.pages ∙ ap (λ x. (shape x).pages) c.extents.ensures) (c.geometry-geometry.ensures.sections ∙ ap (λ x. (shape x).sections) c.extents.ensures)) n m found c.args.extent (omega (arith, c.if-extent-from.false, c.from.ensures, c.extents-2.ensures, c.geometry-geometry.ensures.extents, ap (λ x. (shape x).extents) c.extents.ensures)) c.in-Ok.lives (of_disk _ c.args.core c.progress.ensures.core c.progress.ensures.whole.geometry (sym (ap twins_in (c.format.ensures.format ∙ c.geometry-geometry.ensures.format ∙ ap (λ x. (shape x).format) c.extents.ensures)) ∙ sym c.has_twins.ensures ∙ c.if-not-has_twins.false) c.into_disk-disk.result c.into_disk-disk.ensures (λ (runs : List Run). MatchBool c.in-Ok.lives (¬ NothingOn runs c.args.extent) (NothingOn runs c.args.extent)) (c.in-Ok.ensures.lives (honest_there _ c.args.core c.progress.ensures.core c.into_disk-disk.result c.into_disk-disk.ensures h)) n m found) whole (c.in-Ok.ensures.crash (honest_there _ c.args.core c.progress.ensures.core c.into_disk-disk.result c.into_disk-disk.ensures h)) (c.cross_out.ensures.crash (c.in-Ok.ensures.honest.0 (honest_there _ c.args.core c.progress.ensures.core c.into_disk-disk.result c.into_disk-disk.ensures h)))
 
 pub returns-in-Err-cross_out-clause-calls : goal.returns-in-Err-cross_out-clause-calls
 returns-in-Err-cross_out-clause-calls g c = λ h twins. calls_at_most _ _ _ _ (ap (λ z. g.D.PageDisk.moment z.disk) c.into_disk-disk.ensures) (c.in-Ok.ensures.calls (honest_there _ c.args.core c.progress.ensures.core c.into_disk-disk.result c.into_disk-disk.ensures h)) (c.in-Err-cross_out.ensures.calls (c.in-Ok.ensures.honest.0 (honest_there _ c.args.core c.progress.ensures.core c.into_disk-disk.result c.into_disk-disk.ensures h)))
@@ -87,6 +102,9 @@ returns-in-Err-clause-recovers g c = λ h n m found whole. subst (λ (z : _). Re
 
 pub returns-in-Err-clause-crash : goal.returns-in-Err-clause-crash
 returns-in-Err-clause-crash g c = λ h n m found. opened_out _ c.args.core c.progress.ensures.core c.into_disk-disk.result c.in-Err.refused.1 c.into_disk-disk.ensures (λ image. IsLeftOut (dimensions_of c.args.core.store.extents) c.args.extent found.runs (seen (state_shown c.args.core.disk)) image) (c.in-Err.ensures.crash (honest_there _ c.args.core c.progress.ensures.core c.into_disk-disk.result c.into_disk-disk.ensures h))
+
+pub returns-in-Err-clause-keeps : goal.returns-in-Err-clause-keeps
+returns-in-Err-clause-keeps g c = λ h n m found whole. opened_out _ c.args.core c.progress.ensures.core c.into_disk-disk.result c.in-Err.refused.1 c.into_disk-disk.ensures (λ image. Recovers (shape c.args.core.store.extents) (formats_of (shape c.args.core.store.extents)) (page image) n m) (c.in-Err.ensures.crash (honest_there _ c.args.core c.progress.ensures.core c.into_disk-disk.result c.into_disk-disk.ensures h))
 
 pub returns-in-Err-clause-why : goal.returns-in-Err-clause-why
 returns-in-Err-clause-why g c = λ h n m found. inl (of_disk _ c.args.core c.progress.ensures.core c.progress.ensures.whole.geometry (sym (ap twins_in (c.format.ensures.format ∙ c.geometry-geometry.ensures.format ∙ ap (λ x. (shape x).format) c.extents.ensures)) ∙ sym c.has_twins.ensures ∙ c.if-not-has_twins.false) c.into_disk-disk.result c.into_disk-disk.ensures (λ (runs : List Run). IsNoAnswer c.in-Err.refused.0) (c.in-Err.ensures.lives (honest_there _ c.args.core c.progress.ensures.core c.into_disk-disk.result c.into_disk-disk.ensures h)) n m found)

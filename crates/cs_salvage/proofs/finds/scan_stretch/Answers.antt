@@ -1,4 +1,6 @@
-use Rattle.std.proofs.Common.{◌≡◌, ◌+◌, ◌-◌, ◌<◌, ◌∷◌, ◌++◌, [], List, ap, arith, length, min, subst, sym, ℕ}
+use Rattle.std.proofs.Common.{◌≡◌, ◌+◌, ◌-◌, ◌<◌, ◌≤◌, ◌∷◌, ◌++◌, [], List, ap, arith, length, min, subst, sym, ℕ}
+use Rattle.std.proofs.lemmas.List.{append-nil}
+use Rattle.std.proofs.lemmas.List.Elements.{All-nil, All-push}
 use Rattle.cs_disk.specs.Disk.{seen}
 use Rattle.cs_salvage.specs.Frames.{AreReadAs}
 use Rattle.cs_salvage.specs.Looks.{AreApart, AreFoundBefore, number_of}
@@ -71,3 +73,9 @@ returns-clause-apart g c = λ first from are.
     (c.in_ok-add_parts_in.ensures.ended (ended_later c.args.sought.now.geometry c.args.number (here + length c.deref.result.now) c.args.finds.now.parts.items (omega (arith, at)) are.ended)) in
     let avoid = c.in_ok-add_parts_in.ensures.avoid c.args.finds.now.unreadable.items (λ k d lt. let less = are.before k d lt in omega (arith, less, at)) are.avoid in
     apart_more c.args.sought.now.geometry first count c.args.number (c.args.number + c.len.result) c.args.finds.now.unreadable.items c.args.finds.now.parts.items c.add_parts_in.new.parts.items (omega arith) are ended avoid
+
+pub returns-then-stretch-clause-more : goal.returns-then-stretch-clause-more
+returns-then-stretch-clause-more g c = ((c.args.number + c.len.result) ∷ [], c.in_ok-push.ensures.items, All-push (λ (p : ℕ). c.args.number ≤ p) [] (c.args.number + c.len.result) (All-nil (λ (p : ℕ). c.args.number ≤ p)) (omega arith))
+
+pub returns-clause-more : goal.returns-clause-more
+returns-clause-more g c = ([], sym {A = List ℕ} (append-nil c.args.finds.now.unreadable.items), All-nil (λ (p : ℕ). c.args.number ≤ p))

@@ -1,32 +1,38 @@
-use Rattle.std.proofs.Common.{◌≡◌, ◌+◌, ℕ, arith, inl, refl, subst, sym}
-use Rattle.cs_disk.proofs.OnlyRead.{reads_none, reads_on}
+use Rattle.std.proofs.Common.{◌≤◌, ℕ, [], arith, subst, sym}
+use Rattle.cs_disk.proofs.OnlyRead.{reads_on}
 use Rattle.cs_disk.specs.Disk.{State, seen}
-use Rattle.cs_salvage.specs.Greatest.{IsScanUpTo}
-use Rattle.cs_salvage.proofs.Scanning.{no_extent_scanned, whole_scan}
+use Rattle.cs_salvage.specs.Greatest.{IsGreatestBefore}
+use Rattle.cs_salvage.specs.Looks.{AreApart, look_end}
+use Rattle.cs_salvage.proofs.Scanning.{scan_of}
+use Rattle.cs_salvage.proofs.Stretches.{length_seen}
 use Rattle.cs_salvage.proofs.scans.scan_commands.Goals as goal
 
-pub loop-extent-init : goal.loop-extent-init
-loop-extent-init g c = record {
-  disk = reads_none g.D.PageDisk c.args.disk.now;
-  scanned = λ h. no_extent_scanned c.args.sought.now (seen (g.D.PageDisk.state c.args.disk.now));
-  spelled = inl refl;
-}
+pub loop-scan-preserved : goal.loop-scan-preserved
+loop-scan-preserved g c =
+    let was = c.loop-scan.invariant in
+    let it = c.in_ok-scan.ensures in
+    let now = c.in_ok-scan.scan in
+    record {
+      disk = reads_on g.D.PageDisk c.args.disk.now c.loop-scan.disk c.scan_on.new.disk was.disk it.disk;
+      from = omega (arith, it.next.0, was.from);
+      scanned = λ h.
+          let same = was.disk.same h in
+          let before = subst (λ (s : State). IsGreatestBefore c.args.sought.now (seen s) c.loop-scan.scan.page c.loop-scan.scan.unreadable.items c.loop-scan.scan.greatest) (sym same) (was.scanned h) in
+          subst (λ (s : State). IsGreatestBefore c.args.sought.now (seen s) now.page now.unreadable.items now.greatest) same (it.scanned (was.disk.honesty.0 h) before);
+      apart = subst (λ (n : ℕ). AreApart c.args.sought.now.geometry 0 n now.page now.unreadable.items []) was.disk.pages it.apart;
+      spelled = it.spelled was.spelled;
+      cause = it.cause (g.D.PageDisk.failure_count c.args.disk.now) was.cause;
+    }
 
-pub loop-extent-preserved : goal.loop-extent-preserved
-loop-extent-preserved g c = record {
-  disk = reads_on g.D.PageDisk c.args.disk.now c.loop-extent.disk c.scan_on.new.disk c.loop-extent.invariant.disk c.scan_on.ensures.disk;
-  scanned = λ h.
-      let same = c.loop-extent.invariant.disk.same h in
-      let here = subst (λ (s : State). IsScanUpTo c.args.sought.now (seen s) c.loop-extent.extent c.loop-extent.scanned) (sym same) (c.loop-extent.invariant.scanned h) in
-      subst (λ (s : State). IsScanUpTo c.args.sought.now (seen s) (c.loop-extent.extent + 1) c.in-Ok.now) same (c.in-Ok.ensures.scanned (c.loop-extent.invariant.disk.honesty.0 h) here);
-  spelled = c.in-Ok.ensures.spelled c.loop-extent.invariant.spelled;
-}
+pub returns-then-not-goes_on-clause-scanned : goal.returns-then-not-goes_on-clause-scanned
+returns-then-not-goes_on-clause-scanned g c = λ h.
+    let count = g.D.PageDisk.page_count c.args.disk.now in
+    scan_of c.args.sought.now (seen (g.D.PageDisk.state c.args.disk.now)) c.loop-scan.scan.page count c.loop-scan.scan.unreadable.items _
+    (length_seen (g.D.PageDisk.state c.args.disk.now) count (g.met.D.PageDisk.sized c.args.disk.now h)) (c.loop-scan.invariant.scanned h) (λ is. absurd (cc is))
 
 pub returns-clause-scanned : goal.returns-clause-scanned
 returns-clause-scanned g c = λ h.
-    let image = seen (g.D.PageDisk.state c.args.disk.now) in
-    let last : c.loop-extent.extent ≡ c.args.sought.now.geometry.extents = omega (arith, c.loop-extent-test.false, c.extents-extent-end.ensures.extents, c.loop-extent.auto.extent-end) in
-    whole_scan c.args.sought.now image c.loop-extent.scanned (subst (λ (n : ℕ). IsScanUpTo c.args.sought.now image n c.loop-extent.scanned) last (c.loop-extent.invariant.scanned h))
-
-pub returns-in-Err-clause-disk : goal.returns-in-Err-clause-disk
-returns-in-Err-clause-disk g c = reads_on g.D.PageDisk c.args.disk.now c.loop-extent.disk c.scan_on.new.disk c.loop-extent.invariant.disk c.scan_on.ensures.disk
+    let count = g.D.PageDisk.page_count c.args.disk.now in
+    let ends : look_end c.args.sought.now.geometry count ≤ c.loop-scan.scan.page = omega (arith, c.loop-scan-test.false, c.end_of_scan-end.ensures, c.pages.ensures) in
+    scan_of c.args.sought.now (seen (g.D.PageDisk.state c.args.disk.now)) c.loop-scan.scan.page count c.loop-scan.scan.unreadable.items _
+    (length_seen (g.D.PageDisk.state c.args.disk.now) count (g.met.D.PageDisk.sized c.args.disk.now h)) (c.loop-scan.invariant.scanned h) (λ is. ends)

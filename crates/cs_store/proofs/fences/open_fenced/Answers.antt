@@ -1,4 +1,4 @@
-use Rattle.std.proofs.Common.{None, [], ap, inl, subst, sym, ⊎_elim, ◌∙◌, ◌≡◌, ◌⊎◌}
+use Rattle.std.proofs.Common.{None, Some, ℕ, [], ap, inl, subst, sym, ⊎_elim, ◌∙◌, ◌≡◌, ◌⊎◌}
 use Rattle.std.specs.List.{AllByRecursion}
 use Rattle.cs_chunk.specs.Reads.{IsNoAnswer}
 use Rattle.cs_disk.specs.Disk.{Image, MayLeave, page, seen}
@@ -9,6 +9,7 @@ use Rattle.cs_mount.specs.Showing.{shown_on}
 use Rattle.cs_reader.specs.Openings.{IsWhyNotOpened}
 use Rattle.cs_twin.specs.Findings.{finding_in, passed_over}
 use Rattle.cs_twin.specs.Paired.{disk_below, left_as_shown, moment_of, pairs_of, state_shown, versions_of}
+use Rattle.cs_twin.specs.Pairs.{fence}
 use Rattle.law_machine.specs.Geometry.{shape_of}
 use Rattle.law_machine.specs.Recovery.{Recovers}
 use Rattle.cs_store.proofs.Fenced.{kept_still, leaves_then, none_mapped, same_left}
@@ -81,3 +82,13 @@ returns-in-Ok-open-clause-image g c = λ h.
 
 pub returns-in-Err-clause-recovers : goal.returns-in-Err-clause-recovers
 returns-in-Err-clause-recovers g c = λ h format extents pages sections geometry sized n m recovers. c.in-Err.ensures.refusals
+
+pub returns-in-Ok-open-clause-filled : goal.returns-in-Ok-open-clause-filled
+returns-in-Ok-open-clause-filled g c = λ h.
+    let core = c.args.core in
+    subst (λ (image : Image). AllByRecursion (λ x. (number : ℕ) → passed_over (finding_in (versions_of core.disk) (seen (g.D.PageDisk.state (disk_below core.disk))) x) ≡ Some number → page image number ≡ fence) (pairs_of core.disk))
+    (sym (ap seen (c.in-Ok-open.ensures.unwritten (c.in-Ok.ensures.honest.0 h)))) (c.in-Ok.ensures.filled h)
+
+pub returns-in-Ok-open-clause-untouched : goal.returns-in-Ok-open-clause-untouched
+returns-in-Ok-open-clause-untouched g c = λ h number none.
+    ap (λ (image : Image). page image number) (ap seen (c.in-Ok-open.ensures.unwritten (c.in-Ok.ensures.honest.0 h))) ∙ c.in-Ok.ensures.untouched h number none

@@ -1,5 +1,8 @@
 use Rattle.std.proofs.Common.{◌≡◌, ℕ, List, true, subst, sym, ◌<◌}
+use Rattle.cs_disk.specs.Disk.{seen}
 use Rattle.cs_mount.specs.Hidden.{is_among}
+use Rattle.cs_mount.specs.Unreadable.{LeavesFenced}
+use Rattle.cs_store.proofs.Readied.{read_partly}
 use Rattle.cs_store.proofs.fences.ready_to_write.Goals as goal
 
 pub give_up-requires : goal.give_up-requires
@@ -7,3 +10,11 @@ give_up-requires g c =
     let D = g.D.PageDisk in
     subst (λ (l : List ℕ). (p : ℕ) → is_among l p ≡ true → p < D.page_count c.unreadable_halves.new.disk) (sym c.deref-2.ensures.value)
     (λ p is. subst (λ (k : ℕ). p < k) (sym c.in-Ok.ensures.disk.pages) (c.in-Ok.ensures.inside p is))
+
+pub returns-in-Err-give_up-clause-partly : goal.returns-in-Err-give_up-clause-partly
+returns-in-Err-give_up-clause-partly g c = λ h.
+    let D = g.D.PageDisk in
+    let mid = c.unreadable_halves.new.disk in
+    let now = c.give_up.new.disk in
+    read_partly (D.page_count c.args.disk.now) (D.state c.args.disk.now) (D.state mid) (D.state now) c.in-Ok.unread.items (c.in-Ok.ensures.disk.same h) (c.in-Ok.ensures.halves h)
+    (subst (λ (l : List ℕ). LeavesFenced l (D.state mid) (seen (D.state now))) c.deref-2.ensures.value (c.in-Err-give_up.ensures.refused (c.in-Ok.ensures.disk.honesty.0 h)))

@@ -4,7 +4,7 @@ use Rattle.cs_writeback.proofs.Runs.{ran_then}
 use Rattle.cs_index.specs.State.{index_of}
 use Rattle.law_machine.specs.Index.{names}
 use Rattle.cs_inspect.specs.declared.choices.Choice.{Choice}
-use Rattle.cs_inspect.specs.Choices.{GoesBy, chosen_extent}
+use Rattle.cs_inspect.specs.Choices.{GoesNext, chosen_extent}
 use Rattle.cs_inspect.specs.Uses.{heads_of}
 use Rattle.cs_store.specs.declared.reclaims.Reclaimed.{Reclaimed}
 use Rattle.cs_store.specs.Sweeps.{SweepsReady}
@@ -52,7 +52,7 @@ returns-in-Ok-sweep_ready-clause-chosen g c = λ honest view chunks are live.
       c.choose_sweep.new.core,
       c.choose_sweep.ensures.reads,
       c.in-Ok-sweep_ready.ensures.done,
-      subst (λ (o : Option Choice). GoesBy g.D.PageDisk (heads_of first.store.extents view chunks) (names (index_of first.store.index)) first c.choose_sweep.new.core (chosen_extent o)) c.in-Some.is
+      subst (λ (o : Option Choice). GoesNext g.D.PageDisk (heads_of first.store.extents view chunks) (names (index_of first.store.index)) first c.choose_sweep.new.core (chosen_extent o)) c.in-Some.is
           (c.in-Ok.ensures.chosen honest view chunks are live),
     )
 
@@ -62,14 +62,14 @@ returns-in_default-found-clause-chosen g c = λ honest view chunks are live.
       c.choose_sweep.new.core,
       c.choose_sweep.ensures.reads,
       refl,
-      subst (λ (o : Option Choice). GoesBy g.D.PageDisk (heads_of first.store.extents view chunks) (names (index_of first.store.index)) first c.choose_sweep.new.core (chosen_extent o)) c.in_default-found.is
+      subst (λ (o : Option Choice). GoesNext g.D.PageDisk (heads_of first.store.extents view chunks) (names (index_of first.store.index)) first c.choose_sweep.new.core (chosen_extent o)) c.in_default-found.is
           (c.in-Ok.ensures.chosen honest view chunks are live),
     )
 
 pub returns-in-Err-clause-declined : goal.returns-in-Err-clause-declined
 returns-in-Err-clause-declined g c = λ honest view chunks are live.
     let first = c.args.core.now in
-    let goes = subst (λ (o : Option Choice). GoesBy g.D.PageDisk (heads_of first.store.extents view chunks) (names (index_of first.store.index)) first c.choose_sweep.new.core (chosen_extent o)) c.in-Some.is
+    let goes = subst (λ (o : Option Choice). GoesNext g.D.PageDisk (heads_of first.store.extents view chunks) (names (index_of first.store.index)) first c.choose_sweep.new.core (chosen_extent o)) c.in-Some.is
     (c.in-Ok.ensures.chosen honest view chunks are live) in
     (c.choose_sweep.new.core, c.choose_sweep.ensures.reads, inr (c.in-Some.field-0.extent, c.in-Some.field-0.dead, goes, c.in-Err.ensures.declined))
 

@@ -6,7 +6,13 @@ pub returns : goal.returns
 returns c = (
   view c.in_ok-object.object,
   string_bytes c.in_ok-text.text,
-  record { status = c.in_ok-object.ensures.status; next = c.in_ok-object.ensures.next },
+  record {
+    status = c.in_ok-object.ensures.status;
+    next = c.in_ok-object.ensures.next;
+    what = c.in_ok-object.ensures.found.0;
+    has_what = c.in_ok-object.ensures.found.1;
+    made = c.in_ok-object.ensures.found.2;
+  },
   record { order = c.in_ok-text.ensures.order; reads_back = c.in_ok-text.ensures.reads_back },
   c.in_ok-push_str.ensures.bytes,
 )

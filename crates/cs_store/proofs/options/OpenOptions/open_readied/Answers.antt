@@ -13,7 +13,7 @@ use Rattle.cs_twin.specs.Findings.{is_halved}
 use Rattle.cs_twin.specs.Paired.{left_as_shown, moment_of, state_shown}
 use Rattle.law_machine.specs.Geometry.{shape_of}
 use Rattle.law_machine.specs.Recovery.{Recovers}
-use Rattle.cs_store.proofs.Fenced.{guarded_again, guarded_still, long_seen, none_halved, not_passed, still_shown}
+use Rattle.cs_store.proofs.Fenced.{filled_again, filled_still, guarded_again, guarded_still, long_seen, none_halved, not_passed, still_shown, untouched_again}
 use Rattle.cs_store.proofs.Maps.{opened_map}
 use Rattle.cs_store.proofs.options.OpenOptions.open_readied.Goals as goal
 
@@ -152,3 +152,35 @@ returns-in-Err-clause-unwritten g c = λ h none. c.in-Err.ensures.unwritten h
 
 pub returns-then-not-are_passed_over-clause-unwritten : goal.returns-then-not-are_passed_over-clause-unwritten
 returns-then-not-are_passed_over-clause-unwritten g c = λ h none. c.in-Ok.ensures.unwritten h
+
+pub returns-then-not-are_passed_over-clause-filled : goal.returns-then-not-are_passed_over-clause-filled
+returns-then-not-are_passed_over-clause-filled g c = λ h.
+    let D = g.D.PageDisk in
+    let disk = c.args.disk in
+    let unnamed : list_any is_halved c.in-Ok.findings.items ≡ false = ap (list_any is_halved) (sym c.deref.ensures.value) ∙ sym c.are_passed_over.ensures ∙ c.if-not-are_passed_over.true in
+    filled_still (D.page_count disk) (D.state disk) (g.met.D.PageDisk.sized disk h) c.in-Ok.findings.items (seen (D.state c.in-Ok.core.disk.disk)) (c.in-Ok.ensures.findings h) unnamed
+
+pub returns-then-not-are_passed_over-clause-untouched : goal.returns-then-not-are_passed_over-clause-untouched
+returns-then-not-are_passed_over-clause-untouched g c = λ h number none. ap (λ (image : Image). page image number) (ap seen (c.in-Ok.ensures.unwritten h))
+
+pub returns-in-Ok-open_fenced-clause-filled : goal.returns-in-Ok-open_fenced-clause-filled
+returns-in-Ok-open_fenced-clause-filled g c = λ h.
+    let D = g.D.PageDisk in
+    let disk = c.args.disk in
+    let p = c.in-Ok.core.disk in
+    let before = c.in-Ok.ensures.honest.0 h in
+    let named : list_any is_halved c.in-Ok.findings.items ≡ true = ap (list_any is_halved) (sym c.deref.ensures.value) ∙ sym c.are_passed_over.ensures ∙ c.if-not-are_passed_over.false in
+    filled_again (D.page_count disk) (D.state disk) (g.met.D.PageDisk.sized disk h) c.in-Ok.findings.items (c.in-Ok.ensures.findings h) named
+    (D.page_count p.disk) p.rules.geometry p.pairs.items (D.state p.disk) c.in-Ok.ensures.pages (p.fit before).durable (c.in-Ok.ensures.image h).1 (ap seen (c.in-Ok.ensures.unwritten h))
+    (seen (D.state c.in-Ok-open_fenced.core.disk.disk)) (c.in-Ok-open_fenced.ensures.filled before)
+
+pub returns-in-Ok-open_fenced-clause-untouched : goal.returns-in-Ok-open_fenced-clause-untouched
+returns-in-Ok-open_fenced-clause-untouched g c = λ h.
+    let D = g.D.PageDisk in
+    let disk = c.args.disk in
+    let p = c.in-Ok.core.disk in
+    let before = c.in-Ok.ensures.honest.0 h in
+    let named : list_any is_halved c.in-Ok.findings.items ≡ true = ap (list_any is_halved) (sym c.deref.ensures.value) ∙ sym c.are_passed_over.ensures ∙ c.if-not-are_passed_over.false in
+    untouched_again (D.page_count disk) (D.state disk) (g.met.D.PageDisk.sized disk h) c.in-Ok.findings.items (c.in-Ok.ensures.findings h) named
+    (D.page_count p.disk) p.rules.geometry p.pairs.items (D.state p.disk) c.in-Ok.ensures.pages (p.fit before).durable (c.in-Ok.ensures.image h).1 (ap seen (c.in-Ok.ensures.unwritten h))
+    (seen (D.state c.in-Ok-open_fenced.core.disk.disk)) (c.in-Ok-open_fenced.ensures.untouched before)

@@ -1,4 +1,4 @@
-use Rattle.std.proofs.Common.{[], ℕ, ap, inl, inr, subst, sym, ⊎_elim, ◌∙◌, ◌≡◌, ◌⊎◌, ◌<◌, Err}
+use Rattle.std.proofs.Common.{[], ℕ, ap, inl, inr, refl, subst, sym, ⊎_elim, ◌∙◌, ◌≡◌, ◌⊎◌, ◌<◌, Err}
 use Rattle.cs_chunk.specs.Reads.{IsNoAnswer}
 use Rattle.cs_disk.specs.Disk.{Image, MayLeave, State, flushed, page, seen}
 use Rattle.cs_frame.specs.Formats.{formats_of}
@@ -11,9 +11,9 @@ use Rattle.cs_refusal.specs.declared.refusals.Refusal.TheVariants.{NotAStore}
 use Rattle.cs_twin.specs.Paired.{disk_below, left_as_shown}
 use Rattle.law_machine.specs.Geometry.{shape_of}
 use Rattle.law_machine.specs.Recovery.{Recovers}
-use Rattle.cs_store.specs.Opening.{NoneIsPassedOver, Opening, given_up}
+use Rattle.cs_store.specs.Opening.{AgreeBeside, AreFencesIn, NoneIsPassedOver, Opening, given_up}
 use Rattle.cs_store.specs.declared.options.Loss.TheVariants.{Refused}
-use Rattle.cs_store.proofs.Readied.{answered, moved, moved_back, none_given_up, opened_readable, rises_from, same_Err, shows_moved}
+use Rattle.cs_store.proofs.Readied.{answered, given_up_partly, moved, moved_back, none_given_up, opened_readable, rises_from, same_Err, shows_moved}
 use Rattle.cs_store.proofs.options.OpenOptions.open_to_write.Goals as goal
 
 -- ---- it is opened
@@ -78,6 +78,20 @@ returns-in-Ok-open_readied-clause-guarded g c = λ h.
     let D = g.D.PageDisk in
     subst (λ k. NoneIsPassedOver (findings_on k (seen (D.state (disk_below c.in-Ok-open_readied.store.disk))))) c.ready_to_write.ensures.pages (c.in-Ok-open_readied.ensures.guarded (c.ready_to_write.ensures.honest.0 h))
 
+pub returns-in-Ok-open_readied-clause-filled : goal.returns-in-Ok-open_readied-clause-filled
+returns-in-Ok-open_readied-clause-filled g c = λ h.
+    let D = g.D.PageDisk in
+    let d = c.ready_to_write.new.disk in
+    moved (D.page_count d) (D.page_count c.args.disk) (D.state d) (given_up c.in-Ok.lost.items (D.state c.args.disk)) c.ready_to_write.ensures.pages (c.in-Ok.ensures.state h)
+    (λ k z. AreFencesIn (findings_on k (seen z)) (seen (D.state (disk_below c.in-Ok-open_readied.store.disk)))) (c.in-Ok-open_readied.ensures.filled (c.ready_to_write.ensures.honest.0 h))
+
+pub returns-in-Ok-open_readied-clause-untouched : goal.returns-in-Ok-open_readied-clause-untouched
+returns-in-Ok-open_readied-clause-untouched g c = λ h.
+    let D = g.D.PageDisk in
+    let d = c.ready_to_write.new.disk in
+    moved (D.page_count d) (D.page_count c.args.disk) (D.state d) (given_up c.in-Ok.lost.items (D.state c.args.disk)) c.ready_to_write.ensures.pages (c.in-Ok.ensures.state h)
+    (λ k z. AgreeBeside (findings_on k (seen z)) (seen z) (seen (D.state (disk_below c.in-Ok-open_readied.store.disk)))) (c.in-Ok-open_readied.ensures.untouched (c.ready_to_write.ensures.honest.0 h))
+
 pub returns-in-Ok-open_readied-clause-unwritten : goal.returns-in-Ok-open_readied-clause-unwritten
 returns-in-Ok-open_readied-clause-unwritten g c = λ h refused none.
     let D = g.D.PageDisk in
@@ -128,6 +142,17 @@ returns-in-Err-open_readied-clause-shown g c = λ h refused.
     let same = none_given_up c.in-Ok.lost.items (D.state c.args.disk) (D.state d) (c.in-Ok.ensures.none (subst (λ (u : Opening). u.loss ≡ Refused) (sym c.self.view_is) refused)) (c.in-Ok.ensures.state h) in
     moved (D.page_count d) (D.page_count c.args.disk) (D.state d) (D.state c.args.disk) c.ready_to_write.ensures.pages same
     (λ k z. shown_on k (seen (D.state c.in-Err-open_readied.refused.1)) ≡ shown_on k (seen z)) (c.in-Err-open_readied.ensures.shown (c.ready_to_write.ensures.honest.0 h))
+
+pub returns-in-Err-open_readied-clause-partly : goal.returns-in-Err-open_readied-clause-partly
+returns-in-Err-open_readied-clause-partly g c = λ h.
+    let D = g.D.PageDisk in
+    let d = c.ready_to_write.new.disk in
+    let before = given_up c.in-Ok.lost.items (D.state c.args.disk) in (
+      seen before,
+      given_up_partly (D.page_count c.args.disk) (D.state c.args.disk) c.in-Ok.lost.items (c.in-Ok.ensures.halves h),
+      moved (D.page_count d) (D.page_count c.args.disk) (D.state d) before c.ready_to_write.ensures.pages (c.in-Ok.ensures.state h)
+          (λ k z. shown_on k (seen (D.state c.in-Err-open_readied.refused.1)) ≡ shown_on k (seen z)) (c.in-Err-open_readied.ensures.shown (c.ready_to_write.ensures.honest.0 h)),
+    )
 
 pub returns-in-Err-open_readied-clause-refusals : goal.returns-in-Err-open_readied-clause-refusals
 returns-in-Err-open_readied-clause-refusals g c = λ h refused.
@@ -187,6 +212,9 @@ returns-in-Err-clause-recovers g c = λ h refused one format extents pages secti
 
 pub returns-in-Err-clause-shown : goal.returns-in-Err-clause-shown
 returns-in-Err-clause-shown g c = λ h refused. ap (λ (s : State). shown_on (g.D.PageDisk.page_count c.args.disk) (seen s)) ((c.in-Err.ensures.same (subst (λ (u : Opening). u.loss ≡ Refused) (sym c.self.view_is) refused)).same h)
+
+pub returns-in-Err-clause-partly : goal.returns-in-Err-clause-partly
+returns-in-Err-clause-partly g c = λ h. (seen (g.D.PageDisk.state c.ready_to_write.new.disk), c.in-Err.ensures.partly h, refl)
 
 pub returns-in-Err-clause-refusals : goal.returns-in-Err-clause-refusals
 returns-in-Err-clause-refusals g c = λ h refused. ⊎_elim (λ no. inl no) (λ it. inr (inl it.0)) c.in-Err.ensures.refused

@@ -6,7 +6,7 @@ use Rattle.cs_disk.specs.Disk.{Leaves}
 use Rattle.cs_writeback.proofs.Runs.{ran_none}
 use Rattle.cs_index.specs.State.{index_of}
 use Rattle.law_machine.specs.Index.{names}
-use Rattle.cs_inspect.specs.Choices.{GoesBy, ReadsOn}
+use Rattle.cs_inspect.specs.Choices.{GoesNext, ReadsOn}
 use Rattle.cs_inspect.specs.Uses.{heads_of}
 use Rattle.cs_store.specs.declared.errors.SweepError.{SweepError}
 use Rattle.cs_store.specs.declared.reclaims.Reclaimed.{Reclaimed}
@@ -26,7 +26,7 @@ returns-clause-chosen g c = rw (← c.self.view_is) (λ honest view chunks are l
     let old = c.self.inside.core in
     let new = c.reclaim_ready-reclaimed.new.core in
     let chosen = λ (found : Option Reclaimed). (read : View g.row.D.Denot) × ReadsOn g.D.PageDisk old read × Reclaims g.D.PageDisk read found new
-    × GoesBy g.D.PageDisk (heads_of old.store.extents view chunks) (names (index_of old.store.index)) old read (reclaimed_extent found) in
+    × GoesNext g.D.PageDisk (heads_of old.store.extents view chunks) (names (index_of old.store.index)) old read (reclaimed_extent found) in
     elim c.match-reclaimed.branch [
       | in-Ok w ↦ if_ok c.match-reclaimed.result w.in-Ok.found chosen w.result-is (w.in-Ok.ensures.chosen honest view chunks are live)
       | in-Err w ↦ if_err c.match-reclaimed.result w.of.result chosen w.result-is

@@ -17,6 +17,7 @@ loop-k-init g c = record {
   right = c.requires.right;
   failures = omega arith;
   refused = refl;
+  sound = λ is. is;
 }
 
 pub refill-requires-clause-pairs : goal.refill-requires-clause-pairs
@@ -58,6 +59,7 @@ loop-k-preserved g c =
       right = c.refill.ensures.right;
       failures = let later = c.refill.ensures.cause.later in let before = so_far.failures in omega (arith, later, before);
       refused = c.refill.ensures.refused ∙ so_far.refused;
+      sound = λ is. c.in-Ok.ensures.sound (so_far.sound is);
     }
 
 pub returns-clause-laid : goal.returns-clause-laid

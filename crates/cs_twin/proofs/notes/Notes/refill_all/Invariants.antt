@@ -1,6 +1,6 @@
 use Rattle.std.proofs.Common.{◌≡◌, ◌≤◌, ◌↔◌, []}
 use Rattle.cs_twin.specs.Fitting.{IsFit}
-use Rattle.cs_twin.specs.Noted.{AreNotes, AreRight, failed, refused_of}
+use Rattle.cs_twin.specs.Noted.{AreNotes, AreRight, IsUndoubted, failed, refused_of}
 use Rattle.cs_twin.specs.Pairs.{shown}
 use Rattle.cs_twin.proofs.MendingAll.{AreFilledTo, LeavesShown}
 use Rattle.cs_twin.proofs.notes.Notes.refill_all.Given as goal
@@ -18,4 +18,5 @@ invariant-loop-k g l = record {
   right : g.D.PageDisk.honest l.disk → AreRight (g.R.PageRules.version l.rules) l.pairs l.self (g.D.PageDisk.state l.disk);
   failures : failed (g.D.PageDisk.failure_count l.fn.disk) l.fn.self ≤ failed (g.D.PageDisk.failure_count l.disk) l.self;
   refused : refused_of l.self ≡ refused_of l.fn.self;
+  sound : IsUndoubted l.fn.self → IsUndoubted l.self;
 }

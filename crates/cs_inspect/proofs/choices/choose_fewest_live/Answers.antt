@@ -1,5 +1,0 @@
-use Rattle.cs_inspect.proofs.Choosing.{fewest_chosen}
-use Rattle.cs_inspect.proofs.choices.choose_fewest_live.Goals as goal
-
-pub returns : goal.returns
-returns c = fewest_chosen c.args.uses.now c.in-Some.extent c.dead-dead.result _ c.dead-dead.ensures c.args.last c.args.pages c.in-Some.ensures
