@@ -102,6 +102,9 @@ class Script:
         if is_taken(ran):
             # The other half is the older one by now.
             return "a half of a pair, written by the other half"
+        word, *rest = self.sessions[at][0].split()
+        if word == "del" and ran.status == REFUSED and not numbers(ran) and rest[0] not in held:
+            return "a deletion that came to the device before its flush failed"
         self.see("a half that can't be written: the advice is `copy`", numbers(ran) and re.search(r"`(?:cs_cli )?copy\b", ran.said), page, ran)
         self.see("and nothing that was acknowledged is lost", self.trial.held(self.work) in [held, *after(self.maps[at], self.sessions[at])], page, ran)
         before = self.trial.held(self.work)
