@@ -1,5 +1,5 @@
--- Which events don't answer that the disk failed, and what a write that failed leaves.
-use Rattle.std.proofs.Common.{◌≡◌, ◌≢◌, ◌⊎◌, inl, inr, ℕ, List, Some, subst}
+-- Which events don't answer that the disk failed, what an Issue writes, and what a write that failed leaves.
+use Rattle.std.proofs.Common.{◌≡◌, ◌≢◌, ◌⊎◌, inl, inr, ℕ, List, Some, false, subst}
 use Rattle.std.specs.Prelude.{slice_get}
 use Rattle.cs_deps.specs.declared.elements.Element.{Element as Name}
 use Rattle.cs_refusal.specs.declared.refusals.Refusal.{Refusal as Code}
@@ -10,7 +10,7 @@ use Rattle.cs_core.specs.declared.events.Event.TheVariants.{Settle}
 use Rattle.cs_core.specs.declared.events.Reply.{Reply}
 use Rattle.cs_core.specs.declared.events.Reply.TheVariants.{Refused}
 use Rattle.cs_core.specs.Answered.{IsAnswered}
-use Rattle.cs_core.specs.Disks.{IsMemberWritten}
+use Rattle.cs_core.specs.Disks.{IsMemberWritten, IsWrittenNext}
 use Rattle.cs_core.specs.Replies.{MayRefuse}
 use Rattle.cs_core.specs.Stored.{Stored, members_of, but_for_room}
 
@@ -18,6 +18,10 @@ pub settle_never : (v w : Stored) (n : ℕ) (r : Reply) → IsAnswered v (Settle
 unfolding IsAnswered
 settle_never v w n (Refused f) is = λ fault. let same : f ≡ code.DeviceFault = cc fault in subst (λ (k : Code). MayRefuse (Settle n) k) same is.0
 settle_never v w n r is = λ fault. cc fault
+
+-- an Issue writes the next member of the round
+pub written_next : (v : Stored) → v.halted ≡ false → (x : Name) → slice_get (members_of v.out) v.issued ≡ Some x → (p : ℕ) (bytes : List ℕ) → write_of v.graph x ≡ Some (p, bytes) → IsWrittenNext (but_for_room v) p bytes
+written_next v runs x next p bytes kept = record { running = runs; member = x; next = next; kept = kept }
 
 -- the member of a write that failed may be there or not
 pub fault_written : (v : Stored) (x : Name) → slice_get (members_of v.out) v.issued ≡ Some x → (p : ℕ) (bytes : List ℕ) → write_of v.graph x ≡ Some (p, bytes)

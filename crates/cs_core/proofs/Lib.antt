@@ -57,6 +57,7 @@ pub mod Sweepable
 pub mod TornCrashes
 pub mod Unstaged
 pub mod TwoTexts
+pub mod Unlimited
 pub use Rattle.law_refinement.proofs as law_refinement
 pub use Rattle.cs_reader.proofs as cs_reader
 pub use Rattle.cs_index.proofs as cs_index

@@ -1,5 +1,5 @@
 -- What an event does to a disk.
-use Rattle.std.specs.Prelude.{◌≡◌, ◌⊎◌, ◌+◌, ◌≤◌, ◌↔◌, ℕ, List, Some, Result, Ok, Err, slice_get}
+use Rattle.std.specs.Prelude.{◌≡◌, ◌⊎◌, ◌+◌, ◌≤◌, ◌↔◌, ℕ, List, Some, Result, Ok, Err, false, slice_get}
 use Rattle.cs_chunk.specs.Reads.{IsCaused}
 use Rattle.cs_deps.specs.declared.elements.Element.{Element as Name}
 use Rattle.cs_refusal.specs.declared.refusals.Refusal.{Refusal}
@@ -28,6 +28,18 @@ IsDiskAfter old disk Issue (Issued x page) after = IsMemberWritten old disk x pa
 IsDiskAfter old disk Issue (Refused DeviceFault) after = (after ≡ disk) ⊎ ((x : Name) × (page : ℕ) × IsMemberWritten old disk x page after)
 IsDiskAfter old disk End (Ended n) after = after ≡ flushed disk
 IsDiskAfter old disk event reply after = after ≡ disk
+
+-- An Issue writes these bytes to this page: no write and no flush failed before, and the next member of the round goes
+-- there with them.
+pub record IsWrittenNext (store : Stored) (page : ℕ) (bytes : List ℕ) : Type 0 where
+  pub running : store.halted ≡ false
+  pub member : Name
+  pub next : slice_get (members_of store.out) store.issued ≡ Some member
+  pub kept : write_of store.graph member ≡ Some (page, bytes)
+
+-- the disk takes what an Issue writes to it, if it writes anything
+abbrev pub TakesNext : {D : Type 0} → (disks : PageDisk D) → Stored → D → Type 0
+TakesNext disks store disk = (page : ℕ) (bytes : List ℕ) → IsWrittenNext store page bytes → disks.takes disk page bytes
 
 -- How many writes and flushes were made, from the count before an event to the one after it: one by Issue and one by
 -- End; one or none where that call fails; none by any other event or refusal. Want of memory is no reply; its lines are

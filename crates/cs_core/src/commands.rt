@@ -39,6 +39,7 @@ impl Store {
         ensures shape { shape self.new.extents ≡ shape self.old.extents }
         ensures frontier { self.new.frontier ≡ self.old.frontier }
         ensures no_fault { IfErr result (λ r. r ≢ Refusal.DeviceFault) }
+        ensures unlimited { IfErr result (λ r. r ≢ Refusal.HistoryFull) }
     {
         let Some(cut) = Cut::of(&self.extents, bytes.len()) else {
             return Err(Refusal::TooLarge);
@@ -81,6 +82,7 @@ impl Store {
         ensures shape { shape self.new.extents ≡ shape self.old.extents }
         ensures frontier { self.new.frontier ≡ self.old.frontier }
         ensures no_fault { IfErr result (λ r. r ≢ Refusal.DeviceFault) }
+        ensures unlimited { IfErr result (λ r. r ≢ Refusal.HistoryFull) }
     {
         // Called for its contract alone: what all extents keep.
         self.extents.extent_count();

@@ -25,14 +25,14 @@ ghost use Rattle.cs_plan.specs.Best.{IsBestPlan};
 ghost use Rattle.cs_core.specs.Answered.{TellsMeant};
 ghost use Rattle.cs_core.specs.Sweepable.{IsUnsweepable};
 ghost use Rattle.cs_core.specs.Checkpoints.{IsNotReplaced, IsSettled, Replaces};
-ghost use Rattle.cs_core.specs.Disks.{CountsCalls, IsDiskAfter};
+ghost use Rattle.cs_core.specs.Disks.{CountsCalls, IsDiskAfter, TakesNext};
 ghost use Rattle.cs_reader.specs.Openings.{IsOpeningRefusal, IsWhyNotOpened};
 ghost use Rattle.cs_core.specs.Openings.{IsOpened, IfStoreOn, IsOpenedAs};
 ghost use Rattle.cs_core.specs.Replays.{replayed};
 ghost use Rattle.cs_core.specs.Replies.{MayAnswer};
 ghost use Rattle.cs_core.specs.Unstaged.{MayStage, NothingToStage};
 ghost use Rattle.cs_core.specs.Started.{IsHeadWritten, IsNewOn, TakesNew, new_stored};
-ghost use Rattle.cs_core.specs.Views.{Applies, IsCore, IsUntouched, IsFound, IsIn, kept};
+ghost use Rattle.cs_core.specs.Views.{Applies, IsCore, IsFull, IsUntouched, IsFound, IsIn, kept};
 ghost use Rattle.cs_core.specs.Writebacks.{WritesBack};
 ghost use Rattle.cs_core.specs.Prefixes.{IsPrefixOf};
 
@@ -204,6 +204,8 @@ impl<D: PageDisk> Core<D> {
         ensures step { IfOk result (λ reply. Applies D.PageDisk self.old event.now reply self.new) }
         ensures memory { OnErr result (IsUntouched D.PageDisk self.old self.new) }
         ensures answers { IfOk result (λ reply. MayAnswer event.now reply) }
+        // Whatever the disk does, 41 comes only of a full history. Then nothing has changed, so 41 is never recorded.
+        ensures full { IfOk result (λ reply. reply ≡ Reply.Refused Refusal.HistoryFull → IsFull self.old event.now reply self.new) }
         ensures writeback { IfOk result (λ reply. WritesBack self.old.store event.now reply self.new.store) }
         // Whatever the disk reads as, the bytes that a Get returns are those that the places of the identifier mean.
         ensures meant { IfOk result (λ reply. TellsMeant self.old.store event.now reply) }
@@ -214,6 +216,11 @@ impl<D: PageDisk> Core<D> {
         ensures cause { IfOk result (λ reply. reply ≡ Reply.Refused Refusal.DeviceFault → Rises (D.failure_count self.old.disk) (D.failure_count self.new.disk)) }
         // The disk's count of failures doesn't fall, whatever the answer.
         ensures later { D.failure_count self.old.disk ≤ D.failure_count self.new.disk }
+        // A sound disk that takes what an Issue writes next refuses nothing itself. So a 1 is an answer of the device.
+        ensures taken { D.honest self.old.disk → D.sound self.old.disk → TakesNext D.PageDisk self.old.store self.old.disk → D.refusal_count self.new.disk ≡ D.refusal_count self.old.disk }
+        // It stays sound in each event but an Issue, and in an Issue, unless that is answered 1 or `OutOfMemory`.
+        ensures sound { D.sound self.old.disk → (event.now ≡ Event.Issue) ⊎ D.sound self.new.disk }
+        ensures issued { D.sound self.old.disk → IfOk result (λ reply. (reply ≡ Reply.Refused Refusal.DeviceFault) ⊎ D.sound self.new.disk) }
         // A crash at any moment of the event leaves the map after some of the commands, as before it.
         ensures crash { D.honest self.old.disk → LeavesOnly D.moment D.left_since self.old.disk self.new.disk (IsPrefixOf self.old) }
         // A crash after it does so for the commands and the frontier then.

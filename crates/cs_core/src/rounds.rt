@@ -1,7 +1,8 @@
 //! Rounds of writeback and their plans, what of them is persistent, and whether any of it is left to do.
 ghost use Rattle.std.specs.Prelude.{◌≡◌, ◌≢◌, ◌+◌, ◌^◌, ◌<◌, ◌≤◌, ◌⊎◌, [], IfOk, IfErr, IfSome, MatchBool, MatchOption, MatchResult, OnErr, IsErrOf, None, Some, false, true, length, slice_get, ◌↔◌, ◌∷◌, List, IsTrue, slice_index, ℕ, IsSome};
 ghost use Rattle.cs_extent.specs.State.{shape, extents_of};
-ghost use Rattle.cs_core.specs.Disks.{WritesAsTold};
+ghost use Rattle.cs_core.specs.Disks.{TakesNext, WritesAsTold};
+ghost use Rattle.cs_disk.specs.Disk.{StaysSound};
 ghost use Rattle.cs_core.specs.Replies.{MayRefuse};
 ghost use Rattle.cs_core.specs.Rounds.{BeginAnswers, EndAnswers, IssueAnswers};
 ghost use Rattle.cs_core.specs.Stored.{members_of, but_for_room};
@@ -39,6 +40,7 @@ impl Store {
         ensures shape { shape self.new.extents ≡ shape self.old.extents }
         ensures frontier { self.new.frontier ≡ self.old.frontier }
         ensures no_fault { IfErr result (λ r. r ≢ Refusal.DeviceFault) }
+        ensures unlimited { IfErr result (λ r. r ≢ Refusal.HistoryFull) }
         ensures stays { IfErr result (λ r. StaysRefused Event.Begin r (but_for_room self.old) (but_for_room self.new)) }
     {
         // Called for their contracts alone: what all extents and every graph keep.
@@ -69,6 +71,8 @@ impl Store {
         ensures shape { shape self.new.extents ≡ shape self.old.extents }
         ensures frontier { self.new.frontier ≡ self.old.frontier }
         ensures disk { WritesAsTold D.PageDisk self.old disk.old Event.Issue (λ r. Reply.Issued r.0 r.1) result disk.new }
+        ensures taken { self.old.halted ≡ false → D.honest disk.old → D.sound disk.old → TakesNext D.PageDisk (but_for_room self.old) disk.old → D.refusal_count disk.new ≡ D.refusal_count disk.old }
+        ensures sound { D.sound disk.old → MatchResult result (λ _. D.sound disk.new) (λ r. (r ≡ Refusal.DeviceFault) ⊎ (r ≡ Refusal.OutOfMemory) ⊎ D.sound disk.new) }
     {
         // Called for their contracts alone: what all extents and every graph keep.
         self.extents.extent_count();
@@ -121,6 +125,7 @@ impl Store {
         ensures number { IfOk result (λ n. self.new.frontier ≡ n) }
         ensures rises { self.old.frontier ≤ self.new.frontier }
         ensures disk { WritesAsTold D.PageDisk self.old disk.old Event.End (λ n. Reply.Ended n) result disk.new }
+        ensures sound { StaysSound D.sound D.refusal_count disk.old disk.new }
     {
         // Called for their contracts alone: what all extents and every graph keep.
         self.extents.extent_count();

@@ -50,6 +50,7 @@ impl Store {
         ensures shape { shape self.new.extents ≡ shape self.old.extents }
         ensures frontier { self.new.frontier ≡ self.old.frontier }
         ensures no_fault { IfErr result (λ r. r ≢ Refusal.DeviceFault) }
+        ensures unlimited { IfErr result (λ r. r ≢ Refusal.HistoryFull) }
     {
         // Called for their contracts alone: what all extents and every graph keep.
         self.extents.extent_count();

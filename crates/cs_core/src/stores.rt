@@ -155,6 +155,7 @@ impl Store {
         ensures twice { result.0 ≡ result.1 }
         ensures answered { IsAnswered (but_for_room self.now) (Event.Settle n) result.0 (but_for_room self.now) }
         ensures step { (disk : DiskState) → Serves self.now disk (Event.Settle n) result.0 self.now disk }
+        ensures unlimited { result.0 ≢ Reply.Refused Refusal.HistoryFull }
     {
         let frontier = self.frontier();
         if 1 <= n && n <= frontier {
@@ -195,6 +196,7 @@ impl Store {
         ensures refused { OnErr result (but_for_room self.new ≡ but_for_room self.old) }
         ensures shape { shape self.new.extents ≡ shape self.old.extents }
         ensures no_fault { IfOk result (λ r. r.0 ≢ Reply.Refused Refusal.DeviceFault) }
+        ensures unlimited { IfOk result (λ r. r.0 ≢ Reply.Refused Refusal.HistoryFull) }
     {
         match event {
             Event::Put(id, bytes) => match self.put(*id, bytes.as_slice()) {

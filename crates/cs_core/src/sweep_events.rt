@@ -32,6 +32,7 @@ impl Store {
         ensures shape { shape self.new.extents ≡ shape self.old.extents }
         ensures frontier { self.new.frontier ≡ self.old.frontier }
         ensures no_fault { IfErr result (λ r. r ≢ Refusal.DeviceFault) }
+        ensures unlimited { IfErr result (λ r. r ≢ Refusal.HistoryFull) }
     {
         // Called for its contract alone: what all extents keep.
         self.extents.extent_count();
@@ -49,6 +50,7 @@ impl Store {
         ensures shape { shape self.new.extents ≡ shape self.old.extents }
         ensures frontier { self.new.frontier ≡ self.old.frontier }
         ensures no_fault { IfErr result (λ r. r ≢ Refusal.DeviceFault) }
+        ensures unlimited { IfErr result (λ r. r ≢ Refusal.HistoryFull) }
     {
         // Called for its contract alone: what all extents keep.
         self.extents.extent_count();
@@ -83,6 +85,7 @@ impl Store {
         ensures frontier { self.new.frontier ≡ self.old.frontier }
         ensures disk { OnlyReads D.PageDisk disk.old disk.new }
         ensures cause { IsCaused (D.failure_count disk.old) (D.failure_count disk.new) result }
+        ensures unlimited { IfErr result (λ r. r ≢ Refusal.HistoryFull) }
     {
         // Called for their contracts alone: what all extents and every graph keep.
         self.extents.extent_count();
@@ -114,6 +117,7 @@ impl Store {
         ensures shape { shape self.new.extents ≡ shape self.old.extents }
         ensures frontier { self.new.frontier ≡ self.old.frontier }
         ensures no_fault { IfErr result (λ r. r ≢ Refusal.DeviceFault) }
+        ensures unlimited { IfErr result (λ r. r ≢ Refusal.HistoryFull) }
     {
         // Called for their contracts alone: what all extents and every graph keep.
         self.extents.extent_count();

@@ -102,3 +102,6 @@ returns-then-self-kept-clause-meant g c = rw (← c.self.view_is) (no_bytes (but
 
 pub returns-clause-meant : goal.returns-clause-meant
 returns-clause-meant g c = rw (← c.self.view_is) (answered_meant (but_for_room c.self.inside.store) (but_for_room c.serve.new.self) c.args.event.now c.in_ok-reply.reply c.in_ok-reply.ensures.served.answered)
+
+pub returns-clause-full : goal.returns-clause-full
+returns-clause-full g c = λ full. absurd (c.in_ok-reply.ensures.served.unlimited full)

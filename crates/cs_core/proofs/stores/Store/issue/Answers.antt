@@ -3,7 +3,7 @@ use Rattle.std.specs.Prelude.{option_copied, slice_get}
 use Rattle.cs_deps.specs.State.{write_of}
 use Rattle.cs_core.specs.contracts.stores.Store.{the_view}
 use Rattle.cs_core.specs.Stored.{Stored, members_of}
-use Rattle.cs_core.proofs.Asking.{fault_written}
+use Rattle.cs_core.proofs.Asking.{fault_written, written_next}
 use Rattle.cs_core.proofs.Kept.{kept_round}
 use Rattle.cs_reader.proofs.Lists.{drop_some}
 use Rattle.cs_core.proofs.Members.{next_kept, write_parts}
@@ -50,3 +50,24 @@ returns-in-Err-DeviceFault-clause-disk g c = rw (← c.self.view_is) (
 
 pub returns-in-Err-OutOfMemory-clause-step : goal.returns-in-Err-OutOfMemory-clause-step
 returns-in-Err-OutOfMemory-clause-step g c = λ runs honest. issue_no_memory c.args.self.now c.args.self.now (g.D.PageDisk.state c.args.disk.now) (g.D.PageDisk.state c.write.new.self)
+
+pub returns-in-Ok-clause-taken : goal.returns-in-Ok-clause-taken
+returns-in-Ok-clause-taken g c = rw (← c.self.view_is) (λ runs honest sound takes.
+    let v : Stored = the_view c.self.inside in
+    let next = subst (λ (u : Stored). slice_get (members_of u.out) u.issued ≡ Some c.in-Some.member) (sym c.self.view_is) (search rules) in
+    let write = write_parts (write_of c.self.inside.graph c.in-Some.member) c.unwrap-page.result c.unwrap-bytes.result.now (sym c.page_of.ensures.page ∙ c.unwrap-page.ensures) (sym c.bytes_of.ensures.bytes ∙ ap option_copied c.unwrap-bytes.ensures) in
+    c.write.ensures.taken honest sound (takes c.unwrap-page.result c.unwrap-bytes.result.now (written_next v runs c.in-Some.member next c.unwrap-page.result c.unwrap-bytes.result.now write)))
+
+pub returns-in-Err-DeviceFault-clause-taken : goal.returns-in-Err-DeviceFault-clause-taken
+returns-in-Err-DeviceFault-clause-taken g c = rw (← c.self.view_is) (λ runs honest sound takes.
+    let v : Stored = the_view c.self.inside in
+    let next = subst (λ (u : Stored). slice_get (members_of u.out) u.issued ≡ Some c.in-Some.member) (sym c.self.view_is) (search rules) in
+    let write = write_parts (write_of c.self.inside.graph c.in-Some.member) c.unwrap-page.result c.unwrap-bytes.result.now (sym c.page_of.ensures.page ∙ c.unwrap-page.ensures) (sym c.bytes_of.ensures.bytes ∙ ap option_copied c.unwrap-bytes.ensures) in
+    c.write.ensures.taken honest sound (takes c.unwrap-page.result c.unwrap-bytes.result.now (written_next v runs c.in-Some.member next c.unwrap-page.result c.unwrap-bytes.result.now write)))
+
+pub returns-in-Err-OutOfMemory-clause-taken : goal.returns-in-Err-OutOfMemory-clause-taken
+returns-in-Err-OutOfMemory-clause-taken g c = rw (← c.self.view_is) (λ runs honest sound takes.
+    let v : Stored = the_view c.self.inside in
+    let next = subst (λ (u : Stored). slice_get (members_of u.out) u.issued ≡ Some c.in-Some.member) (sym c.self.view_is) (search rules) in
+    let write = write_parts (write_of c.self.inside.graph c.in-Some.member) c.unwrap-page.result c.unwrap-bytes.result.now (sym c.page_of.ensures.page ∙ c.unwrap-page.ensures) (sym c.bytes_of.ensures.bytes ∙ ap option_copied c.unwrap-bytes.ensures) in
+    c.write.ensures.taken honest sound (takes c.unwrap-page.result c.unwrap-bytes.result.now (written_next v runs c.in-Some.member next c.unwrap-page.result c.unwrap-bytes.result.now write)))

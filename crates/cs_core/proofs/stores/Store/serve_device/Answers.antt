@@ -10,6 +10,7 @@ use Rattle.cs_core.specs.Stored.{but_for_room}
 use Rattle.cs_core.specs.Writebacks.{Stages}
 use Rattle.cs_core.proofs.Answering.{end_refused_so, end_so, if_refused_so, issue_refused_so, issue_so, move_none_so, move_so, ok_of, refused_alone}
 use Rattle.cs_core.proofs.ServeSteps.{end_refused, end_served, if_refused, issue_refused, issue_served, move_refused, moved_served, none_live_served}
+use Rattle.cs_core.proofs.Unlimited.{always_sound, if_refused_sound, if_refused_unlimited, other_than_full}
 use Rattle.cs_core.proofs.stores.Store.serve_device.Goals as goal
 
 pub returns-in-Ok : goal.returns-in-Ok
@@ -18,6 +19,7 @@ returns-in-Ok g c =
     let after = g.D.PageDisk.state c.issue.new.disk in
     let answered = issue_so (but_for_room c.args.self.now) (but_for_room c.issue.new.self) c.in-Ok.x c.in-Ok.p c.in-Ok.ensures.issued in
     let step = λ (honest : g.D.PageDisk.honest c.args.disk.now). issue_served c.args.self.now c.issue.new.self disk after c.in-Ok.x c.in-Ok.p (c.in-Ok.ensures.step c.requires.running honest) in
+    let taken = c.issue.ensures.taken c.requires.running in
     search rules
 
 pub returns-in-Err : goal.returns-in-Err
@@ -26,6 +28,9 @@ returns-in-Err g c =
     let after = g.D.PageDisk.state c.issue.new.disk in
     let answered = λ (known : c.in-Err.refusal ≢ code.OutOfMemory). issue_refused_so (but_for_room c.args.self.now) (but_for_room c.issue.new.self) c.in-Err.refusal c.in-Err.ensures.refusals known c.in-Err.ensures.issued in
     let step = λ (honest : g.D.PageDisk.honest c.args.disk.now) (known : c.in-Err.refusal ≢ code.OutOfMemory). issue_refused c.args.self.now c.issue.new.self disk after c.in-Err.refusal (c.in-Err.ensures.step c.requires.running honest) known in
+    let taken = c.issue.ensures.taken c.requires.running in
+    let unlimited = if_refused_unlimited c.in-Err.refusal c.refused.result c.refused.ensures (other_than_full asked.Issue c.in-Err.refusal (λ no. no) c.in-Err.ensures.refusals) in
+    let issued = λ (sound : g.D.PageDisk.sound c.args.disk.now). if_refused_sound c.in-Err.refusal (g.D.PageDisk.sound c.issue.new.disk) c.refused.result c.refused.ensures (c.in-Err.ensures.sound sound) in
     search (rules, if_refused_so, if_refused)
 
 pub returns-in-Ok-end : goal.returns-in-Ok-end
@@ -42,6 +47,8 @@ returns-in-Err-end g c =
     let after = g.D.PageDisk.state c.end.new.disk in
     let answered = λ (known : c.in-Err-end.refusal ≢ code.OutOfMemory). end_refused_so (but_for_room c.args.self.now) (but_for_room c.end.new.self) c.in-Err-end.refusal c.in-Err-end.ensures.refusals known c.in-Err-end.ensures.ended in
     let step = λ (honest : g.D.PageDisk.honest c.args.disk.now) (known : c.in-Err-end.refusal ≢ code.OutOfMemory). end_refused c.args.self.now c.end.new.self disk after c.in-Err-end.refusal (c.in-Err-end.ensures.step c.requires.running honest) known in
+    let unlimited = if_refused_unlimited c.in-Err-end.refusal c.refused-in-Err-end.result c.refused-in-Err-end.ensures (other_than_full asked.End c.in-Err-end.refusal (λ no. no) c.in-Err-end.ensures.refusals) in
+    let issued = λ (sound : g.D.PageDisk.sound c.args.disk.now). always_sound (g.D.PageDisk.sound c.end.new.disk) c.refused-in-Err-end.result (c.end.ensures.sound sound).0 in
     search (rules, if_refused_so, if_refused)
 
 pub returns-in-Ok-Some : goal.returns-in-Ok-Some
@@ -71,4 +78,6 @@ returns-in-Err-move_one g c =
     let after = g.D.PageDisk.state c.move_one.new.disk in
     let answered = λ (known : c.in-Err-move_one.refusal ≢ code.OutOfMemory). refused_alone (but_for_room c.args.self.now) (but_for_room c.move_one.new.self) (asked.MoveOne c.in-MoveOne.e) tt c.in-Err-move_one.refusal c.in-Err-move_one.ensures.refusals known c.in-Err-move_one.ensures.refused in
     let step = λ (honest : g.D.PageDisk.honest c.args.disk.now) (known : c.in-Err-move_one.refusal ≢ code.OutOfMemory). move_refused c.args.self.now c.move_one.new.self disk after c.in-MoveOne.e c.in-Err-move_one.refusal (c.move_one.ensures.disk.same honest) (c.in-Err-move_one.ensures.step c.requires.running honest) known in
+    let unlimited = if_refused_unlimited c.in-Err-move_one.refusal c.refused-in-Err-move_one.result c.refused-in-Err-move_one.ensures c.in-Err-move_one.ensures.unlimited in
+    let issued = λ (sound : g.D.PageDisk.sound c.args.disk.now). always_sound (g.D.PageDisk.sound c.move_one.new.disk) c.refused-in-Err-move_one.result (c.move_one.ensures.disk.sound sound).0 in
     search (rules, if_refused_so, if_refused)
