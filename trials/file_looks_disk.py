@@ -25,7 +25,7 @@ LOOKS = [
         open_for a write > open 8 > open a rw, lock a
         close > closed > close a
         open a > open 8 > open a rw, lock a
-        open_device a > System(InUse) > open a rw, lock a EAGAIN, close a
+        open_device a write > System(InUse) > open a rw, lock a EAGAIN, close a
         """,
         files(a=EIGHT),
         hold(a=EIGHT),
@@ -51,7 +51,7 @@ LOOKS = [
         open_for a write > System(NotThere) > open a rw ENOENT
         open_for a read > System(NotThere)
         open a > DeviceFault
-        open_device a > System(NotThere) > open a rw ENOENT
+        open_device a write > System(NotThere) > open a rw ENOENT
         """,
         after=hold(a=None),
     ),
@@ -61,8 +61,13 @@ LOOKS = [
         """
         open_for a read > OddLength
         open a > OddLength
-        open_device a > open 2 > open a rw, lock a
+        open_device a write > open 2 > open a rw, lock a
         read 1 > bytes 2 2
+        write 1 2 > Ok(())
+        close > closed
+        open_device a read > open 2 > open a r, share a
+        read 1 > bytes 2 2
+        write 1 2 > Err(DeviceFault)
         close > closed
         open_for b write > open 0
         """,
@@ -75,7 +80,7 @@ LOOKS = [
         open_for a write > System(InUse) > open a rw, lock a EAGAIN, close a
         open_for a read > System(InUse) > open a r, share a EAGAIN, close a
         open a > DeviceFault
-        open_device a > System(InUse)
+        open_device a write > System(InUse)
         create a 2 > DeviceFault
         create_new a 2 > System(InUse)
         open_for a unlocked > open 8
@@ -274,7 +279,7 @@ LOOKS = [
     Look(
         "a block device has as many whole pages as it has, and its size stays",
         """
-        open_device $DEVICE > open 5 > open $DEVICE rw, lock $DEVICE, seek $DEVICE
+        open_device $DEVICE write > open 5 > open $DEVICE rw, lock $DEVICE, seek $DEVICE
         write 4 9 > Ok(())
         flush > Ok(()) > write $DEVICE 4+1, data $DEVICE
         close > closed

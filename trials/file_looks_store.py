@@ -160,9 +160,11 @@ LOOKS = [
     Look(
         "of a file of an odd length the whole pages are opened, and it stays as it is",
         """
-        open_whole_pages a > open 7 > open a rw, lock a
+        open_whole_pages a write > open 7 > open a rw, lock a
         read 6 > bytes 7 7 > read a 6+1
-        open_whole_pages c > System(NotThere) > close a, open c rw ENOENT
+        open_whole_pages a read > open 7 > open a r, share a
+        read 6 > bytes 7 7 > read a 6+1
+        open_whole_pages c write > System(NotThere) > close a, open c rw ENOENT
         """,
         files(a=EIGHT[:-100]),
         hold(a=EIGHT[:-100], c=None),

@@ -81,19 +81,20 @@ impl FileDisk {
         }
     }
 
-    /// Opens a block device, or a file that plays one, to make a store on it: with as many whole pages as it has. Its length
-    /// stays as it is. Refused 1 DeviceFault alone.
+    /// Opens a block device, or a file of any length, with as many whole pages as it has. Its length stays as it is.
+    /// Refused 1 DeviceFault alone; to be only read it needn't be one that may be written.
     pub fn open_device<R: Files<File = File>>(
         rt: &R,
         alloc: Global,
         path: &str,
+        access: Access,
     ) -> Result<Self, FileFault>
         ensures pages { IfOk result (λ d. file_pages d < 2 ^ 52) }
         ensures failures { IfOk result (λ d. file_failures d ≡ 0) }
         ensures fault { IfErr result (λ fault. (fault ≢ FileFault.NotEmpty) × (fault ≢ FileFault.OddLength)) }
     {
-        match existing(rt, path, Access::Write) {
-            Ok((file, length)) => Ok(FileDisk::over(alloc, file, length / 4096, Access::Write)),
+        match existing(rt, path, access) {
+            Ok((file, length)) => Ok(FileDisk::over(alloc, file, length / 4096, access)),
             Err(fault) => Err(FileFault::System(fault)),
         }
     }

@@ -1,8 +1,9 @@
 -- The newest root that is whole, and what a disk shows as of it.
-use Rattle.std.proofs.Common.{◌≡◌, ◌≢◌, if◌then◌else◌, ◌+◌, ℕ, zero, suc, ◌<◌, ◌≤◌, Bool, true, List, [], ◌∷◌, Option, Some, None, slice_get, length, map, sym, ◌∙◌, ap, arith}
+use Rattle.std.proofs.Common.{◌≡◌, ◌≢◌, ⊎_elim, subst, if◌then◌else◌, ◌+◌, ℕ, zero, suc, ◌<◌, ◌≤◌, Bool, true, List, [], ◌∷◌, Option, Some, None, slice_get, length, map, sym, ◌∙◌, ap, arith}
 use Rattle.std.proofs.lemmas.Option.{same_Some}
 use Rattle.std.specs.List.{range_with_len}
-use Rattle.cs_disk.specs.Disk.{Image, State, seen}
+use Rattle.cs_disk.proofs.Crashes.{MayLeave-flushed, seen_MayLeave}
+use Rattle.cs_disk.specs.Disk.{Image, LeavesOnly, MayLeave, State, seen}
 use Rattle.cs_disk.proofs.Images.{length-applied}
 use Rattle.cs_frame.specs.Geometries.{Dimensions, IsGeometry}
 use Rattle.law_machine.specs.Geometry.{twins_in}
@@ -11,16 +12,16 @@ use Rattle.cs_twin.specs.declared.pairs.Held.{Held}
 use Rattle.cs_twin.specs.declared.pairs.Pair.{Pair}
 use Rattle.cs_twin.specs.Findings.{finding_in, held_of}
 use Rattle.cs_mount.specs.Identities.{AreOfTwo, stores_on}
-use Rattle.cs_mount.specs.Lowered.{lowered_state}
+use Rattle.cs_mount.specs.Lowered.{lowered, lowered_state}
 use Rattle.cs_twin.specs.Pairs.{shown}
-use Rattle.cs_mount.specs.Showing.{findings_on, shown_on}
+use Rattle.cs_mount.specs.Showing.{findings_on, shown_by, shown_on}
 use Rattle.cs_mount.specs.StorePairs.{dimensions_on, pages_of, pairs_where, root_version, store_pair, store_pairs, store_version}
 use Rattle.cs_mount.proofs.Blank.{apart_of}
 use Rattle.cs_mount.proofs.Telling.{found_third}
 use Rattle.cs_twin.proofs.Holding.{held_found}
 use Rattle.cs_twin.proofs.Roles.{shown_page-own}
 use Rattle.cs_twin.proofs.Shown.{page-shown}
-use Rattle.cs_mount.specs.Older.{as_of, newest_root, older_on, root_found, root_shown, version_found}
+use Rattle.cs_mount.specs.Older.{ShowsOlderOn, as_of, newest_root, older_by, older_on, root_found, root_shown, version_found}
 
 -- ---- the pair of the root
 
@@ -98,3 +99,25 @@ two_by n pages was s same still two one = two (ap (λ z. stores_on z (seen was))
 pub some_there : (o : Option Dimensions) (d : Dimensions) → Some d ≡ o → o ≢ None
 some_there (Some found) d is none = cc
 some_there None d is none = cc
+
+-- ---- what a crash leaves, as of that root
+
+pub older_left : (n : ℕ) (image : Image) (d g : Dimensions) (root : ℕ) (shows below left : Image) → dimensions_on n image ≡ Some d → g ≡ d → root ≡ newest_root n image → left ≡ lowered g root shows → shows ≡ shown_by n image below
+    → left ≡ older_by n image below
+older_left n image d g root shows below left some dimensions version is by_pairs =
+    is ∙ ap (λ (z : Dimensions). lowered z root shows) dimensions ∙ ap (λ r. lowered d r shows) version ∙ ap (λ (z : Image). lowered d (newest_root n image) z) by_pairs
+    ∙ ap (λ (o : Option Dimensions). as_of o (newest_root n image) (shown_by n image below)) (sym some)
+
+-- after calls that leave what a crash might have left before
+pub older_later : {D : Type 0} (moment : D → ℕ) (left_since : D → ℕ → Image → Type 0) (n : ℕ) (s : State) (old new : D) (t : ℕ) (shows : State) (left : Image)
+    → shows ≡ record { durable = older_on n (seen s); volatile = [] } → t ≤ moment old
+    → ((c : Image) → left_since old t c → ShowsOlderOn n (seen s) (MayLeave s) c) → LeavesOnly moment left_since old new (MayLeave shows) → left_since new t left → ShowsOlderOn n (seen s) (MayLeave s) left
+older_later moment left_since n s old new t shows left is le before calls past =
+    ⊎_elim (λ (was : left_since old t left). before left was)
+    (λ (now : MayLeave shows left). (seen s, seen_MayLeave s, MayLeave-flushed (record { durable = older_on n (seen s); volatile = [] }) left (subst (λ (z : State). MayLeave z left) is now)))
+    (calls.before t left le past)
+
+-- behind reads
+pub older_here : (n pages : ℕ) (was s : State) (left : Image) → n ≡ pages → was ≡ s → ShowsOlderOn n (seen was) (MayLeave was) left → ShowsOlderOn pages (seen s) (MayLeave s) left
+older_here n pages was s left same still is =
+    subst (λ k. ShowsOlderOn k (seen s) (MayLeave s) left) same (subst (λ (z : State). ShowsOlderOn n (seen z) (MayLeave z) left) still is)

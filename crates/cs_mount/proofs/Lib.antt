@@ -65,3 +65,4 @@ pub mod Rising
 pub mod Taken
 pub mod TakenInTwo
 pub mod LeftOver
+pub mod Lying

@@ -1,11 +1,11 @@
 -- What a disk shows as of the newest root that is whole.
-use Rattle.std.specs.Prelude.{ℕ, List, Option, Some, None, slice_get}
+use Rattle.std.specs.Prelude.{◌≡◌, ℕ, List, Option, Some, None, slice_get}
 use Rattle.cs_disk.specs.Disk.{Image, page}
 use Rattle.cs_frame.specs.Geometries.{Dimensions}
 use Rattle.cs_twin.specs.declared.findings.Finding.{Finding}
 use Rattle.cs_twin.specs.Findings.{held_of}
 use Rattle.cs_mount.specs.Lowered.{lowered}
-use Rattle.cs_mount.specs.Showing.{shown_on}
+use Rattle.cs_mount.specs.Showing.{shown_by, shown_on}
 use Rattle.cs_mount.specs.StorePairs.{dimensions_on, root_version}
 
 -- an image as of a root, where it has a store of these dimensions
@@ -25,6 +25,14 @@ newest_root pages image = root_shown (dimensions_on pages image) (shown_on pages
 -- an image as it shows, as of that root
 abbrev pub older_on : (pages : ℕ) → Image → Image
 older_on pages image = as_of (dimensions_on pages image) (newest_root pages image) (shown_on pages image)
+
+-- an image as it shows by the pairs of the store that another image holds, as of the newest root there
+abbrev pub older_by : (pages : ℕ) → (of image : Image) → Image
+older_by pages of image = as_of (dimensions_on pages of) (newest_root pages of) (shown_by pages of image)
+
+-- what images that have P show as, by the pairs and the newest root of this one
+abbrev pub ShowsOlderOn : (pages : ℕ) → Image → (Image → Type 0) → Image → Type 0
+ShowsOlderOn pages image P c = (below : Image) × P below × (c ≡ older_by pages image below)
 
 -- the version that was found of a pair, 0 where there is none
 abbrev pub version_found : Option Finding → ℕ

@@ -11,6 +11,10 @@ use Rattle.cs_mount.specs.StorePairs.{dimensions_on, pairs_where, store_pairs, s
 abbrev pub shown_on : (pages : ℕ) → Image → Image
 shown_on pages image = shown (store_version (dimensions_on pages image)) (pairs_where (dimensions_on pages image)) image
 
+-- an image as it shows by the pairs of the store that another image holds
+abbrev pub shown_by : (pages : ℕ) → (of image : Image) → Image
+shown_by pages of image = shown (store_version (dimensions_on pages of)) (pairs_where (dimensions_on pages of)) image
+
 -- an image as a store of these dimensions shows
 abbrev pub shown_of : Dimensions → Image → Image
 shown_of d image = shown (store_version (Some d)) (store_pairs d) image

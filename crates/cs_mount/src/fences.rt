@@ -44,6 +44,8 @@ pub fn fence<D: PageDisk + Drop>(
     // 1 is counted; and by a disk in pairs where no write to a pair was in doubt it is an answer of the disk below.
     ensures cause { IfErr result (λ refused. refused.0 ≡ Refusal.DeviceFault → Rises (failures_of core.disk) (failures_of refused.1)) }
     ensures unrefused { IsSound core.disk → MatchResult result (λ disk. refusals_of disk ≡ refusals_of core.disk) (λ refused. refusals_of refused.1 ≡ refusals_of core.disk) }
+    // It stays sound, so it goes on reading and writing pairs.
+    ensures sound { IsSound core.disk → IfOk result (λ disk. IsSound disk) }
 {
     let mut disk = core.into_disk();
     match disk.fence() {

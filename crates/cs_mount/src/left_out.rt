@@ -81,6 +81,8 @@ pub fn leave_out<D: PageDisk + Drop>(
         → IfErr result (λ refused. IsNoAnswer refused.0 ⊎ (refused.0 ≡ Refusal.Unsettled) ⊎ (refused.0 ≡ Refusal.NotSweepable) ⊎ ((refused.0 ≡ Refusal.WornOut) × IsRowWorn (dimensions_of core.store.extents) extent (seen (state_shown core.disk)))) }
     ensures honest { MatchResult result (λ disk. D.honest (disk_below core.disk) ↔ D.honest (disk_below disk)) (λ refused. D.honest (disk_below core.disk) ↔ D.honest (disk_below refused.1)) }
     ensures pages { MatchResult result (λ disk. D.page_count (disk_below disk) ≡ D.page_count (disk_below core.disk)) (λ refused. D.page_count (disk_below refused.1) ≡ D.page_count (disk_below core.disk)) }
+    // Whatever the disk answers.
+    ensures number { IfErr result (λ refused. IsOpeningRefusal refused.0 ⊎ (refused.0 ≡ Refusal.WornOut) ⊎ (refused.0 ≡ Refusal.NotSweepable) ⊎ (refused.0 ≡ Refusal.Unsettled)) }
     // After 1 the disk has counted a call that failed.
     ensures counted { IfErr result (λ refused. refused.0 ≡ Refusal.DeviceFault → 0 < failures_of refused.1) }
 {

@@ -6,7 +6,8 @@ ghost use Rattle.cs_core.specs.Openings.{IfStoreOn, IsOpened, IsOpenedAs};
 ghost use Rattle.cs_core.specs.cs_chunk.Reads.{IsNoAnswer};
 ghost use Rattle.cs_disk.specs.Disk.{Image, LeavesOnly, MayLeave, Rises, flushed, page, seen};
 ghost use Rattle.cs_mount.specs.Identities.{AreOfTwo, IsOfOne};
-ghost use Rattle.cs_mount.specs.Showing.{ShowsOn, findings_on, shown_on};
+ghost use Rattle.cs_mount.specs.Showing.{ShowsOn, findings_on, shown_by, shown_on};
+ghost use Rattle.cs_mount.specs.StorePairs.{dimensions_on};
 ghost use Rattle.cs_reader.specs.Openings.{IsOpeningRefusal, IsWhyNotOpened};
 ghost use Rattle.cs_twin.specs.Findings.{finding_in, passed_over};
 ghost use Rattle.cs_twin.specs.Paired.{IsSound, disk_below, failures_of, left_as_shown, moment_of, pairs_of, refusals_of, rules_of, state_shown, versions_of};
@@ -101,12 +102,17 @@ impl MountOptions {
         ensures small { D.page_count disk < 10 → result ≡ Err (Refusal.NotAStore, disk) }
         // 1 is an answer of the device.
         ensures cause { IfErr result (λ refused. refused.0 ≡ Refusal.DeviceFault → Rises (D.failure_count disk) (D.failure_count refused.1)) }
+        // The disk in pairs refused no call itself yet, and will refuse no read and no flush.
+        ensures sound { IfOk result (λ opened. IsSound opened.0.disk × (refusals_of opened.0.disk ≡ 0)) }
         // Nothing is written, whether it is opened or not: the device holds what it held, or that made durable.
         ensures unwritten { D.honest disk → MatchResult result (λ opened. D.state (disk_below opened.0.disk) ≡ flushed (D.state disk)) (λ refused. (D.state refused.1 ≡ D.state disk) ⊎ (D.state refused.1 ≡ flushed (D.state disk))) }
         // Two flushes, and no write; if it is refused, two at most.
         ensures calls { D.honest disk → MatchResult result (λ opened. D.moment (disk_below opened.0.disk) ≡ D.moment disk + 2) (λ refused. D.moment refused.1 ≤ D.moment disk + 2) }
         // A crash meanwhile leaves what shows as what one before it might have left.
         ensures crash { D.honest disk → IfOk result (λ opened. (left : Image) → left_as_shown opened.0.disk (D.moment disk) left → ShowsOn (D.page_count disk) (seen (D.state disk)) (MayLeave (D.state disk)) left) }
+        // So it does if it is refused, if there is a store of format 4 on the disk.
+        ensures crash_refused { D.honest disk → dimensions_on (D.page_count disk) (seen (D.state disk)) ≢ None → IfErr result (λ refused. (left : Image) → D.left_since refused.1 (D.moment disk) left
+            → ShowsOn (D.page_count disk) (seen (D.state disk)) (MayLeave (D.state disk)) (shown_by (D.page_count disk) (seen (D.state disk)) left)) }
         // For a run that began earlier.
         ensures before { D.honest disk → IfOk result (λ opened. (t : ℕ) (left : Image) → t ≤ D.moment disk → left_as_shown opened.0.disk t left → ShowsOn (D.page_count disk) (seen (D.state disk)) (λ image. D.left_since disk t image ⊎ MayLeave (D.state disk) image) left) }
         ensures honest { MatchResult result (λ opened. D.honest disk ↔ D.honest (disk_below opened.0.disk)) (λ refused. D.honest disk ↔ D.honest refused.1) }

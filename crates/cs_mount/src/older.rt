@@ -3,11 +3,11 @@ ghost use Rattle.std.specs.Prelude.{◌≡◌, ◌≢◌, ◌⊎◌, ◌↔◌, 
 ghost use Rattle.cs_core.specs.cs_chunk.Reads.{IsCaused, IsNoAnswer};
 ghost use Rattle.cs_reader.specs.Openings.{IsOpeningRefusal, IsWhyNotOpened};
 ghost use Rattle.cs_core.specs.Openings.{IsOpened};
-ghost use Rattle.cs_disk.specs.Disk.{Rises, flushed, page, seen};
+ghost use Rattle.cs_disk.specs.Disk.{Image, MayLeave, Rises, flushed, page, seen};
 ghost use Rattle.cs_disk.specs.Reads.{OnlyReads};
 ghost use Rattle.cs_mount.specs.Identities.{AreOfTwo};
-ghost use Rattle.cs_mount.specs.Older.{older_on, root_found};
-ghost use Rattle.cs_mount.specs.OlderDisks.{refused_of, shown_below, state_lowered};
+ghost use Rattle.cs_mount.specs.Older.{ShowsOlderOn, older_on, root_found};
+ghost use Rattle.cs_mount.specs.OlderDisks.{left_lowered, refused_of, shown_below, state_lowered};
 ghost use Rattle.cs_twin.specs.Paired.{IsSound, disk_below, refusals_of};
 ghost use Rattle.cs_mount.specs.Showing.{findings_on};
 ghost use Rattle.cs_mount.specs.StorePairs.{dimensions_on, pages_of};
@@ -63,6 +63,7 @@ fn show_older<D: PageDisk + Drop>(
     requires some { 10 ≤ D.page_count disk }
     requires sized { pages_of geometry ≡ D.page_count disk }
     ensures shown { D.honest disk → Some geometry ≡ dimensions_on (D.page_count disk) (seen (D.state disk)) → IfOk result (λ shown. state_lowered shown.0 ≡ record { durable = older_on (D.page_count disk) (seen (D.state disk)); volatile = [] }) }
+    ensures left { D.honest disk → Some geometry ≡ dimensions_on (D.page_count disk) (seen (D.state disk)) → IfOk result (λ shown. (left : Image) → left_lowered shown.0 (D.moment disk) left → ShowsOlderOn (D.page_count disk) (seen (D.state disk)) (MayLeave (D.state disk)) left) }
     ensures findings { D.honest disk → IfOk result (λ shown. shown.1.items ≡ findings_on (D.page_count disk) (seen (D.state disk))) }
     ensures unwritten { D.honest disk → MatchResult result (λ shown. D.state (disk_below (shown_below shown.0)) ≡ flushed (D.state disk)) (λ refused. (D.state refused.1 ≡ D.state disk) ⊎ (D.state refused.1 ≡ flushed (D.state disk))) }
     ensures calls { D.honest disk → MatchResult result (λ shown. D.moment (disk_below (shown_below shown.0)) ≡ D.moment disk + 1) (λ refused. D.moment refused.1 ≤ D.moment disk + 1) }
@@ -112,6 +113,8 @@ impl MountOptions {
         ensures cause { IfErr result (λ refused. refused.0 ≡ Refusal.DeviceFault → Rises (D.failure_count disk) (D.failure_count refused.1)) }
         // Nothing is written, whether it is opened or not: the device holds what it held, or that made durable.
         ensures unwritten { D.honest disk → MatchResult result (λ opened. D.state (disk_below (shown_below opened.0.disk)) ≡ flushed (D.state disk)) (λ refused. (D.state refused.1 ≡ D.state disk) ⊎ (D.state refused.1 ≡ flushed (D.state disk))) }
+        // A crash meanwhile leaves what shows so as what one before it might have left.
+        ensures crash { D.honest disk → IfOk result (λ opened. (left : Image) → left_lowered opened.0.disk (D.moment disk) left → ShowsOlderOn (D.page_count disk) (seen (D.state disk)) (MayLeave (D.state disk)) left) }
         // Two flushes, and no write; where it is refused two at most.
         ensures calls { D.honest disk → MatchResult result (λ opened. D.moment (disk_below (shown_below opened.0.disk)) ≡ D.moment disk + 2) (λ refused. D.moment refused.1 ≤ D.moment disk + 2) }
         ensures honest { MatchResult result (λ opened. D.honest disk ↔ D.honest (disk_below (shown_below opened.0.disk))) (λ refused. D.honest disk ↔ D.honest refused.1) }

@@ -1,5 +1,6 @@
 //! What disks in pairs take of the writes of cores.
 ghost use Rattle.std.specs.Prelude.{◌≡◌, List, Some, false, true, ℕ};
+ghost use Rattle.cs_core.specs.Disks.{IsWrittenNext};
 ghost use Rattle.cs_disk.specs.Disk.{seen};
 ghost use Rattle.law_machine.specs.Geometry.{twins_in};
 ghost use Rattle.cs_mount.specs.Showing.{findings_on};
@@ -17,12 +18,14 @@ use cs_disk::PageDisk;
 /// a fence. If a half is damaged, each write to a pair is refused 1 DeviceFault until `fence` or `mend` fills that
 /// half. A core that is halted writes nothing.
 ///
-/// An Issue of `Core::apply` writes the first of these pages by one call of `write`. By the clause `taken` of that
-/// call a sound disk refuses it not by itself. By the clause `sound` of `flush` it refuses no flush by itself, as an
-/// End makes. So a 1 that an Issue or an End answers is of the device below.
+/// An Issue of `Core::apply` writes the first of these pages by one call of `write`. By its clause `taken` a sound disk
+/// that takes this page refuses nothing itself. So a 1 that an Issue or an End answers is of the device below.
 pub fn a_core_writes_what_its_pairs_take<D: PageDisk>(core: &Core<Mounted<D>>)
     ensures takes { D.honest (disk_below core.now.disk) → HasFencedHalves core.now.disk → core.now.store.halted ≡ false
         → (page : ℕ) (bytes : List ℕ) → IsLeftToWrite core.now.store page bytes → takes_of core.now.disk page bytes }
+    // So it takes what an Issue writes next, which the clause `taken` of `Core::apply` asks for.
+    ensures next { D.honest (disk_below core.now.disk) → HasFencedHalves core.now.disk
+        → (page : ℕ) (bytes : List ℕ) → IsWrittenNext core.now.store page bytes → takes_of core.now.disk page bytes }
 {
     core.progress();
 }

@@ -4,8 +4,13 @@ use Rattle.std.specs.List.{AllByRecursion}
 use Rattle.cs_core.specs.declared.cores.Limits.{Limits}
 use Rattle.cs_disk.specs.Disk.{Image, State, flushed, page, seen}
 use Rattle.cs_frame.specs.Geometries.{Dimensions}
+use Rattle.cs_mount.specs.Identities.{AreOfTwo}
 use Rattle.cs_mount.specs.Makings.{after_writes}
+use Rattle.cs_mount.specs.Showing.{shown_on}
 use Rattle.cs_mount.specs.Unreadable.{AreOfStore, LeavesFenced, fences_on}
+use Rattle.cs_reader.specs.Openings.{IsWhyNotOpened}
+use Rattle.cs_refusal.specs.declared.refusals.Refusal.{Refusal}
+use Rattle.cs_refusal.specs.declared.refusals.Refusal.TheVariants.{NotAStore}
 use Rattle.cs_store.specs.declared.options.Loss.{Loss}
 use Rattle.cs_twin.specs.declared.findings.Finding.{Finding}
 use Rattle.cs_twin.specs.Findings.{passed_over}
@@ -38,3 +43,11 @@ AgreeBeside findings before now = (number : ℕ) → AllByRecursion (λ it. pass
 -- shows without them are fences, which are given up.
 abbrev pub IsPartlyGivenUp : (pages : ℕ) → State → Image → Type 0
 IsPartlyGivenUp pages s image = (image ≡ seen s) ⊎ ((lost : List ℕ) × AreOfStore pages lost lost (seen s) × LeavesFenced lost s image)
+
+-- why no store is opened on a device with this image: its two ends are of different stores, or the first test that fails
+abbrev pub IsWhyNoneShows : (pages : ℕ) → Image → Refusal → Type 0
+IsWhyNoneShows pages image r = ((r ≡ NotAStore) × AreOfTwo pages image) ⊎ IsWhyNotOpened pages (page (shown_on pages image)) r
+
+-- why no store is opened where some halves of pairs of the store that shows without them, or none, were given up
+abbrev pub IsWhyNoneIsLeft : (pages : ℕ) → State → Refusal → Type 0
+IsWhyNoneIsLeft pages s r = (lost : List ℕ) × AreOfStore pages lost lost (seen s) × IsWhyNoneShows pages (seen (given_up lost s)) r

@@ -8,15 +8,15 @@ ghost use Rattle.cs_disk.specs.Reads.{OnlyReads};
 ghost use Rattle.cs_extent.specs.State.{shape};
 ghost use Rattle.cs_mount.specs.Hidden.{is_among};
 ghost use Rattle.cs_mount.specs.Identities.{AreOfTwo, IsOfOne};
-ghost use Rattle.cs_mount.specs.Showing.{ShowsOn, findings_on, shown_on};
+ghost use Rattle.cs_mount.specs.Showing.{ShowsOn, findings_on, shown_by, shown_on};
 ghost use Rattle.cs_mount.specs.StorePairs.{dimensions_on};
 ghost use Rattle.cs_reader.specs.Counts.{HasCount};
 ghost use Rattle.cs_reader.specs.Openings.{IsOpeningRefusal, IsWhyNotOpened};
 ghost use Rattle.cs_store.specs.Maps.{HasMap};
-ghost use Rattle.cs_store.specs.Opening.{AgreeBeside, AreFencesIn, IsPartlyGivenUp, NoneIsPassedOver, given_up};
-ghost use Rattle.cs_mount.specs.Unreadable.{AreOfStore, LeavesFenced};
+ghost use Rattle.cs_store.specs.Opening.{AgreeBeside, AreFencesIn, IsPartlyGivenUp, IsWhyNoneIsLeft, NoneIsPassedOver, given_up};
+ghost use Rattle.cs_mount.specs.Unreadable.{AreOfStore, LeavesFenced, RisesBy};
 ghost use Rattle.cs_twin.specs.Findings.{finding_in, is_halved, passed_over};
-ghost use Rattle.cs_twin.specs.Paired.{disk_below, left_as_shown, moment_of, pairs_of, state_shown, versions_of};
+ghost use Rattle.cs_twin.specs.Paired.{IsSound, disk_below, left_as_shown, moment_of, pairs_of, refusals_of, state_shown, versions_of};
 ghost use Rattle.cs_twin.specs.Pairs.{fence};
 
 use crate::options::{Loss, OpenOptions};
@@ -64,7 +64,13 @@ fn open_fenced<D: PageDisk + Drop>(
         → state_shown core.disk ≡ record { durable = shown_on (D.page_count (disk_below core.disk)) image; volatile = [] } → shown_on (D.page_count (disk_below core.disk)) (seen (D.state refused.1)) ≡ shown_on (D.page_count (disk_below core.disk)) image) }
     ensures refusals { D.honest (disk_below core.disk) → IfErr result (λ refused. IsNoAnswer refused.0 ⊎ IsWhyNotOpened (D.page_count (disk_below core.disk)) (page (seen (state_shown core.disk))) refused.0) }
     ensures number { IfErr result (λ refused. IsOpeningRefusal refused.0) }
+    // If the disk in pairs refused no call itself before, the disk below has counted a call that failed, after 1.
+    ensures counted { IsSound core.disk → refusals_of core.disk ≡ 0 → IfErr result (λ refused. refused.0 ≡ Refusal.DeviceFault → 0 < D.failure_count refused.1) }
     ensures crash { D.honest (disk_below core.disk) → IfOk result (λ again. LeavesOnly moment_of left_as_shown core.disk again.disk (MayLeave (state_shown core.disk))) }
+    // So it does if it is refused, and a store of format 4 shows.
+    ensures crash_refused { D.honest (disk_below core.disk) → IfErr result (λ refused. (image : Image) → length image ≡ D.page_count (disk_below core.disk) → dimensions_on (D.page_count (disk_below core.disk)) image ≢ None
+        → state_shown core.disk ≡ record { durable = shown_on (D.page_count (disk_below core.disk)) image; volatile = [] } → (t : ℕ) (left : Image) → t ≤ moment_of core.disk → D.left_since refused.1 t left
+        → left_as_shown core.disk t (shown_by (D.page_count (disk_below core.disk)) image left) ⊎ MayLeave (state_shown core.disk) (shown_by (D.page_count (disk_below core.disk)) image left)) }
     ensures honest { MatchResult result (λ again. D.honest (disk_below core.disk) ↔ D.honest (disk_below again.disk)) (λ refused. D.honest (disk_below core.disk) ↔ D.honest refused.1) }
     ensures pages { MatchResult result (λ again. D.page_count (disk_below again.disk) ≡ D.page_count (disk_below core.disk)) (λ refused. D.page_count refused.1 ≡ D.page_count (disk_below core.disk)) }
 {
@@ -107,6 +113,7 @@ fn give_up<D: PageDisk>(disk: &mut D, unread: &[u64]) -> Result<(), Refusal>
     // If it is refused, some of them may be fences, and nothing else is written.
     ensures refused { D.honest disk.old → OnErr result (LeavesFenced unread.now (D.state disk.old) (seen (D.state disk.new))) }
     ensures refusals { IfErr result IsNoAnswer }
+    ensures cause { IfErr result (λ refusal. refusal ≡ Refusal.DeviceFault → Rises (D.failure_count disk.old) (D.failure_count disk.new)) }
     ensures honest { D.honest disk.old ↔ D.honest disk.new }
     ensures pages { D.page_count disk.new ≡ D.page_count disk.old }
     ensures later { D.failure_count disk.old ≤ D.failure_count disk.new }
@@ -132,6 +139,8 @@ pub fn ready_to_write<D: PageDisk>(
 ) -> Result<Vec<u64>, Refusal>
     ensures none { loss ≡ Loss.Refused → IfOk result (λ lost. lost.items ≡ []) }
     ensures halves { D.honest disk.old → IfOk result (λ lost. AreOfStore (D.page_count disk.old) lost.items lost.items (seen (D.state disk.old))) }
+    // Each of them is a read that failed. So none is given up where no read failed.
+    ensures unread { IfOk result (λ lost. RisesBy (length lost.items) (D.failure_count disk.old) (D.failure_count disk.new)) }
     ensures state { D.honest disk.old → IfOk result (λ lost. D.state disk.new ≡ given_up lost.items (D.state disk.old)) }
     ensures reads { IfOk result (λ lost. lost.items ≡ [] → OnlyReads D.PageDisk disk.old disk.new) }
     ensures small { D.page_count disk.old < 10 → (disk.new ≡ disk.old) × IfErr result (λ refusal. ⊥) }
@@ -139,7 +148,8 @@ pub fn ready_to_write<D: PageDisk>(
     ensures same { loss ≡ Loss.Refused → IfErr result (λ _. OnlyReads D.PageDisk disk.old disk.new) }
     // If a fence is refused, some of the pages that are given up may be fences, and nothing else is written.
     ensures partly { D.honest disk.old → OnErr result (IsPartlyGivenUp (D.page_count disk.old) (D.state disk.old) (seen (D.state disk.new))) }
-    ensures cause { loss ≡ Loss.Refused → IfErr result (λ refusal. refusal ≡ Refusal.DeviceFault → Rises (D.failure_count disk.old) (D.failure_count disk.new)) }
+    // 1 is an answer of the device.
+    ensures cause { IfErr result (λ refusal. refusal ≡ Refusal.DeviceFault → Rises (D.failure_count disk.old) (D.failure_count disk.new)) }
     ensures honest { D.honest disk.old ↔ D.honest disk.new }
     ensures pages { D.page_count disk.new ≡ D.page_count disk.old }
     ensures later { D.failure_count disk.old ≤ D.failure_count disk.new }
@@ -192,12 +202,16 @@ impl OpenOptions {
         // Whatever the disk answers.
         ensures number { IfErr result (λ refused. IsOpeningRefusal refused.0) }
         ensures small { D.page_count disk < 10 → result ≡ Err (Refusal.NotAStore, disk) }
-        // If no page was passed over, 1 is an answer of the device.
+        // After 1 the device has counted a call that failed. If no page was passed over, that was one of this opening.
+        ensures counted { IfErr result (λ refused. refused.0 ≡ Refusal.DeviceFault → 0 < D.failure_count refused.1) }
         ensures cause { D.honest disk → NoneIsPassedOver (findings_on (D.page_count disk) (seen (D.state disk))) → IfErr result (λ refused. refused.0 ≡ Refusal.DeviceFault → Rises (D.failure_count disk) (D.failure_count refused.1)) }
         // Nothing is written then: the device holds what it held, or that made durable.
         ensures unwritten { D.honest disk → NoneIsPassedOver (findings_on (D.page_count disk) (seen (D.state disk))) → MatchResult result (λ opened. D.state (disk_below opened.0.disk) ≡ flushed (D.state disk)) (λ refused. (D.state refused.1 ≡ D.state disk) ⊎ (D.state refused.1 ≡ flushed (D.state disk))) }
         // A crash meanwhile leaves what shows as what one before it might have left.
         ensures crash { D.honest disk → IfOk result (λ opened. (left : Image) → left_as_shown opened.0.disk (D.moment disk) left → ShowsOn (D.page_count disk) (seen (D.state disk)) (MayLeave (D.state disk)) left) }
+        // So it does if it is refused, if there is a store of format 4 on the disk.
+        ensures crash_refused { D.honest disk → dimensions_on (D.page_count disk) (seen (D.state disk)) ≢ None → IfErr result (λ refused. (left : Image) → D.left_since refused.1 (D.moment disk) left
+            → ShowsOn (D.page_count disk) (seen (D.state disk)) (MayLeave (D.state disk)) (shown_by (D.page_count disk) (seen (D.state disk)) left)) }
         ensures honest { MatchResult result (λ opened. D.honest disk ↔ D.honest (disk_below opened.0.disk)) (λ refused. D.honest disk ↔ D.honest refused.1) }
         ensures pages { MatchResult result (λ opened. D.page_count (disk_below opened.0.disk) ≡ D.page_count disk) (λ refused. D.page_count refused.1 ≡ D.page_count disk) }
     {
@@ -283,19 +297,25 @@ impl OpenOptions {
         ensures partly { D.honest disk → IfErr result (λ refused. (image : Image) × IsPartlyGivenUp (D.page_count disk) (D.state disk) image × (shown_on (D.page_count disk) (seen (D.state refused.1)) ≡ shown_on (D.page_count disk) image)) }
         ensures refusals { D.honest disk → self.loss ≡ Loss.Refused → IfErr result (λ refused. IsNoAnswer refused.0 ⊎ (refused.0 ≡ Refusal.Unreadable) ⊎ ((refused.0 ≡ Refusal.NotAStore) × AreOfTwo (D.page_count disk) (seen (D.state disk)))
             ⊎ IsWhyNotOpened (D.page_count disk) (page (shown_on (D.page_count disk) (seen (D.state disk)))) refused.0) }
+        // With or without a loss, it is refused otherwise only if no store shows when some such halves are given up.
+        ensures left { D.honest disk → IfErr result (λ refused. IsNoAnswer refused.0 ⊎ (refused.0 ≡ Refusal.Unreadable) ⊎ IsWhyNoneIsLeft (D.page_count disk) (D.state disk) refused.0) }
         // Whatever the disk answers.
         ensures number { IfErr result (λ refused. IsOpeningRefusal refused.0 ⊎ (refused.0 ≡ Refusal.Unreadable)) }
         ensures small { D.page_count disk < 10 → result ≡ Err (Refusal.NotAStore, disk) }
         // 29 is an answer of the device, which holds what it held; and no loss is accepted.
         ensures unreadable { IfErr result (λ refused. refused.0 ≡ Refusal.Unreadable → (self.loss ≡ Loss.Refused) × Rises (D.failure_count disk) (D.failure_count refused.1)) }
         ensures kept { D.honest disk → IfErr result (λ refused. refused.0 ≡ Refusal.Unreadable → D.state refused.1 ≡ D.state disk) }
-        // If no page was passed over, 1 is an answer of the device.
+        // After 1 the device has counted a call that failed. If no page was passed over, that was one of this opening.
+        ensures counted { IfErr result (λ refused. refused.0 ≡ Refusal.DeviceFault → 0 < D.failure_count refused.1) }
         ensures cause { D.honest disk → self.loss ≡ Loss.Refused → NoneIsPassedOver (findings_on (D.page_count disk) (seen (D.state disk))) → IfErr result (λ refused. refused.0 ≡ Refusal.DeviceFault → Rises (D.failure_count disk) (D.failure_count refused.1)) }
         // Nothing is written then: the device holds what it held, or that made durable.
         ensures unwritten { D.honest disk → self.loss ≡ Loss.Refused → NoneIsPassedOver (findings_on (D.page_count disk) (seen (D.state disk)))
             → MatchResult result (λ opened. D.state (disk_below opened.0.disk) ≡ flushed (D.state disk)) (λ refused. (D.state refused.1 ≡ D.state disk) ⊎ (D.state refused.1 ≡ flushed (D.state disk))) }
         // A crash meanwhile leaves what shows as what one before it might have left.
         ensures crash { D.honest disk → IfOk result (λ opened. opened.2.items ≡ [] → (left : Image) → left_as_shown opened.0.disk (D.moment disk) left → ShowsOn (D.page_count disk) (seen (D.state disk)) (MayLeave (D.state disk)) left) }
+        // So it does if it is refused, if there is a store of format 4 on the disk.
+        ensures crash_refused { D.honest disk → self.loss ≡ Loss.Refused → dimensions_on (D.page_count disk) (seen (D.state disk)) ≢ None → IfErr result (λ refused. (left : Image) → D.left_since refused.1 (D.moment disk) left
+            → ShowsOn (D.page_count disk) (seen (D.state disk)) (MayLeave (D.state disk)) (shown_by (D.page_count disk) (seen (D.state disk)) left)) }
         ensures honest { MatchResult result (λ opened. D.honest disk ↔ D.honest (disk_below opened.0.disk)) (λ refused. D.honest disk ↔ D.honest refused.1) }
         ensures pages { MatchResult result (λ opened. D.page_count (disk_below opened.0.disk) ≡ D.page_count disk) (λ refused. D.page_count refused.1 ≡ D.page_count disk) }
     {

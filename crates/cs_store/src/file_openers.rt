@@ -136,24 +136,25 @@ pub fn open_device<R: Files<File = File>>(
 {
     match fs::metadata(rt, path) {
         Ok(about) if about.is_file() && about.len() % 4096 != 0 => Err(FileFault::OddLength),
-        _ => FileDisk::open_device(rt, alloc, path),
+        _ => FileDisk::open_device(rt, alloc, path, Access::Write),
     }
 }
 
-/// Opens a file that is there with as many whole pages as it has, to salvage what is on them: its length may be odd. The
-/// operating system has to let it be written, though nothing is; and no other process may have it open.
+/// Opens a file that is there with as many whole pages as it has, to salvage what is on them: its length may be odd. To
+/// be only read it needn't be one that may be written.
 ///
 /// Refused 1 DeviceFault with what the operating system said.
 pub fn open_whole_pages<R: Files<File = File>>(
     rt: &R,
     alloc: Global,
     path: &str,
+    access: Access,
 ) -> Result<FileDisk, FileFault>
     ensures pages { IfOk result (λ d. file_pages d < 2 ^ 52) }
     ensures failures { IfOk result (λ d. file_failures d ≡ 0) }
     ensures fault { IfErr result (λ fault. (fault ≢ FileFault.NotEmpty) × (fault ≢ FileFault.OddLength)) }
 {
-    FileDisk::open_device(rt, alloc, path)
+    FileDisk::open_device(rt, alloc, path, access)
 }
 
 /// Makes the file of a new store. Refused 46 NotEmpty, so that nothing that is there is lost, and 1 DeviceFault.

@@ -1,12 +1,13 @@
 //! Stores of which an extent is left out, since its pages can't be written.
-ghost use Rattle.std.specs.Prelude.{◌↔◌, ◌≡◌, ◌≤◌, ◌⊎◌, Err, IfErr, IfOk, MatchResult, [], false, true, ℕ};
+ghost use Rattle.std.specs.Prelude.{◌<◌, ◌↔◌, ◌≡◌, ◌≤◌, ◌⊎◌, Err, IfErr, IfOk, MatchResult, [], false, true, ℕ};
 ghost use Rattle.cs_disk.specs.Disk.{LeavesOnly, page, seen};
 ghost use Rattle.cs_extent.specs.State.{shape};
 ghost use Rattle.cs_frame.specs.Formats.{formats_of};
-ghost use Rattle.cs_mount.specs.LeftOut.{IsLeftOut, LeavesTheMap, NoneDamagedOn};
+ghost use Rattle.cs_mount.specs.LeftOut.{IsAtRest, IsLeftOut, IsRowWorn, LeavesTheMap, NoneDamagedOn};
+ghost use Rattle.cs_reader.specs.Openings.{IsOpeningRefusal};
 ghost use Rattle.cs_store.specs.LeftOut.{IsWhyNotLeftOut, dimensions_in};
 ghost use Rattle.cs_store.specs.Maps.{HasMap};
-ghost use Rattle.cs_twin.specs.Paired.{disk_below, left_as_shown, moment_of, state_shown};
+ghost use Rattle.cs_twin.specs.Paired.{disk_below, failures_of, left_as_shown, moment_of, state_shown};
 ghost use Rattle.law_machine.specs.Element.{Map};
 ghost use Rattle.law_machine.specs.Geometry.{twins_in};
 ghost use Rattle.law_machine.specs.Recovery.{Recovers};
@@ -37,6 +38,12 @@ fn open_without<D: PageDisk + Drop>(
     ensures why { D.honest (disk_below core.disk) → (n : ℕ) (m : Map) (found : Recovers (shape core.store.extents) (formats_of (shape core.store.extents)) (page (seen (state_shown core.disk))) n m)
         → NoneDamagedOn (shape core.store.extents) (formats_of (shape core.store.extents)) (seen (state_shown core.disk)) found.runs found.pointers found.generations extent → IfErr result (λ refused. IsWhyNotLeftOut refused.0) }
     ensures there { IfErr result (λ refused. refused.0 ≡ Refusal.NotSweepable → (shape core.store.extents).extents ≤ extent) }
+    ensures waits { ¬ IsAtRest core.store → result ≡ Err (Refusal.Unsettled, core.disk) }
+    ensures rests { IfErr result (λ refused. refused.0 ≡ Refusal.Unsettled → ¬ IsAtRest core.store) }
+    ensures worn { D.honest (disk_below core.disk) → (n : ℕ) (m : Map) → Recovers (shape core.store.extents) (formats_of (shape core.store.extents)) (page (seen (state_shown core.disk))) n m
+        → IfErr result (λ refused. refused.0 ≡ Refusal.WornOut → IsRowWorn (dimensions_in (shape core.store.extents)) extent (seen (state_shown core.disk))) }
+    ensures number { IfErr result (λ refused. IsOpeningRefusal refused.0 ⊎ (refused.0 ≡ Refusal.WornOut) ⊎ (refused.0 ≡ Refusal.NotSweepable) ⊎ (refused.0 ≡ Refusal.Unsettled)) }
+    ensures counted { IfErr result (λ refused. refused.0 ≡ Refusal.DeviceFault → 0 < failures_of refused.1) }
     ensures honest { MatchResult result (λ left. D.honest (disk_below core.disk) ↔ D.honest (disk_below left.disk)) (λ refused. D.honest (disk_below core.disk) ↔ D.honest (disk_below refused.1)) }
     ensures pages { MatchResult result (λ left. D.page_count (disk_below left.disk) ≡ D.page_count (disk_below core.disk)) (λ refused. D.page_count (disk_below refused.1) ≡ D.page_count (disk_below core.disk)) }
 {
@@ -76,6 +83,9 @@ impl<D: PageDisk + Drop> Store<Mounted<D>> {
         ensures older { twins_in self.store.extents.format ≡ false → result ≡ Err (Refusal.NotSweepable, self.disk) }
         ensures missing { (shape self.store.extents).extents ≤ extent → result ≡ Err (Refusal.NotSweepable, self.disk) }
         ensures there { IfErr result (λ refused. refused.0 ≡ Refusal.NotSweepable → (twins_in self.store.extents.format ≡ false) ⊎ ((shape self.store.extents).extents ≤ extent)) }
+        // Else it is refused 44 exactly if the store isn't at rest, and the disk comes back as it is.
+        ensures waits { twins_in self.store.extents.format ≡ true → extent < (shape self.store.extents).extents → ¬ IsAtRest self.store → result ≡ Err (Refusal.Unsettled, self.disk) }
+        ensures rests { IfErr result (λ refused. refused.0 ≡ Refusal.Unsettled → ¬ IsAtRest self.store) }
         ensures new { IfOk result (λ left. (left.history ≡ []) × (left.limit ≡ self.limit) × (left.store.accepted ≡ 0)) }
         // It was opened on what the disk showed, with the extent left out: `an_extent_left_out_is_full` of cs_mount.
         ensures left_out { D.honest (disk_below self.disk) → (n : ℕ) (m : Map) (found : Recovers (shape self.store.extents) (formats_of (shape self.store.extents)) (page (seen (state_shown self.disk))) n m)
@@ -87,6 +97,13 @@ impl<D: PageDisk + Drop> Store<Mounted<D>> {
         ensures keeps { D.honest (disk_below self.disk) → (n : ℕ) (m : Map) (found : Recovers (shape self.store.extents) (formats_of (shape self.store.extents)) (page (seen (state_shown self.disk))) n m) → NoneDamagedOn (shape self.store.extents) (formats_of (shape self.store.extents)) (seen (state_shown self.disk)) found.runs found.pointers found.generations extent
             → MatchResult result (λ left. LeavesOnly moment_of left_as_shown self.disk left.disk (LeavesTheMap (state_shown self.disk) (shape self.store.extents) n m)) (λ refused. LeavesOnly moment_of left_as_shown self.disk refused.1 (LeavesTheMap (state_shown self.disk) (shape self.store.extents) n m)) }
         ensures why { D.honest (disk_below self.disk) → (n : ℕ) (m : Map) (found : Recovers (shape self.store.extents) (formats_of (shape self.store.extents)) (page (seen (state_shown self.disk))) n m) → NoneDamagedOn (shape self.store.extents) (formats_of (shape self.store.extents)) (seen (state_shown self.disk)) found.runs found.pointers found.generations extent → IfErr result (λ refused. IsWhyNotLeftOut refused.0) }
+        // It is refused 35 only if the section has the last version.
+        ensures worn { D.honest (disk_below self.disk) → (n : ℕ) (m : Map) → Recovers (shape self.store.extents) (formats_of (shape self.store.extents)) (page (seen (state_shown self.disk))) n m
+            → IfErr result (λ refused. refused.0 ≡ Refusal.WornOut → IsRowWorn (dimensions_in (shape self.store.extents)) extent (seen (state_shown self.disk))) }
+        // Whatever the disk answers.
+        ensures number { IfErr result (λ refused. IsOpeningRefusal refused.0 ⊎ (refused.0 ≡ Refusal.WornOut) ⊎ (refused.0 ≡ Refusal.NotSweepable) ⊎ (refused.0 ≡ Refusal.Unsettled)) }
+        // After 1 the disk has counted a call that failed.
+        ensures counted { IfErr result (λ refused. refused.0 ≡ Refusal.DeviceFault → 0 < failures_of refused.1) }
         ensures honest { MatchResult result (λ left. D.honest (disk_below self.disk) ↔ D.honest (disk_below left.disk)) (λ refused. D.honest (disk_below self.disk) ↔ D.honest (disk_below refused.1)) }
         ensures pages { MatchResult result (λ left. D.page_count (disk_below left.disk) ≡ D.page_count (disk_below self.disk)) (λ refused. D.page_count (disk_below refused.1) ≡ D.page_count (disk_below self.disk)) }
     {

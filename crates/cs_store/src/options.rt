@@ -10,9 +10,9 @@ ghost use Rattle.cs_frame.specs.Geometries.{file_format};
 ghost use Rattle.cs_mount.specs.Identities.{AreOfTwo, IsOfOne};
 ghost use Rattle.cs_mount.specs.Looks.{IsTaken};
 ghost use Rattle.cs_mount.specs.Makings.{HoldsBoth, LeavesLaying};
-ghost use Rattle.cs_mount.specs.Older.{older_on};
-ghost use Rattle.cs_mount.specs.OlderDisks.{shown_below, state_lowered};
-ghost use Rattle.cs_mount.specs.Showing.{ShowsOn, findings_on, shown_on};
+ghost use Rattle.cs_mount.specs.Older.{ShowsOlderOn, older_on};
+ghost use Rattle.cs_mount.specs.OlderDisks.{left_lowered, shown_below, state_lowered};
+ghost use Rattle.cs_mount.specs.Showing.{ShowsOn, findings_on, shown_by, shown_on};
 ghost use Rattle.cs_mount.specs.StorePairs.{blank_disk, dimensions_on, pages_of, store_pairs, store_version};
 ghost use Rattle.cs_reader.specs.Counts.{HasCount};
 ghost use Rattle.cs_reader.specs.Openings.{IsOpeningRefusal, IsWhyNotOpened};
@@ -285,6 +285,9 @@ impl OpenOptions {
         ensures calls { D.honest disk → MatchResult result (λ opened. D.moment (disk_below opened.0.disk) ≡ D.moment disk + 2) (λ refused. D.moment refused.1 ≤ D.moment disk + 2) }
         // A crash meanwhile leaves what shows as what one before it might have left.
         ensures crash { D.honest disk → IfOk result (λ opened. (left : Image) → left_as_shown opened.0.disk (D.moment disk) left → ShowsOn (D.page_count disk) (seen (D.state disk)) (MayLeave (D.state disk)) left) }
+        // So it does if it is refused, if there is a store of format 4 on the disk.
+        ensures crash_refused { D.honest disk → dimensions_on (D.page_count disk) (seen (D.state disk)) ≢ None → IfErr result (λ refused. (left : Image) → D.left_since refused.1 (D.moment disk) left
+            → ShowsOn (D.page_count disk) (seen (D.state disk)) (MayLeave (D.state disk)) (shown_by (D.page_count disk) (seen (D.state disk)) left)) }
         ensures honest { MatchResult result (λ opened. D.honest disk ↔ D.honest (disk_below opened.0.disk)) (λ refused. D.honest disk ↔ D.honest refused.1) }
         ensures pages { MatchResult result (λ opened. D.page_count (disk_below opened.0.disk) ≡ D.page_count disk) (λ refused. D.page_count refused.1 ≡ D.page_count disk) }
     {
@@ -435,6 +438,8 @@ impl OpenOptions {
         ensures cause { IfErr result (λ refused. refused.0 ≡ Refusal.DeviceFault → Rises (D.failure_count disk) (D.failure_count refused.1)) }
         // Nothing is written, whether it is opened or not: the device holds what it held, or that made durable.
         ensures unwritten { D.honest disk → MatchResult result (λ opened. D.state (disk_below (shown_below opened.0.disk)) ≡ flushed (D.state disk)) (λ refused. (D.state refused.1 ≡ D.state disk) ⊎ (D.state refused.1 ≡ flushed (D.state disk))) }
+        // A crash meanwhile leaves what shows so as what one before it might have left.
+        ensures crash { D.honest disk → IfOk result (λ opened. (left : Image) → left_lowered opened.0.disk (D.moment disk) left → ShowsOlderOn (D.page_count disk) (seen (D.state disk)) (MayLeave (D.state disk)) left) }
         // Two flushes, and no write; if it is refused, two at most.
         ensures calls { D.honest disk → MatchResult result (λ opened. D.moment (disk_below (shown_below opened.0.disk)) ≡ D.moment disk + 2) (λ refused. D.moment refused.1 ≤ D.moment disk + 2) }
         ensures honest { MatchResult result (λ opened. D.honest disk ↔ D.honest (disk_below (shown_below opened.0.disk))) (λ refused. D.honest disk ↔ D.honest refused.1) }

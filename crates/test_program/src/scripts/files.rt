@@ -1,7 +1,7 @@
 //! Stores in files.
 use super::{printed, script_text};
 use cs_core::Core;
-use cs_disk::{CrashDisk, FileDisk, OpenFault, PageDisk};
+use cs_disk::{Access, CrashDisk, FileDisk, OpenFault, PageDisk};
 use cs_frame::{Geometry, ShardId, StoreId};
 use cs_mount::{MountOptions, Mounted};
 use cs_options::script::run_over;
@@ -184,7 +184,7 @@ fn new_on_longer<R: Abort + AllocGlobal + Files<File = File>>(
 fn the_pages_of_a_longer_device(rt: HostRuntime) -> Result<(), Fail> {
     let path = "cs_cli_pages";
     new_on_longer(&rt, path)?;
-    match FileDisk::open_device(&rt, rt.alloc(), path) {
+    match FileDisk::open_device(&rt, rt.alloc(), path, Access::Write) {
         Ok(mut device) => {
             assert!(&rt; device.pages() == 20);
             let said = pages_said(rt.alloc(), &mut device);

@@ -35,3 +35,6 @@ returns-in-Err-clause-unrefused g c = rw (← c.into_disk-disk.ensures) c.fence.
 
 pub returns-in-Ok-clause-known : goal.returns-in-Ok-clause-known
 returns-in-Ok-clause-known g c = rw (← c.into_disk-disk.ensures) c.in-Ok.ensures.known
+
+pub returns-in-Ok-clause-sound : goal.returns-in-Ok-clause-sound
+returns-in-Ok-clause-sound g c = rw (← c.into_disk-disk.ensures) c.in-Ok.ensures.sound

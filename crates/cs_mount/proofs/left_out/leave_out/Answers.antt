@@ -129,3 +129,15 @@ returns-in-Err-cross_out-clause-there g c = λ is. absurd (not_unswept c.in-Err-
 
 pub returns-in-Err-clause-there : goal.returns-in-Err-clause-there
 returns-in-Err-clause-there g c = λ is. absurd (not_unswept c.in-Err.refused.0 (inl c.in-Err.ensures.number) is)
+
+pub returns-then-not-rests-clause-number : goal.returns-then-not-rests-clause-number
+returns-then-not-rests-clause-number g c = inr (inr (inr refl))
+
+pub returns-then-extent-from-clause-number : goal.returns-then-extent-from-clause-number
+returns-then-extent-from-clause-number g c = inr (inr (inl refl))
+
+pub returns-in-Err-cross_out-clause-number : goal.returns-in-Err-cross_out-clause-number
+returns-in-Err-cross_out-clause-number g c = ⊎_elim (λ other. inl other) (λ worn. inr (inl worn)) c.in-Err-cross_out.ensures.number
+
+pub returns-in-Err-clause-number : goal.returns-in-Err-clause-number
+returns-in-Err-clause-number g c = inl c.in-Err.ensures.number

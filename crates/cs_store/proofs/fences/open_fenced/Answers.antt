@@ -1,4 +1,4 @@
-use Rattle.std.proofs.Common.{None, Some, ℕ, [], ap, inl, subst, sym, ⊎_elim, ◌∙◌, ◌≡◌, ◌⊎◌}
+use Rattle.std.proofs.Common.{None, Some, ℕ, [], ap, inl, refl, subst, sym, ⊎_elim, ◌∙◌, ◌<◌, ◌≡◌, ◌⊎◌}
 use Rattle.std.specs.List.{AllByRecursion}
 use Rattle.cs_chunk.specs.Reads.{IsNoAnswer}
 use Rattle.cs_disk.specs.Disk.{Image, MayLeave, page, seen}
@@ -6,13 +6,15 @@ use Rattle.cs_frame.specs.Formats.{formats_of}
 use Rattle.cs_frame.specs.Geometries.{section_size}
 use Rattle.cs_mount.proofs.Opened.{opened_by}
 use Rattle.cs_mount.specs.Showing.{shown_on}
+use Rattle.cs_mount.specs.StorePairs.{store_version}
 use Rattle.cs_reader.specs.Openings.{IsWhyNotOpened}
 use Rattle.cs_twin.specs.Findings.{finding_in, passed_over}
-use Rattle.cs_twin.specs.Paired.{disk_below, left_as_shown, moment_of, pairs_of, state_shown, versions_of}
-use Rattle.cs_twin.specs.Pairs.{fence}
+use Rattle.cs_twin.specs.Paired.{disk_below, failures_of, left_as_shown, moment_of, pairs_of, refusals_of, state_shown, versions_of}
+use Rattle.cs_twin.specs.Pairs.{fence, shown}
 use Rattle.law_machine.specs.Geometry.{shape_of}
 use Rattle.law_machine.specs.Recovery.{Recovers}
-use Rattle.cs_store.proofs.Fenced.{kept_still, leaves_then, none_mapped, same_left}
+use Rattle.cs_store.proofs.Fenced.{kept_alike, kept_still, leaves_then, none_mapped, same_left}
+use Rattle.cs_store.proofs.Readied.{rises_below}
 use Rattle.cs_store.proofs.fences.open_fenced.Goals as goal
 
 pub returns-in-Ok-open-clause-store : goal.returns-in-Ok-open-clause-store
@@ -92,3 +94,48 @@ returns-in-Ok-open-clause-filled g c = λ h.
 pub returns-in-Ok-open-clause-untouched : goal.returns-in-Ok-open-clause-untouched
 returns-in-Ok-open-clause-untouched g c = λ h number none.
     ap (λ (image : Image). page image number) (ap seen (c.in-Ok-open.ensures.unwritten (c.in-Ok.ensures.honest.0 h))) ∙ c.in-Ok.ensures.untouched h number none
+
+pub returns-in-Err-open-clause-counted : goal.returns-in-Err-open-clause-counted
+returns-in-Err-open-clause-counted g c = λ sound none is.
+    let D = g.D.PageDisk in
+    let p = c.in-Err-open.disk in
+    let still = (c.in-Err-open.ensures.sound (c.in-Ok.ensures.sound sound)).1 in
+    subst (λ (below : _). 0 < D.failure_count below) (sym c.into_disk.ensures)
+    (rises_below (failures_of c.in-Ok.disk) (D.failure_count p.disk) (refusals_of p) (still ∙ c.in-Ok.ensures.unrefused sound ∙ none) (c.in-Err-open.ensures.cause is))
+
+pub returns-in-Err-clause-counted : goal.returns-in-Err-clause-counted
+returns-in-Err-clause-counted g c = λ sound none is.
+    let D = g.D.PageDisk in
+    let p = c.in-Err.disk in
+    subst (λ (below : _). 0 < D.failure_count below) (sym c.into_disk-in-Err.ensures)
+    (rises_below (failures_of c.args.core.disk) (D.failure_count p.disk) (refusals_of p) (c.in-Err.ensures.unrefused sound ∙ none) (c.in-Err.ensures.cause is))
+
+pub returns-in-Err-open-clause-crash_refused : goal.returns-in-Err-open-clause-crash_refused
+returns-in-Err-open-clause-crash_refused g c = λ h image long some shows t left le past.
+    let D = g.D.PageDisk in
+    let core = c.args.core in
+    let n = D.page_count (disk_below core.disk) in
+    let mid = c.in-Ok.disk in
+    let p = c.in-Err-open.disk in
+    let before = state_shown core.disk in
+    let hm = c.in-Ok.ensures.honest.0 h in
+    let hp = c.in-Err-open.ensures.honest.0 hm in
+    let calls = leaves_then moment_of left_as_shown core.disk mid p (MayLeave before) (MayLeave (state_shown mid))
+    (λ c' was. same_left before (state_shown mid) c' (none_mapped _ _ (c.in-Ok.ensures.durable h)) (c.in-Ok.ensures.shown h) was) (c.in-Ok.ensures.crash h) (c.in-Err-open.ensures.crash hm) in
+    let still : seen (state_shown p) ≡ seen (state_shown mid) = ⊎_elim (λ stays. ap seen stays) (λ flush. ap seen flush) (c.in-Err-open.ensures.kept hm) in
+    let alike = kept_alike n image long some (D.page_count p.disk) p.rules.geometry p.pairs.items (D.state p.disk) (c.in-Err-open.ensures.pages ∙ c.in-Ok.ensures.pages) p.apart (g.met.D.PageDisk.sized p.disk hp) (p.right hp).newer
+    (p.fit hp).allowed (p.fit hp).durable (still ∙ c.in-Ok.ensures.shown h ∙ ap seen shows) left in
+    let now : D.left_since p.disk t left = subst (λ (below : _). D.left_since below t left) c.into_disk.ensures past in
+    subst (λ (z : Image). left_as_shown core.disk t z ⊎ MayLeave before z) alike (calls.before t (shown (store_version p.rules.geometry) p.pairs.items left) le (left, now, refl))
+
+pub returns-in-Err-clause-crash_refused : goal.returns-in-Err-clause-crash_refused
+returns-in-Err-clause-crash_refused g c = λ h image long some shows t left le past.
+    let D = g.D.PageDisk in
+    let core = c.args.core in
+    let n = D.page_count (disk_below core.disk) in
+    let p = c.in-Err.disk in
+    let hp = c.in-Err.ensures.honest.0 h in
+    let alike = kept_alike n image long some (D.page_count p.disk) p.rules.geometry p.pairs.items (D.state p.disk) c.in-Err.ensures.pages p.apart (g.met.D.PageDisk.sized p.disk hp) (p.right hp).newer (p.fit hp).allowed (p.fit hp).durable
+    (c.in-Err.ensures.shown h ∙ ap seen shows) left in
+    let now : D.left_since p.disk t left = subst (λ (below : _). D.left_since below t left) c.into_disk-in-Err.ensures past in
+    subst (λ (z : Image). left_as_shown core.disk t z ⊎ MayLeave (state_shown core.disk) z) alike ((c.in-Err.ensures.crash h).before t (shown (store_version p.rules.geometry) p.pairs.items left) le (left, now, refl))

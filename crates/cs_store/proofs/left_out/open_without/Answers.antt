@@ -1,14 +1,17 @@
-use Rattle.std.proofs.Common.{inl, inr, length, sym, subst, ◌∙◌}
+use Rattle.std.proofs.Common.{Err, ap, inl, inr, length, sym, subst, ◌∙◌}
 use Rattle.cs_disk.specs.Disk.{Image, MayLeave, page, seen}
 use Rattle.cs_extent.specs.State.{shape}
 use Rattle.cs_frame.specs.Formats.{formats_of}
-use Rattle.cs_mount.specs.LeftOut.{IsLeftOut, LeavesTheMap}
-use Rattle.cs_twin.specs.Paired.{left_as_shown, moment_of, state_shown}
+use Rattle.cs_mount.proofs.Closing.{not_unsettled}
+use Rattle.cs_mount.specs.LeftOut.{IsLeftOut, IsRowWorn, LeavesTheMap}
+use Rattle.cs_refusal.specs.declared.refusals.Refusal.TheVariants.{Unsettled}
+use Rattle.cs_twin.specs.Paired.{failures_of, left_as_shown, moment_of, state_shown}
 use Rattle.law_machine.specs.Recovery.{Recovers}
 use Rattle.cs_store.specs.LeftOut.{dimensions_in}
 use Rattle.cs_store.proofs.Fenced.{leaves_then}
-use Rattle.cs_store.proofs.LeavingOut.{settled_leaves, why_of}
+use Rattle.cs_store.proofs.LeavingOut.{never_refused, opening_unworn, settled_leaves, why_of, worn_of}
 use Rattle.cs_store.proofs.Maps.{opened_map}
+use Rattle.cs_store.proofs.Readied.{rises_some, same_Err}
 use Rattle.cs_store.proofs.left_out.open_without.Goals as goal
 
 pub returns-in-Ok-open-clause-left_out : goal.returns-in-Ok-open-clause-left_out
@@ -54,3 +57,36 @@ returns-in-Err-open-clause-honest g c = ((λ h. c.in-Err-open.ensures.honest.0 (
 
 pub returns-in-Err-clause-why : goal.returns-in-Err-clause-why
 returns-in-Err-clause-why g c = λ h n m found whole. why_of c.in-Err.refused.0 _ (c.in-Err.ensures.why h n m found)
+
+-- ---- why it is refused
+
+pub returns-in-Ok-open-clause-waits : goal.returns-in-Ok-open-clause-waits
+returns-in-Ok-open-clause-waits g c = λ waits. absurd (never_refused c.in-Ok.disk (Unsettled, c.args.core.disk) (c.in-Ok.ensures.waits c.requires waits))
+
+pub returns-in-Err-open-clause-waits : goal.returns-in-Err-open-clause-waits
+returns-in-Err-open-clause-waits g c = λ waits. absurd (never_refused c.in-Ok.disk (Unsettled, c.args.core.disk) (c.in-Ok.ensures.waits c.requires waits))
+
+pub returns-in-Err-open-clause-rests : goal.returns-in-Err-open-clause-rests
+returns-in-Err-open-clause-rests g c = λ is. absurd (not_unsettled c.in-Err-open.refused.0 (inl c.in-Err-open.ensures.number) is)
+
+pub returns-in-Err-open-clause-worn : goal.returns-in-Err-open-clause-worn
+returns-in-Err-open-clause-worn g c = λ h n m found is. absurd (opening_unworn c.in-Err-open.refused.0 c.in-Err-open.ensures.number is)
+
+pub returns-in-Err-open-clause-number : goal.returns-in-Err-open-clause-number
+returns-in-Err-open-clause-number g c = inl c.in-Err-open.ensures.number
+
+pub returns-in-Err-open-clause-counted : goal.returns-in-Err-open-clause-counted
+returns-in-Err-open-clause-counted g c = λ is. rises_some (failures_of c.in-Ok.disk) (failures_of c.in-Err-open.refused.1) (c.in-Err-open.ensures.cause is)
+
+pub returns-in-Err-clause-waits : goal.returns-in-Err-clause-waits
+returns-in-Err-clause-waits g c = λ waits. ap (λ it. Err it) (same_Err c.in-Err.refused (Unsettled, c.args.core.disk) (c.in-Err.ensures.waits c.requires waits))
+
+pub returns-in-Err-clause-worn : goal.returns-in-Err-clause-worn
+returns-in-Err-clause-worn g c = λ h n m found is.
+    worn_of c.in-Err.refused.0 (IsRowWorn (dimensions_in (shape c.args.core.store.extents)) c.args.extent (seen (state_shown c.args.core.disk))) (c.in-Err.ensures.why h n m found) is
+
+pub returns-in-Err-clause-number : goal.returns-in-Err-clause-number
+returns-in-Err-clause-number g c = c.in-Err.ensures.number
+
+pub returns-in-Err-clause-counted : goal.returns-in-Err-clause-counted
+returns-in-Err-clause-counted g c = c.in-Err.ensures.counted

@@ -1,5 +1,4 @@
-use Rattle.std.proofs.Common.{◌≡◌, ◌∙◌, [], inl, inr, sym}
-use Rattle.cs_disk.specs.Disk.{State, Write, seen}
+use Rattle.std.proofs.Common.{inl, inr, sym}
 use Rattle.cs_store.proofs.Remaking.{caused_after, empty_items, left_so, none_leaves, none_made, none_seen, some_items, some_leave, some_made, some_seen}
 use Rattle.cs_store.proofs.sections.ready_sections.Goals as goal
 

@@ -1,15 +1,18 @@
-use Rattle.std.proofs.Common.{ap, arith, inl, inr, le_trans, mul-le-mul_left, ◌*◌, ◌≤◌, subst, sym, ⊎_elim, ◌∙◌, ◌≡◌, ◌⊎◌}
+use Rattle.std.proofs.Common.{ap, arith, inl, inr, le_trans, length, mul-le-mul_left, ◌*◌, ◌≤◌, refl, subst, sym, ⊎_elim, ◌∙◌, ◌≡◌, ◌⊎◌}
 use Rattle.cs_core.specs.cs_chunk.Reads.{IsNoAnswer}
 use Rattle.cs_reader.specs.Openings.{IsWhyNotOpened}
-use Rattle.cs_disk.specs.Disk.{Image, flushed, page, seen}
+use Rattle.cs_disk.proofs.Images.{length-applied}
+use Rattle.cs_disk.specs.Disk.{Image, MayLeave, flushed, page, seen}
 use Rattle.cs_frame.specs.Formats.{formats_of}
 use Rattle.cs_frame.proofs.GeometryLaws.{bounds, pages_on_device}
 use Rattle.cs_frame.specs.Geometries.{section_size}
 use Rattle.law_machine.specs.Geometry.{shape_of}
 use Rattle.law_machine.specs.Recovery.{Recovers}
 use Rattle.cs_twin.specs.Paired.{left_as_shown, moment_of, state_shown}
-use Rattle.cs_mount.specs.Showing.{shown_on}
+use Rattle.cs_twin.specs.Pairs.{shown}
+use Rattle.cs_mount.specs.Showing.{ShowsOn, shown_on}
 use Rattle.cs_mount.specs.StorePairs.{dimensions_on, pairs_where, store_version}
+use Rattle.cs_mount.proofs.Lying.{shown_alike, still_durable}
 use Rattle.cs_mount.proofs.Mounting.{shows_before, shows_later}
 use Rattle.cs_mount.proofs.Opened.{opened_by}
 use Rattle.cs_mount.proofs.mount_options.MountOptions.open.Goals as goal
@@ -92,3 +95,35 @@ returns-in-Ok-open-clause-before g c = λ h t left le past.
     let found = dimensions_on (D.page_count disk) (seen (D.state disk)) in
     shows_before moment_of left_as_shown (store_version found) (pairs_where found) (D.state disk) (D.left_since disk t) c.in-Ok.paired c.in-Ok-open.core.disk t (state_shown c.in-Ok.paired) left
     (c.in-Ok.ensures.shown h) (le_trans le (c.in-Ok.ensures.crash h).later) (λ image was. c.in-Ok.ensures.before h t image le was) (c.in-Ok-open.ensures.crash (c.in-Ok.ensures.honest.0 h)) past
+
+pub returns-in-Ok-open-clause-sound : goal.returns-in-Ok-open-clause-sound
+returns-in-Ok-open-clause-sound g c =
+    let still = c.in-Ok-open.ensures.sound c.in-Ok.ensures.sound in
+    (still.0, still.1 ∙ c.in-Ok.ensures.refusals)
+
+-- ---- what a crash leaves where it is refused
+
+pub returns-in-Err-open-clause-crash_refused : goal.returns-in-Err-open-clause-crash_refused
+returns-in-Err-open-clause-crash_refused g c = λ h some left past.
+    let D = g.D.PageDisk in
+    let disk = c.args.disk in
+    let n = D.page_count disk in
+    let s = D.state disk in
+    let found = dimensions_on n (seen s) in
+    let old = c.in-Ok.paired in
+    let new = c.in-Err-open.paired in
+    let before = c.in-Ok.ensures.honest.0 h in
+    let now : D.left_since new.disk (D.moment disk) left = subst (λ (below : _). D.left_since below (D.moment disk) left) c.into_disk.ensures past in
+    let long : length (seen s) ≡ n = length-applied s.durable s.volatile ∙ g.met.D.PageDisk.sized disk h in
+    let shows = still_durable (shown_on n (seen s)) (state_shown old) (state_shown new) (c.in-Ok.ensures.shown h) (c.in-Err-open.ensures.kept before) in
+    let alike = shown_alike n (seen s) long some (D.page_count new.disk) new.rules.geometry new.pairs.items (D.state new.disk).durable (c.in-Err-open.ensures.pages ∙ c.in-Ok.ensures.pages)
+    (new.fit (c.in-Err-open.ensures.honest.0 before)).durable shows left in
+    subst (λ (image : Image). ShowsOn n (seen s) (MayLeave s) image) alike
+    (shows_later moment_of left_as_shown (store_version found) (pairs_where found) s old new (D.moment disk) (state_shown old) (shown (store_version new.rules.geometry) new.pairs.items left)
+    (c.in-Ok.ensures.shown h) (c.in-Ok.ensures.crash h).later (c.in-Ok.ensures.left h) (c.in-Err-open.ensures.crash before) (left, now, refl))
+
+pub returns-in-Err-clause-crash_refused : goal.returns-in-Err-clause-crash_refused
+returns-in-Err-clause-crash_refused g c = λ h some left past. (left, (c.in-Err.ensures.crash h).each left past, refl)
+
+pub returns-then-pages-lt10-clause-crash_refused : goal.returns-then-pages-lt10-clause-crash_refused
+returns-then-pages-lt10-clause-crash_refused g c = λ h some left past. (left, g.met.D.PageDisk.only_now c.args.disk left h past, refl)

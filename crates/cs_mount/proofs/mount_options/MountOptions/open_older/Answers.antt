@@ -2,9 +2,9 @@ use Rattle.std.proofs.Common.{ap, arith, inl, inr, subst, sym, ⊎_elim, ◌∙�
 use Rattle.cs_reader.specs.Openings.{IsWhyNotOpened}
 use Rattle.cs_disk.specs.Disk.{Image, Rises, flushed, page, seen}
 use Rattle.cs_mount.specs.Older.{older_on}
-use Rattle.cs_mount.specs.OlderDisks.{shown_below}
+use Rattle.cs_mount.specs.OlderDisks.{left_lowered, moment_shown, shown_below, state_lowered}
 use Rattle.cs_twin.specs.Paired.{disk_below}
-use Rattle.cs_mount.proofs.Aged.{aged_by, dimensions_by, findings_by, some_there, two_by}
+use Rattle.cs_mount.proofs.Aged.{aged_by, dimensions_by, findings_by, older_here, older_later, some_there, two_by}
 use Rattle.cs_mount.proofs.Ones.{two_none}
 use Rattle.cs_mount.proofs.Opened.{opened_by}
 use Rattle.cs_mount.proofs.mount_options.MountOptions.open_older.Goals as goal
@@ -115,3 +115,18 @@ returns-in-Err-open-clause-cause g c = λ is.
     let still = (c.in-Err-open.ensures.sound c.in-Ok-show_older.ensures.sound).1 in
     subst (λ (below : _). Rises (D.failure_count c.args.disk) (D.failure_count below)) (sym (c.into_disk-in-Err-open.ensures ∙ ap (λ p. disk_below p) c.into_disk.ensures))
     (omega (arith, rises, none.0, none.1, still, c.in-Ok-show_older.ensures.failures, c.in-Ok.ensures.disk.failures))
+
+pub returns-in-Ok-open-clause-crash : goal.returns-in-Ok-open-clause-crash
+returns-in-Ok-open-clause-crash g c = λ h left past.
+    let D = g.D.PageDisk in
+    let disk = c.args.disk in
+    let mid = c.find_older.new.disk in
+    let older = c.in-Ok-show_older.older in
+    let new = c.in-Ok-open.core.disk in
+    let reads = c.in-Ok.ensures.disk in
+    let later = reads.honesty.0 h in
+    let calls = c.in-Ok-show_older.ensures.calls later in
+    let some = dimensions_by (D.page_count mid) (D.page_count disk) (D.state mid) (D.state disk) c.in-Ok.geometry reads.pages (reads.same h) (c.in-Ok.ensures.found h) in
+    older_here (D.page_count mid) (D.page_count disk) (D.state mid) (D.state disk) left reads.pages (reads.same h)
+    (older_later moment_shown left_lowered (D.page_count mid) (D.state mid) older new (D.moment mid) (state_lowered older) left (c.in-Ok-show_older.ensures.shown later some) (omega (arith, calls))
+    (c.in-Ok-show_older.ensures.left later some) (c.in-Ok-open.ensures.crash (c.in-Ok-show_older.ensures.honest.0 later)) (subst (λ t. left_lowered new t left) (sym (reads.still h)) past))

@@ -1,17 +1,18 @@
-use Rattle.std.proofs.Common.{◌≡◌, ◌≤◌, ◌↔◌, ℕ, inl, inr, subst, sym}
+use Rattle.std.proofs.Common.{◌≡◌, ◌≤◌, ℕ, Err, ap, inl, inr, refl, subst, sym, ◌∙◌}
 use Rattle.cs_disk.specs.Disk.{LeavesOnly, page, seen}
 use Rattle.cs_extent.specs.State.{shape}
 use Rattle.cs_frame.specs.Formats.{formats_of}
 use Rattle.cs_mount.proofs.Closing.{still_leaves}
-use Rattle.cs_mount.specs.LeftOut.{IsLeftOut, LeavesTheMap, NoneDamagedOn}
+use Rattle.cs_mount.specs.LeftOut.{IsAtRest, IsLeftOut, IsRowWorn, LeavesTheMap, NoneDamagedOn}
 use Rattle.cs_mount.specs.StorePairs.{store_version}
-use Rattle.cs_refusal.specs.declared.refusals.Refusal.TheVariants.{NotSweepable}
+use Rattle.cs_refusal.specs.declared.refusals.Refusal.TheVariants.{Unsettled, WornOut}
 use Rattle.cs_twin.specs.Laws.{only_pairs}
 use Rattle.cs_twin.specs.Paired.{disk_below, left_as_shown, moment_of, state_shown}
 use Rattle.law_machine.specs.Element.{Map}
 use Rattle.law_machine.specs.Recovery.{Recovers}
 use Rattle.cs_store.specs.LeftOut.{IsWhyNotLeftOut, dimensions_in}
 use Rattle.cs_store.specs.Maps.{HasMap}
+use Rattle.cs_store.proofs.LeavingOut.{never_refused}
 use Rattle.cs_store.proofs.left_out.Store+Mounted+D.leave_out.Goals as goal
 
 -- ---- nothing is done
@@ -62,3 +63,34 @@ returns-in-Err-clause-why g c =
 
 pub returns-in-Err-clause-there : goal.returns-in-Err-clause-there
 returns-in-Err-clause-there g c = λ is. inr (subst (λ z. (shape z.store.extents).extents ≤ c.args.extent) c.into_core.ensures (c.in-Err.ensures.there is))
+
+-- ---- why it is refused
+
+pub returns-then-not-has_twins-clause-number : goal.returns-then-not-has_twins-clause-number
+returns-then-not-has_twins-clause-number g c = inr (inr (inl refl))
+
+pub returns-then-extent-from-clause-number : goal.returns-then-extent-from-clause-number
+returns-then-extent-from-clause-number g c = inr (inr (inl refl))
+
+pub returns-in-Ok-clause-waits : goal.returns-in-Ok-clause-waits
+returns-in-Ok-clause-waits g c = λ twins there waits.
+    absurd (never_refused c.in-Ok.core (Unsettled, c.into_core.result.disk) (c.in-Ok.ensures.waits (subst (λ z. ¬ IsAtRest z.store) (sym c.into_core.ensures) waits)))
+
+pub returns-in-Err-clause-waits : goal.returns-in-Err-clause-waits
+returns-in-Err-clause-waits g c = λ twins there waits.
+    c.in-Err.ensures.waits (subst (λ z. ¬ IsAtRest z.store) (sym c.into_core.ensures) waits) ∙ ap (λ z. Err (Unsettled, z.disk)) c.into_core.ensures
+
+pub returns-in-Err-clause-rests : goal.returns-in-Err-clause-rests
+returns-in-Err-clause-rests g c = λ is. subst (λ z. ¬ IsAtRest z.store) c.into_core.ensures (c.in-Err.ensures.rests is)
+
+pub returns-in-Err-clause-worn : goal.returns-in-Err-clause-worn
+returns-in-Err-clause-worn g c =
+    subst (λ z. g.D.PageDisk.honest (disk_below z.disk) → (n : ℕ) (m : Map) → Recovers (shape z.store.extents) (formats_of (shape z.store.extents)) (page (seen (state_shown z.disk))) n m → c.in-Err.refused.0 ≡ WornOut
+    → IsRowWorn (dimensions_in (shape z.store.extents)) c.args.extent (seen (state_shown z.disk)))
+    c.into_core.ensures c.in-Err.ensures.worn
+
+pub returns-in-Err-clause-number : goal.returns-in-Err-clause-number
+returns-in-Err-clause-number g c = c.in-Err.ensures.number
+
+pub returns-in-Err-clause-counted : goal.returns-in-Err-clause-counted
+returns-in-Err-clause-counted g c = c.in-Err.ensures.counted

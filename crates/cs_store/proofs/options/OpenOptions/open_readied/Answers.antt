@@ -1,12 +1,13 @@
-use Rattle.std.proofs.Common.{None, [], ap, arith, false, inl, inr, length, subst, sym, true, ⊎_elim, ◌∙◌, ◌≡◌, ◌≢◌, ◌⊎◌}
+use Rattle.std.proofs.Common.{None, [], ap, arith, false, inl, inr, length, subst, sym, true, ℕ, ⊎_elim, ◌∙◌, ◌≡◌, ◌≢◌, ◌≤◌, ◌⊎◌}
 use Rattle.std.specs.List.{list_any}
 use Rattle.cs_chunk.specs.Reads.{IsNoAnswer}
-use Rattle.cs_disk.specs.Disk.{Image, flushed, page, seen}
+use Rattle.cs_disk.proofs.Crashes.{MayLeave-flushed, seen_MayLeave}
+use Rattle.cs_disk.specs.Disk.{Image, MayLeave, State, flushed, page, seen}
 use Rattle.cs_frame.specs.Formats.{formats_of}
 use Rattle.cs_frame.specs.Geometries.{section_size}
 use Rattle.cs_mount.proofs.Mounting.{shows_later}
 use Rattle.cs_mount.proofs.Opened.{opened_by}
-use Rattle.cs_mount.specs.Showing.{shown_on}
+use Rattle.cs_mount.specs.Showing.{shown_by, shown_on}
 use Rattle.cs_mount.specs.StorePairs.{dimensions_on, pairs_where, store_version}
 use Rattle.cs_reader.specs.Openings.{IsWhyNotOpened}
 use Rattle.cs_twin.specs.Findings.{is_halved}
@@ -14,7 +15,10 @@ use Rattle.cs_twin.specs.Paired.{left_as_shown, moment_of, state_shown}
 use Rattle.law_machine.specs.Geometry.{shape_of}
 use Rattle.law_machine.specs.Recovery.{Recovers}
 use Rattle.cs_store.proofs.Fenced.{filled_again, filled_still, guarded_again, guarded_still, long_seen, none_halved, not_passed, still_shown, untouched_again}
+use Rattle.cs_refusal.specs.declared.refusals.Refusal.TheVariants.{NotAStore}
+use Rattle.cs_store.proofs.LeavingOut.{never_refused}
 use Rattle.cs_store.proofs.Maps.{opened_map}
+use Rattle.cs_store.proofs.Readied.{rises_some}
 use Rattle.cs_store.proofs.options.OpenOptions.open_readied.Goals as goal
 
 pub returns-then-not-are_passed_over-clause-recovers : goal.returns-then-not-are_passed_over-clause-recovers
@@ -184,3 +188,29 @@ returns-in-Ok-open_fenced-clause-untouched g c = λ h.
     untouched_again (D.page_count disk) (D.state disk) (g.met.D.PageDisk.sized disk h) c.in-Ok.findings.items (c.in-Ok.ensures.findings h) named
     (D.page_count p.disk) p.rules.geometry p.pairs.items (D.state p.disk) c.in-Ok.ensures.pages (p.fit before).durable (c.in-Ok.ensures.image h).1 (ap seen (c.in-Ok.ensures.unwritten h))
     (seen (D.state c.in-Ok-open_fenced.core.disk.disk)) (c.in-Ok-open_fenced.ensures.untouched before)
+
+pub returns-in-Err-open_fenced-clause-counted : goal.returns-in-Err-open_fenced-clause-counted
+returns-in-Err-open_fenced-clause-counted g c = λ is. c.in-Err-open_fenced.ensures.counted c.in-Ok.ensures.sound.0 c.in-Ok.ensures.sound.1 is
+
+pub returns-in-Err-clause-counted : goal.returns-in-Err-clause-counted
+returns-in-Err-clause-counted g c = λ is. rises_some (g.D.PageDisk.failure_count c.args.disk) (g.D.PageDisk.failure_count c.in-Err.refused.1) (c.in-Err.ensures.cause is)
+
+pub returns-in-Err-open_fenced-clause-crash_refused : goal.returns-in-Err-open_fenced-clause-crash_refused
+returns-in-Err-open_fenced-clause-crash_refused g c = λ h some left past.
+    let D = g.D.PageDisk in
+    let disk = c.args.disk in
+    let n = D.page_count disk in
+    let s = D.state disk in
+    let p = c.in-Ok.core.disk in
+    let was = c.in-Ok.ensures.calls h in
+    let shows = (c.in-Ok.ensures.image h).1 in
+    let z = shown_by n (seen s) left in
+    let each = subst (λ m. (image : Image) → length image ≡ m → dimensions_on m image ≢ None → state_shown p ≡ record { durable = shown_on m image; volatile = [] } → (t : ℕ) (c' : Image) → t ≤ moment_of p
+    → D.left_since c.in-Err-open_fenced.refused.1 t c' → left_as_shown p t (shown_by m image c') ⊎ MayLeave (state_shown p) (shown_by m image c'))
+    c.in-Ok.ensures.pages (c.in-Err-open_fenced.ensures.crash_refused (c.in-Ok.ensures.honest.0 h)) in
+    ⊎_elim (λ (before : left_as_shown p (D.moment disk) z). c.in-Ok.ensures.crash h z before)
+    (λ (now : MayLeave (state_shown p) z). (seen s, seen_MayLeave s, MayLeave-flushed (record { durable = shown_on n (seen s); volatile = [] }) z (subst (λ (x : State). MayLeave x z) shows now)))
+    (each (seen s) (long_seen n s (g.met.D.PageDisk.sized disk h)) some shows (D.moment disk) left (omega (arith, was)) past)
+
+pub returns-in-Ok-open_fenced-clause-small : goal.returns-in-Ok-open_fenced-clause-small
+returns-in-Ok-open_fenced-clause-small g c = λ few. absurd (never_refused (c.in-Ok.core, c.in-Ok.findings) (NotAStore, c.args.disk) (c.in-Ok.ensures.small few))

@@ -1,11 +1,12 @@
-use Rattle.std.proofs.Common.{[], ℕ, ap, inl, inr, refl, subst, sym, ⊎_elim, ◌∙◌, ◌≡◌, ◌⊎◌, ◌<◌, Err}
+use Rattle.std.proofs.Common.{None, [], ℕ, ap, arith, inl, inr, refl, subst, sym, ⊎_elim, ◌∙◌, ◌≡◌, ◌≢◌, ◌⊎◌, ◌<◌, Err}
 use Rattle.cs_chunk.specs.Reads.{IsNoAnswer}
 use Rattle.cs_disk.specs.Disk.{Image, MayLeave, State, flushed, page, seen}
 use Rattle.cs_frame.specs.Formats.{formats_of}
 use Rattle.cs_frame.specs.Geometries.{section_size}
 use Rattle.cs_mount.proofs.Opened.{opened_by}
 use Rattle.cs_mount.specs.Identities.{AreOfTwo, IsOfOne}
-use Rattle.cs_mount.specs.Showing.{ShowsOn, findings_on, shown_on}
+use Rattle.cs_mount.specs.Showing.{ShowsOn, findings_on, shown_by, shown_on}
+use Rattle.cs_mount.specs.StorePairs.{dimensions_on}
 use Rattle.cs_reader.specs.Openings.{IsWhyNotOpened}
 use Rattle.cs_refusal.specs.declared.refusals.Refusal.TheVariants.{NotAStore}
 use Rattle.cs_twin.specs.Paired.{disk_below, left_as_shown}
@@ -13,7 +14,7 @@ use Rattle.law_machine.specs.Geometry.{shape_of}
 use Rattle.law_machine.specs.Recovery.{Recovers}
 use Rattle.cs_store.specs.Opening.{AgreeBeside, AreFencesIn, NoneIsPassedOver, Opening, given_up}
 use Rattle.cs_store.specs.declared.options.Loss.TheVariants.{Refused}
-use Rattle.cs_store.proofs.Readied.{answered, given_up_partly, moved, moved_back, none_given_up, opened_readable, rises_from, same_Err, shows_moved}
+use Rattle.cs_store.proofs.Readied.{answered, given_up_partly, moved, moved_back, none_given_up, opened_readable, rises_from, rises_some, same_Err, shows_moved}
 use Rattle.cs_store.proofs.options.OpenOptions.open_to_write.Goals as goal
 
 -- ---- it is opened
@@ -164,6 +165,18 @@ returns-in-Err-open_readied-clause-refusals g c = λ h refused.
     (λ k z. IsNoAnswer r ⊎ ((r ≡ NotAStore) × AreOfTwo k (seen z)) ⊎ IsWhyNotOpened k (page (shown_on k (seen z))) r) (c.in-Err-open_readied.ensures.refusals (c.ready_to_write.ensures.honest.0 h)) in
     ⊎_elim (λ no. inl no) (λ is. inr (inr is)) why
 
+pub returns-in-Err-open_readied-clause-left : goal.returns-in-Err-open_readied-clause-left
+returns-in-Err-open_readied-clause-left g c = λ h.
+    let D = g.D.PageDisk in
+    let d = c.ready_to_write.new.disk in
+    let r = c.in-Err-open_readied.refused.0 in
+    let why = moved (D.page_count d) (D.page_count c.args.disk) (D.state d) (given_up c.in-Ok.lost.items (D.state c.args.disk)) c.ready_to_write.ensures.pages (c.in-Ok.ensures.state h)
+    (λ k z. IsNoAnswer r ⊎ ((r ≡ NotAStore) × AreOfTwo k (seen z)) ⊎ IsWhyNotOpened k (page (shown_on k (seen z))) r) (c.in-Err-open_readied.ensures.refusals (c.ready_to_write.ensures.honest.0 h)) in
+    ⊎_elim (λ no. inl no) (λ is. inr (inr (c.in-Ok.lost.items, c.in-Ok.ensures.halves h, is))) why
+
+pub returns-in-Err-open_readied-clause-counted : goal.returns-in-Err-open_readied-clause-counted
+returns-in-Err-open_readied-clause-counted g c = c.in-Err-open_readied.ensures.counted
+
 pub returns-in-Err-open_readied-clause-number : goal.returns-in-Err-open_readied-clause-number
 returns-in-Err-open_readied-clause-number g c = inl c.in-Err-open_readied.ensures.number
 
@@ -229,7 +242,34 @@ pub returns-in-Err-clause-kept : goal.returns-in-Err-clause-kept
 returns-in-Err-clause-kept g c = λ h is. ⊎_elim (λ no. answered c.in-Err.refusal no is) (λ it. (c.in-Err.ensures.same it.1).same h) c.in-Err.ensures.refused
 
 pub returns-in-Err-clause-cause : goal.returns-in-Err-clause-cause
-returns-in-Err-clause-cause g c = λ h refused none one. c.in-Err.ensures.cause (subst (λ (u : Opening). u.loss ≡ Refused) (sym c.self.view_is) refused) one
+returns-in-Err-clause-cause g c = λ h refused none one. c.in-Err.ensures.cause one
+
+pub returns-in-Err-clause-counted : goal.returns-in-Err-clause-counted
+returns-in-Err-clause-counted g c = λ one. rises_some (g.D.PageDisk.failure_count c.args.disk) (g.D.PageDisk.failure_count c.ready_to_write.new.disk) (c.in-Err.ensures.cause one)
+
+pub returns-in-Err-clause-left : goal.returns-in-Err-clause-left
+returns-in-Err-clause-left g c = λ h. ⊎_elim (λ no. inl no) (λ it. inr (inl it.0)) c.in-Err.ensures.refused
 
 pub returns-in-Err-clause-unwritten : goal.returns-in-Err-clause-unwritten
 returns-in-Err-clause-unwritten g c = λ h refused none. inl ((c.in-Err.ensures.same (subst (λ (u : Opening). u.loss ≡ Refused) (sym c.self.view_is) refused)).same h)
+
+-- ---- what a crash leaves where it is refused
+
+pub returns-in-Err-open_readied-clause-crash_refused : goal.returns-in-Err-open_readied-clause-crash_refused
+returns-in-Err-open_readied-clause-crash_refused g c = λ h refused some left past.
+    let D = g.D.PageDisk in
+    let d = c.ready_to_write.new.disk in
+    let reads = c.in-Ok.ensures.reads (c.in-Ok.ensures.none (subst (λ (u : Opening). u.loss ≡ Refused) (sym c.self.view_is) refused)) in
+    let same = reads.same h in
+    moved (D.page_count d) (D.page_count c.args.disk) (D.state d) (D.state c.args.disk) c.ready_to_write.ensures.pages same (λ k z. ShowsOn k (seen z) (MayLeave z) (shown_by k (seen z) left))
+    (c.in-Err-open_readied.ensures.crash_refused (c.ready_to_write.ensures.honest.0 h)
+    (moved_back (D.page_count d) (D.page_count c.args.disk) (D.state d) (D.state c.args.disk) c.ready_to_write.ensures.pages same (λ k z. dimensions_on k (seen z) ≢ None) some)
+    left (subst (λ (t : ℕ). D.left_since c.in-Err-open_readied.refused.1 t left) (sym (reads.still h)) past))
+
+pub returns-in-Err-clause-crash_refused : goal.returns-in-Err-clause-crash_refused
+returns-in-Err-clause-crash_refused g c = λ h refused some left past.
+    let D = g.D.PageDisk in
+    let disk = c.args.disk in
+    let reads = c.in-Err.ensures.same (subst (λ (u : Opening). u.loss ≡ Refused) (sym c.self.view_is) refused) in
+    let may : MayLeave (D.state disk) left = ⊎_elim (λ was. g.met.D.PageDisk.only_now disk left h was) (λ now. subst (λ (s : State). MayLeave s left) (reads.same h) now) ((reads.time h).nothing_else (D.moment disk) left (omega arith) past) in
+    (left, may, refl)
