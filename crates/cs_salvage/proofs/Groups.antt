@@ -11,7 +11,7 @@ use Rattle.cs_salvage.specs.declared.parts.Part.{Part}
 use Rattle.cs_salvage.specs.declared.parts.Put.{Put}
 use Rattle.cs_salvage.specs.declared.whole_shards.WholeShard.{WholeShard}
 use Rattle.cs_salvage.specs.Puts.{AreBefore, AreOf, Precedes}
-use Rattle.cs_salvage.specs.Shards.{AreAllOf, AreAmbiguous, AreNewest, ComesBefore, IsAmbiguous, IsWhole, put_of}
+use Rattle.cs_salvage.specs.Shards.{AreAllOf, AreAmbiguous, AreNewest, ComesBefore, IsAmbiguous, IsListedBefore, IsWhole, put_of}
 use Rattle.cs_salvage.proofs.Orders.{comes_on, not_before_itself, not_itself, precedes_by}
 
 -- ---- two lists with the same parts of a put
@@ -67,6 +67,7 @@ ambiguous_of_permuted xs ys puts moves are = record {
   sound = λ k d lt. let put : Put = get_or puts k d in ambiguous_in ys xs put (turned xs ys put (permuted xs ys moves put)) (are.sound k d lt);
   complete = λ put is. are.complete put (ambiguous_in xs ys put (permuted xs ys moves put) is);
   once = are.once;
+  ordered = are.ordered;
 }
 
 -- the first part of what is whole
@@ -236,6 +237,7 @@ module _ (before group : List Part) (put : Put) (own : AreOf put group) (earlier
           (λ (h : (q ≡ put) × IsAmbiguous group put). absurd (clear h.1))
           (which_ambiguous q is);
       once = are.once;
+      ordered = are.ordered;
     }
 
     pub ambiguous_added : IsAmbiguous group put → AreAmbiguous (before ++ group) (puts ++ put ∷ [])
@@ -246,4 +248,5 @@ module _ (before group : List Part) (put : Put) (own : AreOf put group) (earlier
           (λ (h : (q ≡ put) × IsAmbiguous group put). subst (λ (r : Put). Contains (puts ++ put ∷ []) r) (sym h.0) (Contains-push puts put))
           (which_ambiguous q is);
       once = all_pairs_push (λ (a b : Put). a ≢ b) puts put are.once (λ k d lt same. not_both (get_or puts k d) (put_before k d lt) same);
+      ordered = all_pairs_push IsListedBefore puts put are.ordered (λ k d lt. precedes_by (get_or puts k d) put (put_before k d lt));
     }

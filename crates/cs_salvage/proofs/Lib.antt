@@ -19,6 +19,7 @@ pub mod Missings
 pub mod Wholes
 pub mod Meaning
 pub mod Scanning
+pub mod Outermost
 pub mod Searching
 pub mod Pages
 pub mod Looking

@@ -52,7 +52,7 @@ same_list (x ∷ xs) (y ∷ ys) is =
     let both = then_equal (nat_cmp x y) (slice_cmp nat_cmp xs ys) is in
     ap₂ (λ (z : ℕ) (zs : List ℕ). z ∷ zs) (same_number x y both.0) (same_list xs ys both.1)
 
-same_id : (a b : ShardId) → slice_cmp nat_cmp a.0 b.0 ≡ Equal → a ≡ b
+pub same_id : (a b : ShardId) → slice_cmp nat_cmp a.0 b.0 ≡ Equal → a ≡ b
 same_id a b is = ap (λ (bytes : List ℕ). record { 0 = bytes }) (same_list a.0 b.0 is)
 
 same_put : (a b : Put) → put_cmp a b ≡ Equal → a ≡ b

@@ -1,6 +1,6 @@
 -- The greatest number among parts, a part or a stretch of pages more.
-use Rattle.std.proofs.Common.{◌≡◌, ◌∙◌, ◌⊎◌, ℕ, ◌+◌, ◌<◌, ◌≤◌, All, IfSome, List, Option, Some, None, [], ◌++◌, true, get_or, length, refl, sym, subst, inl, inr, ⊎_elim, arith}
-use Rattle.std.specs.List.{Contains}
+use Rattle.std.proofs.Common.{◌≡◌, ◌∙◌, ◌⊎◌, ℕ, ◌+◌, ◌*◌, ◌<◌, ◌≤◌, All, IfSome, List, Option, Some, None, [], ◌++◌, true, get_or, length, refl, sym, ap, subst, inl, inr, ⊎_elim, arith}
+use Rattle.std.specs.List.{AllPairs, Contains}
 use Rattle.std.specs.Prelude.{max}
 use Rattle.std.proofs.lemmas.Bool.{cases_lt}
 use Rattle.std.proofs.lemmas.List.Elements.{All-contains, All-nil, Contains-append_cases, Contains-append_left, Contains-get_or}
@@ -11,16 +11,16 @@ use Rattle.cs_salvage.specs.declared.scans.Counted.{Counted}
 use Rattle.cs_salvage.specs.declared.scans.Scanned.{Scanned}
 use Rattle.cs_salvage.specs.declared.searches.Sought.{Sought}
 use Rattle.cs_salvage.specs.Frames.{IsOfFrame}
-use Rattle.cs_salvage.specs.Greatest.{BeginsWithin, IsGreatestBefore, IsGreatestOf, IsOfAFrame, IsPartBefore, IsScanOf}
-use Rattle.cs_salvage.specs.Looks.{AreApart, AreEnded, AreFoundBefore, look_end}
-use Rattle.cs_salvage.specs.Parts.{AreSought, IsPart, IsSought}
+use Rattle.cs_salvage.specs.Greatest.{BeginsWithin, CountsOn, IsGreatestBefore, IsGreatestOf, IsOfAFrame, IsOfAPart, IsOfOneOutside, IsOutermost, IsOutermostBefore, IsPartBefore, IsScanOf, IsWithinAPart, IsWithinBefore, IsWithinLast, IsWithinOneOf}
+use Rattle.cs_salvage.specs.Looks.{AreApart, AreEnded, AreFoundBefore, AreWithin, look_end}
+use Rattle.cs_salvage.specs.Parts.{AreSought, IsBefore, IsPart, IsSought}
 use Rattle.cs_salvage.specs.Passed.{Avoids, first_page_of, without}
 use Rattle.cs_salvage.proofs.Pages.{before_end, found_there, lies_there}
 use Rattle.cs_salvage.proofs.Sames.{at_any}
 
 -- ---- the greater of two numbers
 
-which_max : (a b m : ℕ) → m ≡ max a b → (m ≡ a) ⊎ (m ≡ b)
+pub which_max : (a b m : ℕ) → m ≡ max a b → (m ≡ a) ⊎ (m ≡ b)
 which_max a b m is = ⊎_elim
     (λ (less : a < b). inr (omega (arith, is, less)))
     (λ (le : b ≤ a). inl (omega (arith, is, le)))
@@ -42,9 +42,31 @@ none_counted parts counted zero none = record {
 }
 
 -- and one more
-module _ (parts : List Part) (k : ℕ) (inside : k < length parts) (part : Part) (at : part ≡ get_or parts k part) (old new : Counted) (was : AreCountedTo parts k old)
-    (sound : (new.greatest ≡ old.greatest) ⊎ (new.greatest ≡ part.head.command)) (last : (new.last ≡ old.last) ⊎ (new.last ≡ Some part)) (before : old.greatest ≤ new.greatest)
-    (counts : (part.head.command ≤ new.greatest) ⊎ ((outer : Part) × (old.last ≡ Some outer) × BeginsWithin outer part)) where
+module _ (parts : List Part) (k : ℕ) (inside : k < length parts) (part : Part) (at : part ≡ get_or parts k part) (old new : Counted) (was : AreCountedTo parts k old) (step : CountsOn old part new) where
+  sound : (new.greatest ≡ old.greatest) ⊎ (new.greatest ≡ part.head.command)
+  sound = ⊎_elim
+      (λ (it : IsWithinLast old part × (new ≡ old)). inl (ap (λ (c : Counted). c.greatest) it.1))
+      (λ (it : (IsWithinLast old part → ⊥) × (new.greatest ≡ max old.greatest part.head.command) × (new.last ≡ Some part)). which_max old.greatest part.head.command new.greatest it.1)
+      step
+
+  last : (new.last ≡ old.last) ⊎ (new.last ≡ Some part)
+  last = ⊎_elim
+      (λ (it : IsWithinLast old part × (new ≡ old)). inl (ap (λ (c : Counted). c.last) it.1))
+      (λ (it : (IsWithinLast old part → ⊥) × (new.greatest ≡ max old.greatest part.head.command) × (new.last ≡ Some part)). inr it.2)
+      step
+
+  before : old.greatest ≤ new.greatest
+  before = ⊎_elim
+      (λ (it : IsWithinLast old part × (new ≡ old)). let same : new.greatest ≡ old.greatest = ap (λ (c : Counted). c.greatest) it.1 in omega (arith, same))
+      (λ (it : (IsWithinLast old part → ⊥) × (new.greatest ≡ max old.greatest part.head.command) × (new.last ≡ Some part)). let most = it.1 in omega (arith, most))
+      step
+
+  counts : (part.head.command ≤ new.greatest) ⊎ IsWithinLast old part
+  counts = ⊎_elim
+      (λ (it : IsWithinLast old part × (new ≡ old)). inr it.0)
+      (λ (it : (IsWithinLast old part → ⊥) × (new.greatest ≡ max old.greatest part.head.command) × (new.last ≡ Some part)). let most = it.1 in inl (omega (arith, most)))
+      step
+
   there : Contains parts part
   there = subst (Contains parts) (sym at) (Contains-get_or parts k part inside)
 
@@ -94,11 +116,18 @@ all_counted parts k counted ends was = record {
 
 -- ---- stretches, one after another
 
+-- a part begins before what begins within it, and ends after that begins
+begins_before : (g : Dimensions) (outer part : Part) → BeginsWithin outer part → (first_page_of g outer < first_page_of g part) × (first_page_of g part < first_page_of g outer + outer.pages)
+begins_before g outer part within =
+    let same : outer.extent * g.pages ≡ part.extent * g.pages = ap (λ (e : ℕ). e * g.pages) within.0 in
+    (omega (arith, same, within.1), omega (arith, same, within.2))
+
 -- before the first page
 pub nothing_scanned : (sought : Sought) (image : Image) (n : ℕ) → n ≡ 2 → IsGreatestBefore sought image n [] 0
 nothing_scanned sought image n is = record {
   sound = inl refl;
   greatest = λ part payload it before avoids. absurd (omega (arith, before, is));
+  ended = λ part payload it from before avoids. absurd (omega (arith, before, is));
 }
 
 -- what begins on a page and before it
@@ -130,7 +159,7 @@ module _ (sought : Sought) (image : Image) (n next : ℕ) (passed rest : List �
   }
 
   module _ (a b m : ℕ) (parts : List Part) (was : IsGreatestBefore sought image n passed a) (are : AreFoundBefore sought image n next (passed ++ rest) parts)
-      (ended : AreEnded sought.geometry next parts) (avoid : All (Avoids sought.geometry (passed ++ rest)) parts) (of : IsGreatestOf parts b) (greater : m ≡ max a b) where
+      (ended : AreEnded sought.geometry next parts) (avoid : All (Avoids sought.geometry (passed ++ rest)) parts) (of : IsGreatestOf parts b) (outside : IsOfOneOutside parts b) (greater : m ≡ max a b) where
     -- a part that was found
     found : (part : Part) → Contains parts part → (payload : List ℕ) × IsPartBefore sought image next (passed ++ rest) part payload
     found part there =
@@ -144,37 +173,76 @@ module _ (sought : Sought) (image : Image) (n next : ℕ) (passed rest : List �
         )
 
     abbrev OneOf : ℕ → ℕ → List ℕ → Type 0
-    OneOf number end skipped = (number ≡ 0) ⊎ ((part : Part) × (payload : List ℕ) × IsPartBefore sought image end skipped part payload × (part.head.command ≡ number))
+    OneOf number end skipped = (number ≡ 0)
+        ⊎ ((part : Part) × (payload : List ℕ) × IsPartBefore sought image end skipped part payload × IsOutermostBefore sought image end skipped part × (part.head.command ≡ number))
 
-    abbrev LiesWithin : ℕ → List ℕ → Part → Type 0
-    LiesWithin end skipped part = (outer : Part) × (bytes : List ℕ) × IsPartBefore sought image end skipped outer bytes × BeginsWithin outer part
+    -- of more pages that are passed over, fewer parts avoid all
+    fewer : (part : Part) → Avoids sought.geometry (passed ++ rest) part → Avoids sought.geometry passed part
+    fewer part avoids p there = avoids p (Contains-append_left passed rest p there)
+
+    within_later : (part : Part) → IsWithinBefore sought image n passed part → IsWithinBefore sought image next (passed ++ rest) part
+    within_later part it = (it.0, it.1, before_later it.0 it.1 it.2, it.3)
+
+    within_found : (part : Part) → IsWithinOneOf parts part → IsWithinBefore sought image next (passed ++ rest) part
+    within_found part it = let outer = found it.0 it.1 in (it.0, outer.0, outer.1, it.2)
+
+    -- what a part of this stretch begins within begins on this stretch too
+    of_stretch : (part : Part) → Contains parts part → (outer : Part) (payload : List ℕ) → IsPart sought image outer payload → Avoids sought.geometry (passed ++ rest) outer → BeginsWithin outer part → Contains parts outer
+    of_stretch part there outer payload is avoids within =
+        let from : n ≤ first_page_of sought.geometry part = (are.sound part there).0 in
+        let here : first_page_of sought.geometry part < next = (are.sound part there).1 in
+        let begins = begins_before sought.geometry outer part within in
+        are.complete outer payload is (⊎_elim
+        (λ (l : first_page_of sought.geometry outer < n). let ends = was.ended outer payload is (omega arith) l (fewer outer avoids) in absurd (omega (arith, ends, from, begins.1)))
+        (λ (le : n ≤ first_page_of sought.geometry outer). le)
+        (cases_lt (first_page_of sought.geometry outer) n)) (omega (arith, begins.0, here)) avoids
 
     old_one : m ≡ a → OneOf a n passed → OneOf m next (passed ++ rest)
     old_one same (inl zero) = inl (same ∙ zero)
-    old_one same (inr it) = inr (it.0, it.1, before_later it.0 it.1 it.2, it.3 ∙ sym same)
+    old_one same (inr it) = inr (
+      it.0,
+      it.1,
+      before_later it.0 it.1 it.2,
+      λ outer payload is avoids within. within_later outer (it.3 outer payload is (fewer outer avoids) within),
+      it.4 ∙ sym same,
+    )
 
-    new_one : m ≡ b → (b ≡ 0) ⊎ ((part : Part) × Contains parts part × (part.head.command ≡ b)) → OneOf m next (passed ++ rest)
+    new_one : m ≡ b → IsOfOneOutside parts b → OneOf m next (passed ++ rest)
     new_one same (inl zero) = inl (same ∙ zero)
-    new_one same (inr it) = let part = found it.0 it.1 in inr (it.0, part.0, part.1, it.2 ∙ sym same)
+    new_one same (inr it) =
+        let part = found it.0 it.1 in inr (
+          it.0,
+          part.0,
+          part.1,
+          λ outer payload is avoids within. within_found outer (it.2 outer (of_stretch it.0 it.1 outer payload is avoids within) within),
+          it.3 ∙ sym same,
+        )
 
-    old_rest : (part : Part) → (part.head.command ≤ a) ⊎ LiesWithin n passed part → (part.head.command ≤ m) ⊎ LiesWithin next (passed ++ rest) part
+    old_rest : (part : Part) → (part.head.command ≤ a) ⊎ IsWithinBefore sought image n passed part → (part.head.command ≤ m) ⊎ IsWithinBefore sought image next (passed ++ rest) part
     old_rest part (inl few) = inl (omega (arith, few, greater))
-    old_rest part (inr it) = inr (it.0, it.1, before_later it.0 it.1 it.2, it.3)
+    old_rest part (inr it) = inr (within_later part it)
 
-    new_rest : (part : Part) → (part.head.command ≤ b) ⊎ ((outer : Part) × Contains parts outer × BeginsWithin outer part) → (part.head.command ≤ m) ⊎ LiesWithin next (passed ++ rest) part
+    new_rest : (part : Part) → (part.head.command ≤ b) ⊎ IsWithinOneOf parts part → (part.head.command ≤ m) ⊎ IsWithinBefore sought image next (passed ++ rest) part
     new_rest part (inl few) = inl (omega (arith, few, greater))
-    new_rest part (inr it) = let outer = found it.0 it.1 in inr (it.0, outer.0, outer.1, it.2)
+    new_rest part (inr it) = inr (within_found part it)
+
+    all_end : AreWithin sought image 0 next next (passed ++ rest)
+    all_end part payload is from before avoids = ⊎_elim
+        (λ (l : first_page_of sought.geometry part < n). let ends = was.ended part payload is from l (fewer part avoids) in omega (arith, ends, on))
+        (λ (le : n ≤ first_page_of sought.geometry part). All-contains (λ (p : Part). first_page_of sought.geometry p + p.pages ≤ next) parts part ended (are.complete part payload is le before avoids))
+        (cases_lt (first_page_of sought.geometry part) n)
 
     pub stretch_scanned : IsGreatestBefore sought image next (passed ++ rest) m
     stretch_scanned = record {
       sound = ⊎_elim
           (λ (old : m ≡ a). old_one old was.sound)
-          (λ (new : m ≡ b). new_one new of.sound)
+          (λ (new : m ≡ b). new_one new outside)
           (which_max a b m greater);
       greatest = λ part payload is before avoids. ⊎_elim
-          (λ (l : first_page_of sought.geometry part < n). old_rest part (was.greatest part payload is l (λ p there. avoids p (Contains-append_left passed rest p there))))
+          (λ (l : first_page_of sought.geometry part < n). old_rest part (was.greatest part payload is l (fewer part avoids)))
           (λ (le : n ≤ first_page_of sought.geometry part). new_rest part (of.greatest part (are.complete part payload is le before avoids)))
           (cases_lt (first_page_of sought.geometry part) n);
+      ended = all_end;
     }
 
 -- ---- no number is made up
@@ -194,14 +262,15 @@ module _ (sought : Sought) (image : Image) (n next count : ℕ) (passed now : Li
   pub still_apart : (AreApart sought.geometry 0 count n passed none → AreApart sought.geometry 0 count next now parts) → AreApart sought.geometry 0 count n passed [] → AreApart sought.geometry 0 count next now parts
   still_apart step was = step (subst (AreApart sought.geometry 0 count n passed) (sym fresh) was)
 
-  pub more_scanned : (a b m : ℕ) → items ≡ parts → IsGreatestOf items b → m ≡ max a b → n < next → (rest : List ℕ) × (now ≡ passed ++ rest) × All (λ (p : ℕ). n ≤ p) rest
+  pub more_scanned : (a b m : ℕ) → items ≡ parts → IsGreatestOf items b → (AllPairs IsBefore items → IsOfOneOutside items b) → m ≡ max a b → n < next → (rest : List ℕ) × (now ≡ passed ++ rest) × All (λ (p : ℕ). n ≤ p) rest
       → (AreFoundBefore sought image n n passed none → AreFoundBefore sought image n next now parts) → AreApart sought.geometry 0 count next now parts
       → IsGreatestBefore sought image n passed a → IsGreatestBefore sought image next now m
-  more_scanned a b m value of greater on more step apart was =
+  more_scanned a b m value of outside greater on more step apart was =
       let are = step (subst (AreFoundBefore sought image n n passed) (sym fresh) (none_here sought image n passed)) in
       subst (λ (us : List ℕ). IsGreatestBefore sought image next us m) (sym more.1)
       (stretch_scanned sought image n next passed more.0 (omega (arith, on)) more.2 a b m parts was (subst (λ (us : List ℕ). AreFoundBefore sought image n next us parts) more.1 are)
-      apart.ended (subst (λ (us : List ℕ). All (Avoids sought.geometry us) parts) more.1 apart.avoid) (subst (λ (ps : List Part). IsGreatestOf ps b) value of) greater)
+      apart.ended (subst (λ (us : List ℕ). All (Avoids sought.geometry us) parts) more.1 apart.avoid) (subst (λ (ps : List Part). IsGreatestOf ps b) value of)
+      (subst (λ (ps : List Part). AllPairs IsBefore ps → IsOfOneOutside ps b) value outside are.ordered) greater)
 
   pub still_frames : (a b m : ℕ) → items ≡ parts → IsGreatestOf items b → m ≡ max a b → (All IsOfFrame none → All IsOfFrame parts) → (AreSought sought none → AreSought sought parts) → IsOfAFrame sought a → IsOfAFrame sought m
   still_frames a b m value of greater spelled taken was =
@@ -214,18 +283,23 @@ module _ (sought : Sought) (image : Image) (n count : ℕ) (passed : List ℕ) (
   left_there : (part : Part) (payload : List ℕ) → IsPartBefore sought image n passed part payload → IsPart sought (without passed image) part payload
   left_there part payload it = found_there sought image 0 passed part payload it.is (omega arith) it.avoids
 
-  abbrev LeftWithin : Part → Type 0
-  LeftWithin part = (outer : Part) × (bytes : List ℕ) × IsPart sought (without passed image) outer bytes × BeginsWithin outer part
+  within_there : (part : Part) → IsWithinBefore sought image n passed part → IsWithinAPart sought (without passed image) part
+  within_there part it = (it.0, it.1, left_there it.0 it.1 it.2, it.3)
 
-  number_of_one : (scanned.greatest ≡ 0) ⊎ ((part : Part) × (payload : List ℕ) × IsPartBefore sought image n passed part payload × (part.head.command ≡ scanned.greatest))
-      → (scanned.greatest ≡ 0) ⊎ ((part : Part) × (payload : List ℕ) × IsPart sought (without passed image) part payload × (part.head.command ≡ scanned.greatest))
+  outermost_there : (part : Part) → IsOutermostBefore sought image n passed part → IsOutermost sought (without passed image) part
+  outermost_there part is outer payload lies within =
+      let it = lies_there sought image 0 passed outer payload lies in
+      within_there outer (is outer payload it.0 it.2 within)
+
+  number_of_one : (scanned.greatest ≡ 0)
+      ⊎ ((part : Part) × (payload : List ℕ) × IsPartBefore sought image n passed part payload × IsOutermostBefore sought image n passed part × (part.head.command ≡ scanned.greatest))
+      → IsOfAPart sought (without passed image) scanned.greatest
   number_of_one (inl zero) = inl zero
-  number_of_one (inr it) = inr (it.0, it.1, left_there it.0 it.1 it.2, it.3)
+  number_of_one (inr it) = inr (it.0, it.1, left_there it.0 it.1 it.2, outermost_there it.0 it.3, it.4)
 
-  within_left : (part : Part) → (part.head.command ≤ scanned.greatest) ⊎ ((outer : Part) × (bytes : List ℕ) × IsPartBefore sought image n passed outer bytes × BeginsWithin outer part)
-      → (part.head.command ≤ scanned.greatest) ⊎ LeftWithin part
+  within_left : (part : Part) → (part.head.command ≤ scanned.greatest) ⊎ IsWithinBefore sought image n passed part → (part.head.command ≤ scanned.greatest) ⊎ IsWithinAPart sought (without passed image) part
   within_left part (inl few) = inl few
-  within_left part (inr it) = inr (it.0, it.1, left_there it.0 it.1 it.2, it.3)
+  within_left part (inr it) = inr (within_there part it)
 
   pub scan_of : (scanned.is_whole ≡ true → look_end sought.geometry count ≤ n) → IsScanOf sought (without passed image) scanned
   scan_of ends = record {

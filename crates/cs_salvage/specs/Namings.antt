@@ -41,3 +41,9 @@ AreCounted naming (one ∷ others) count =
 -- one of the shards has this identifier
 abbrev pub HasShard : List WholeShard → ShardId → Type 0
 HasShard shards id = (shard : WholeShard) × Contains shards shard × (shard.put.id ≡ id)
+
+-- so many of these identifiers no shard has
+abbrev pub AreLacking : List WholeShard → List ShardId → (count : ℕ) → Type 0
+AreLacking shards [] count = count ≡ 0
+AreLacking shards (id ∷ ids) count =
+    ((HasShard shards id → ⊥) × (rest : ℕ) × (count ≡ rest + 1) × AreLacking shards ids rest) ⊎ (HasShard shards id × AreLacking shards ids count)

@@ -58,19 +58,29 @@ IsWhole parts put = (pieces : List Part) × AreAllOf parts put pieces
 abbrev pub ComesBefore : ShardId → ShardId → Type 0
 ComesBefore a b = slice_cmp nat_cmp a.0 b.0 ≡ Less
 
+-- the shards are in the order of their identifiers, each identifier once
+abbrev pub AreOrdered : List WholeShard → Type 0
+AreOrdered shards = AllPairs (λ (a b : WholeShard). ComesBefore a.put.id b.put.id) shards
+
 -- These are the shards of which some put is whole, each once, in the order of their identifiers. Each is as its newest
 -- whole put has it.
 pub record AreNewest (parts : List Part) (shards : List WholeShard) : Type 0 where
   pub whole : All (λ (shard : WholeShard). AreAllOf parts shard.put shard.parts.items) shards
   pub newest : All (λ (shard : WholeShard). (put : Put) → put.id ≡ shard.put.id → IsWhole parts put → put.command ≤ shard.put.command) shards
   pub there : (put : Put) → IsWhole parts put → (shard : WholeShard) × Contains shards shard × (shard.put.id ≡ put.id)
-  pub ordered : AllPairs (λ (a b : WholeShard). ComesBefore a.put.id b.put.id) shards
+  pub ordered : AreOrdered shards
 
--- These are the puts that are ambiguous, each once.
+-- a put is listed before another: its identifier comes before the other's, or is the same and the put is newer
+abbrev pub IsListedBefore : Put → Put → Type 0
+IsListedBefore a b = ComesBefore a.id b.id ⊎ ((a.id ≡ b.id) × (b.command < a.command))
+
+-- These are the puts that are ambiguous, each once, in the order of their identifiers, and of one identifier the newest
+-- first.
 pub record AreAmbiguous (parts : List Part) (puts : List Put) : Type 0 where
   pub sound : All (IsAmbiguous parts) puts
   pub complete : (put : Put) → IsAmbiguous parts put → Contains puts put
   pub once : AllPairs (λ (a b : Put). a ≢ b) puts
+  pub ordered : AllPairs IsListedBefore puts
 
 -- the parts of a put on the device, of a store whose chunks are sought, have these payloads and no others
 abbrev pub HasOnly : Sought → Image → Put → (payloads : List (List ℕ)) → Type 0

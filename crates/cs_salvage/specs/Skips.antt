@@ -9,3 +9,7 @@ disk_skipped s = s.disk
 -- the pages that aren't asked for
 abbrev pub pages_skipped : {D : Type 0} → Skipping D → List ℕ
 pages_skipped s = s.skipped.items
+
+-- how many reads it refused itself
+abbrev pub refused_by : {D : Type 0} → Skipping D → ℕ
+refused_by s = s.refused

@@ -27,7 +27,8 @@ pub struct Finds {
 /// Receives reports of how far a scan is.
 pub trait Watcher {
     /// The scan is at this page of the device. It ends before page `end`.
-    fn tell(&self, page: u64, end: u64);
+    fn tell(&self, page: u64, end: u64)
+        requires { page < end };
 }
 
 /// Ignores the reports.

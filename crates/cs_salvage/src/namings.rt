@@ -2,7 +2,8 @@
 ghost use Rattle.std.specs.Prelude.{◌≡◌, ◌≢◌, ◌≤◌, All, IfOk, MatchBool, length, map};
 ghost use Rattle.std.specs.List.{AllZip};
 ghost use Rattle.cs_frame.specs.Formats.{place_of};
-ghost use Rattle.cs_salvage.specs.Namings.{AreCounted, AreMarked, HasShard, IsNaming, mark_of};
+ghost use Rattle.cs_salvage.specs.Namings.{AreCounted, AreLacking, AreMarked, HasShard, IsNaming, mark_of};
+ghost use Rattle.cs_salvage.specs.Shards.{AreOrdered};
 
 use crate::parts::Part;
 use crate::rescues::Found;
@@ -98,37 +99,28 @@ pub fn count_of(namings: &[Naming], naming: Naming) -> usize
     count
 }
 
-/// The place of the first of these shards, from one on, whose identifier doesn't come before this one. They are in the
-/// order of their identifiers.
-fn place_from(shards: &[WholeShard], from: usize, id: ShardId) -> usize {
-    for k in from..shards.len() {
-        if shards[k].put.id >= id {
-            return k;
-        }
-    }
-    shards.len()
-}
-
-/// Whether the shard with number k has this identifier.
-fn is_at(shards: &[WholeShard], k: usize, id: ShardId) -> bool
-    ensures { MatchBool result (HasShard shards.now id) (Unit {0}) }
+/// Whether one of these shards has this identifier. They are in the order of their identifiers.
+fn has_shard(shards: &[WholeShard], id: ShardId) -> bool
+    ensures { MatchBool result (HasShard shards.now id) (AreOrdered shards.now → HasShard shards.now id → ⊥) }
 {
-    if k >= shards.len() {
-        return false;
+    match shards.binary_search_by_key(&id, |shard| shard.put.id) {
+        Ok(_) => true,
+        Err(_) => false,
     }
-    shards[k].put.id == id
 }
 
-/// How many of these identifiers no shard has. Both are in the order of the identifiers.
+/// How many of these identifiers no shard has. The shards are in the order of their identifiers, as `newest_whole`
+/// gives them. Each identifier is searched for among them.
 pub fn lacking(ids: &[ShardId], shards: &[WholeShard]) -> usize
+    ensures count { AreOrdered shards.now → AreLacking shards.now ids.now result }
+    // Whatever their order, each identifier has a shard if none is lacking.
     ensures all { result ≡ 0 → All (HasShard shards.now) ids.now }
+    ensures most { result ≤ length ids.now }
 {
     let mut count: usize = 0;
-    let mut at: usize = 0;
     for k in 0..ids.len() {
-        at = place_from(shards, at, ids[k]);
-        if !is_at(shards, at, ids[k]) {
-            count = count.saturating_add(1);
+        if !has_shard(shards, ids[k]) {
+            count += 1;
         }
     }
     count

@@ -1,9 +1,11 @@
 //! Scans of a device for the greatest number of a command, which pass over what can't be read and can be cut short.
-ghost use Rattle.std.specs.Prelude.{◌≡◌, ◌⊎◌, ◌<◌, ◌≤◌, IfOk, MatchBool, Some, [], length, true, ℕ};
+ghost use Rattle.std.specs.Prelude.{◌≡◌, ◌⊎◌, ◌<◌, ◌≤◌, IfOk, IsTrue, MatchBool, Some, [], length, true, ℕ};
+ghost use Rattle.std.specs.List.{AllPairs};
 ghost use Rattle.cs_disk.specs.Disk.{seen};
 ghost use Rattle.cs_disk.specs.Reads.{OnlyReads};
-ghost use Rattle.cs_salvage.specs.Greatest.{BeginsWithin, IsGreatestBefore, IsGreatestOf, IsOfAFrame, IsScanOf};
+ghost use Rattle.cs_salvage.specs.Greatest.{BeginsWithin, CountsOn, IsGreatestBefore, IsGreatestOf, IsOfAFrame, IsOfOneOutside, IsScanOf, IsWithinLast};
 ghost use Rattle.cs_salvage.specs.Looks.{AreApart, look_end};
+ghost use Rattle.cs_salvage.specs.Parts.{IsBefore};
 ghost use Rattle.cs_salvage.specs.Passed.{ArePassed, RisesBy, without};
 ghost use Rattle.cs_salvage.specs.declared.parts.Part.{Part};
 ghost use Rattle.law_machine.specs.Geometry.{heads_in};
@@ -16,7 +18,12 @@ use std::alloc::{AllocError, Global};
 
 /// Says whether a scan is to go on.
 pub trait Patience {
-    fn goes_on(&self) -> bool;
+    /// That it lasts: the scan is to go on whenever it asks. It isn't known of any, unless an impl says so.
+    ghost lasts: { Self → Type 0 } = { λ _. ⊥ };
+
+    /// Whether the scan is to go on.
+    fn goes_on(&self) -> bool
+        ensures { lasts self.now → IsTrue result };
 }
 
 /// What a scan found.
@@ -50,7 +57,7 @@ struct Counted {
 
 /// Whether a part begins within the last one that counts.
 fn is_within_last(counted: &Counted, part: &Part) -> bool
-    ensures { MatchBool result ((outer : Part) × (counted.now.last ≡ Some outer) × BeginsWithin outer part.now) (Unit {0}) }
+    ensures { MatchBool result (IsWithinLast counted.now part.now) (IsWithinLast counted.now part.now → ⊥) }
 {
     match &counted.last {
         Some(outer) => begins_within(outer, part),
@@ -60,10 +67,7 @@ fn is_within_last(counted: &Counted, part: &Part) -> bool
 
 /// What is counted with a part more. One that begins within the last one doesn't count.
 fn with_part(counted: Counted, part: &Part) -> Counted
-    ensures sound { (result.greatest ≡ counted.greatest) ⊎ (result.greatest ≡ part.now.head.command) }
-    ensures last { (result.last ≡ counted.last) ⊎ (result.last ≡ Some part.now) }
-    ensures before { counted.greatest ≤ result.greatest }
-    ensures counts { (part.now.head.command ≤ result.greatest) ⊎ ((outer : Part) × (counted.last ≡ Some outer) × BeginsWithin outer part.now) }
+    ensures { CountsOn counted part.now result }
 {
     if is_within_last(&counted, part) {
         return counted;
@@ -77,7 +81,9 @@ fn with_part(counted: Counted, part: &Part) -> Counted
 /// The greatest number of a command among parts, 0 if there is none. A part that begins within another one doesn't
 /// count: it lies in the bytes of a shard.
 fn greatest_of(parts: &[Part]) -> u64
-    ensures { IsGreatestOf parts.now result }
+    ensures greatest { IsGreatestOf parts.now result }
+    // If they come in the order in which they lie, it is that of one outside of the others.
+    ensures outside { AllPairs IsBefore parts.now → IsOfOneOutside parts.now result }
 {
     let mut counted = Counted {
         greatest: 0,
@@ -150,6 +156,8 @@ pub fn scan_commands<D: PageDisk, P: Patience>(
 ) -> Result<Scanned, AllocError>
     // On an honest disk it is that of the parts on it, without the pages that are named.
     ensures scanned { D.honest disk.old → IfOk result (λ scanned. IsScanOf sought.now (without scanned.unreadable.items (seen (D.state disk.old))) scanned) }
+    // It is cut short only if patience doesn't last.
+    ensures whole { P.lasts patience.now → IfOk result (λ scanned. scanned.is_whole ≡ true) }
     // Whatever the disk answers, no number is made up.
     ensures spelled { IfOk result (λ scanned. IsOfAFrame sought.now scanned.greatest) }
     // The pages that are named are some of those of the extents, each once.

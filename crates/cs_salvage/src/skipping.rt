@@ -1,7 +1,8 @@
 //! A disk of which some pages aren't asked for.
-ghost use Rattle.std.specs.Prelude.{◌≡◌, ◌↔◌, ◌+◌, ◌-◌, ◌<◌, ◌^◌, Contains, Err, MatchBool, OnOk, min};
-ghost use Rattle.cs_disk.specs.Disk.{GoesOn, HasCause, page, seen};
-ghost use Rattle.cs_salvage.specs.Skips.{disk_skipped, pages_skipped};
+ghost use Rattle.std.specs.Prelude.{◌≡◌, ◌⊎◌, ◌↔◌, ◌+◌, ◌-◌, ◌<◌, ◌^◌, Contains, Err, IsErrOf, MatchBool, OnErr, OnOk, min, ℕ};
+ghost use Rattle.cs_disk.specs.Disk.{Counts, GoesOn, HasCause, flushed, page, seen, written};
+ghost use Rattle.cs_disk.specs.declared.fault.DiskFault.TheVariants.{OutOfMemory};
+ghost use Rattle.cs_salvage.specs.Skips.{disk_skipped, pages_skipped, refused_by};
 
 use cs_disk::{DiskFault, PageDisk};
 
@@ -21,6 +22,7 @@ impl<D> Skipping<D> {
     pub fn new(disk: D, skipped: Vec<u64>) -> Self
         ensures disk { disk_skipped result ≡ disk }
         ensures pages { pages_skipped result ≡ skipped.items }
+        ensures fresh { refused_by result ≡ 0 }
     {
         Skipping {
             disk,
@@ -82,6 +84,10 @@ impl<D: PageDisk> PageDisk for Skipping<D> {
     fn read(&mut self, number: u64, buffer: &mut [u8; 4096]) -> Result<(), DiskFault>
         requires { number < D.page_count self.old.disk }
         ensures skipped { Contains (pages_skipped self.old) number → (result ≡ Err DiskFault.DeviceFault) × (disk_skipped self.new ≡ disk_skipped self.old) }
+        ensures counted { Contains (pages_skipped self.old) number → refused_by self.new ≡ min (refused_by self.old + 1) (2 ^ 64 - 1) }
+        // Each other page is asked for: a read of it is refused 1 only if the disk below failed.
+        ensures asked { (Contains (pages_skipped self.old) number → ⊥) → HasCause (D.failure_count (disk_skipped self.old)) (D.failure_count (disk_skipped self.new)) result }
+        ensures uncounted { (Contains (pages_skipped self.old) number → ⊥) → refused_by self.new ≡ refused_by self.old }
         ensures same { pages_skipped self.new ≡ pages_skipped self.old }
         ensures bytes { D.honest self.old.disk → OnOk result (buffer.new ≡ page (seen (D.state self.old.disk)) number) }
         ensures state { D.honest self.old.disk → D.state self.new.disk ≡ D.state self.old.disk }
@@ -99,11 +105,41 @@ impl<D: PageDisk> PageDisk for Skipping<D> {
         self.disk.read(number, buffer)
     }
 
-    fn write(&mut self, number: u64, bytes: &[u8; 4096]) -> Result<(), DiskFault> {
+    /// Refused 1 only if the disk below failed.
+    fn write(&mut self, number: u64, bytes: &[u8; 4096]) -> Result<(), DiskFault>
+        requires { number < D.page_count self.old.disk }
+        ensures asked { HasCause (D.failure_count (disk_skipped self.old)) (D.failure_count (disk_skipped self.new)) result }
+        ensures uncounted { refused_by self.new ≡ refused_by self.old }
+        ensures same { pages_skipped self.new ≡ pages_skipped self.old }
+        ensures ok { D.honest self.old.disk → OnOk result (D.state self.new.disk ≡ written (D.state self.old.disk) number bytes.now) }
+        ensures fault { D.honest self.old.disk → (D.state self.new.disk ≡ D.state self.old.disk) ⊎ (D.state self.new.disk ≡ written (D.state self.old.disk) number bytes.now) }
+        ensures memory { D.honest self.old.disk → IsErrOf result OutOfMemory → D.state self.new.disk ≡ D.state self.old.disk }
+        ensures device_ok { D.honest self.old.disk → OnOk result ((place : ℕ) × (D.device self.new.disk ≡ written (D.device self.old.disk) place bytes.now)) }
+        ensures device_fault { D.honest self.old.disk → (D.device self.new.disk ≡ D.device self.old.disk) ⊎ ((place : ℕ) × (D.device self.new.disk ≡ written (D.device self.old.disk) place bytes.now)) }
+        ensures count { D.honest self.old.disk → Counts result (D.moment self.old.disk) (D.moment self.new.disk) }
+        ensures time { GoesOn D.honest D.state D.moment D.left_since self.old.disk self.new.disk }
+        ensures honest { D.honest self.old.disk ↔ D.honest self.new.disk }
+        ensures pages { D.page_count self.new.disk ≡ D.page_count self.old.disk }
+        ensures cause { HasCause (min (D.failure_count self.old.disk + self.old.refused) (2 ^ 64 - 1)) (min (D.failure_count self.new.disk + self.new.refused) (2 ^ 64 - 1)) result }
+    {
         self.disk.write(number, bytes)
     }
 
-    fn flush(&mut self) -> Result<(), DiskFault> {
+    /// Refused 1 only if the disk below failed.
+    fn flush(&mut self) -> Result<(), DiskFault>
+        ensures asked { HasCause (D.failure_count (disk_skipped self.old)) (D.failure_count (disk_skipped self.new)) result }
+        ensures uncounted { refused_by self.new ≡ refused_by self.old }
+        ensures same { pages_skipped self.new ≡ pages_skipped self.old }
+        ensures ok { D.honest self.old.disk → OnOk result (D.state self.new.disk ≡ flushed (D.state self.old.disk)) }
+        ensures err { D.honest self.old.disk → OnErr result (D.state self.new.disk ≡ D.state self.old.disk) }
+        ensures device_ok { D.honest self.old.disk → OnOk result (D.device self.new.disk ≡ flushed (D.device self.old.disk)) }
+        ensures device_err { D.honest self.old.disk → OnErr result (D.device self.new.disk ≡ D.device self.old.disk) }
+        ensures count { D.honest self.old.disk → Counts result (D.moment self.old.disk) (D.moment self.new.disk) }
+        ensures time { GoesOn D.honest D.state D.moment D.left_since self.old.disk self.new.disk }
+        ensures honest { D.honest self.old.disk ↔ D.honest self.new.disk }
+        ensures pages { D.page_count self.new.disk ≡ D.page_count self.old.disk }
+        ensures cause { HasCause (min (D.failure_count self.old.disk + self.old.refused) (2 ^ 64 - 1)) (min (D.failure_count self.new.disk + self.new.refused) (2 ^ 64 - 1)) result }
+    {
         self.disk.flush()
     }
 

@@ -11,7 +11,7 @@ returns-clause-scanned g c = λ h was.
     let finds = c.scan_stretch.new.finds in
     let it = c.in_ok-page.ensures in
     more_scanned c.args.sought.now image scan.page c.in_ok-page.page count scan.unreadable.items finds.unreadable.items c.new.result.items finds.parts.items c.deref.result.now c.new.ensures.items
-    scan.greatest c.greatest_of.result c.max.result c.deref.ensures.value c.greatest_of.ensures c.max.ensures it.next.0 it.more (it.parts h scan.page (omega arith))
+    scan.greatest c.greatest_of.result c.max.result c.deref.ensures.value c.greatest_of.ensures.greatest c.greatest_of.ensures.outside c.max.ensures it.next.0 it.more (it.parts h scan.page (omega arith))
     (still_apart c.args.sought.now image scan.page c.in_ok-page.page count scan.unreadable.items finds.unreadable.items c.new.result.items finds.parts.items c.deref.result.now c.new.ensures.items (it.apart 0 (omega arith)) c.requires.apart) was
 
 pub returns-clause-apart : goal.returns-clause-apart
@@ -30,4 +30,4 @@ returns-clause-spelled g c = λ was.
     let finds = c.scan_stretch.new.finds in
     let it = c.in_ok-page.ensures in
     still_frames c.args.sought.now image scan.page c.in_ok-page.page 0 scan.unreadable.items finds.unreadable.items c.new.result.items finds.parts.items c.deref.result.now c.new.ensures.items
-    scan.greatest c.greatest_of.result c.max.result c.deref.ensures.value c.greatest_of.ensures c.max.ensures it.spelled it.taken was
+    scan.greatest c.greatest_of.result c.max.result c.deref.ensures.value c.greatest_of.ensures.greatest c.max.ensures it.spelled it.taken was
