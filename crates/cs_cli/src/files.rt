@@ -190,7 +190,7 @@ fn whole_pages<R: AllocGlobal + Clock + Files<File = File> + Eprint>(
                 "the length of the file is no multiple of 4096 bytes: what comes after its last whole page is left out",
                 style,
             );
-            open_whole_pages(rt, rt.alloc(), place.path)
+            open_whole_pages(rt, rt.alloc(), place.path, place.access)
         }
         opened => opened,
     }

@@ -1,8 +1,10 @@
 -- How many pages were passed over.
-use Rattle.std.proofs.Common.{◌≡◌, ◌≢◌, ◌⊎◌, ◌==◌, ◌<◌, ◌≤◌, ◌+◌, ◌-◌, ◌^◌, ◌∙◌, ℕ, Bool, true, false, true≢false, ap, zero, suc, List, [], ◌∷◌, None, eqb-true, get_or, length, take, inl, inr, refl, sym, subst, arith}
-use Rattle.std.specs.Prelude.{MatchBool, min}
+use Rattle.std.proofs.Common.{◌≡◌, ◌≢◌, ◌⊎◌, ◌==◌, ◌<◌, ◌≤◌, ◌+◌, ◌-◌, ◌^◌, ◌∙◌, ℕ, Bool, true, false, true≢false, ap, zero, suc, List, [], ◌∷◌, Some, None, not, eqb-true, get_or, length, take, inl, inr, refl, sym, subst, arith}
+use Rattle.std.specs.Prelude.{MatchBool, cond, count_by, if◌then◌else◌, min}
 use Rattle.std.proofs.lemmas.List.{take_all}
-use Rattle.cs_twin.specs.Findings.{passed_over}
+use Rattle.std.proofs.lemmas.List.Sums.{sum_by_more}
+use Rattle.cs_twin.specs.Findings.{held_of, is_halved, passed_over}
+use Rattle.cs_twin.specs.Pairs.{half}
 use Rattle.cs_twin.specs.declared.findings.Finding.{Finding}
 use Rattle.cs_tools.specs.Pages.{AreWhole}
 
@@ -76,3 +78,27 @@ module _ (A : Type 0) (made : List ℕ) (halves n : ℕ) (sum : n ≡ min (halve
       go : (b : Bool) → (n == 0) ≡ b → MatchBool b (A × (made ≡ [])) (¬ (A × (made ≡ [])))
       go true none = none_is (halves == 0) refl whole (eqb-true n 0 none)
       go false some = λ all. true≢false (sym (zero_is n (is_none (halves == 0) refl whole all)) ∙ some)
+
+-- ---- how many there are
+
+halved : (b : Bool) (page one : ℕ) → ((one ≡ 0) × ((if b then Some page else None) ≡ None)) ⊎ ((one ≡ 1) × ((if b then Some page else None) ≢ None)) → one ≡ cond b 1 0
+halved true page one (inl h) = absurd (cc h.1)
+halved true page one (inr h) = h.0
+halved false page one (inl h) = h.0
+halved false page one (inr h) = absurd (h.1 refl)
+
+-- one finding more is counted
+pub halved_more : (findings : List Finding) (i : ℕ) (d : Finding) (n one m : ℕ) → i < length findings → n ≡ min (count_by is_halved (take i findings)) (2 ^ 64 - 1)
+    → ((one ≡ 0) × (passed_over (get_or findings i d) ≡ None)) ⊎ ((one ≡ 1) × (passed_over (get_or findings i d) ≢ None)) → m ≡ min (n + one) (2 ^ 64 - 1) → m ≡ min (count_by is_halved (take (i + 1) findings)) (2 ^ 64 - 1)
+halved_more findings i d n one m lt so_far is sum =
+    let it = get_or findings i d in
+    let is_one : one ≡ cond (is_halved it) 1 0 = halved (is_halved it) (half it.pair (not (held_of it).turned)) one is in
+    let more : count_by is_halved (take (i + 1) findings) ≡ count_by is_halved (take i findings) + cond (is_halved it) 1 0 = sum_by_more (λ x. cond (is_halved x) 1 0) findings i d lt in
+    omega (arith, so_far, is_one, more, sum)
+
+pub all_halved : (findings : List Finding) (i n : ℕ) → length findings ≤ i → n ≡ min (count_by is_halved (take i findings)) (2 ^ 64 - 1) → n ≡ min (count_by is_halved findings) (2 ^ 64 - 1)
+all_halved findings i n le is = subst (λ (l : List Finding). n ≡ min (count_by is_halved l) (2 ^ 64 - 1)) (take_all i findings le) is
+
+-- a sum of what is counted up to the end, counted up to the end
+pub both_counted : (all some more n : ℕ) → some ≡ min all (2 ^ 64 - 1) → n ≡ min (some + more) (2 ^ 64 - 1) → n ≡ min (all + more) (2 ^ 64 - 1)
+both_counted all some more n is sum = omega (arith, is, sum)

@@ -1,6 +1,6 @@
 -- What stands in a message.
-use Rattle.std.proofs.Common.{◌≡◌, ◌∙◌, ℕ, Bool, true, List, [], ◌∷◌, ◌++◌, append_assoc, ap, refl, subst, sym}
-use Rattle.std.specs.Prelude.{OnOk, Option, Result, Some, Ok, Err, codes}
+use Rattle.std.proofs.Common.{◌≡◌, ◌∙◌, ℕ, List, [], ◌∷◌, ◌++◌, append_assoc, ap, subst, sym}
+use Rattle.std.specs.Prelude.{OnOk, Option, Result, Ok, Err, codes}
 use Rattle.std.specs.Io.KnownBytes.{Appends}
 use Rattle.cs_refusal.specs.Refusals.{name_of, number_of}
 use Rattle.cs_refusal.specs.declared.refusals.Refusal.{Refusal}
@@ -12,7 +12,6 @@ use Rattle.cs_tools.specs.Outputs.{quote}
 use Rattle.cs_tools.specs.Stats.{BeginsWith, member}
 use Rattle.cs_tools.specs.Tellings.{GrowsWith, head_text, members_of, reason_text, refused_text, rest_text, system_of, what_text}
 use Rattle.cs_tools.specs.Texts.{meaning_text}
-use Rattle.cs_tools.specs.declared.advices.Todo.{Todo}
 use Rattle.cs_tools.specs.declared.knowns.Content.{Content}
 use Rattle.cs_tools.specs.declared.knowns.Content.TheVariants.{TwoStores}
 use Rattle.cs_tools.specs.declared.knowns.Known.{Known}

@@ -1,12 +1,20 @@
 -- How commands end.
 use Rattle.std.specs.Prelude.{ℕ, Option, Some, None}
 use Rattle.cs_refusal.specs.declared.refusals.Refusal.{Refusal}
-use Rattle.cs_refusal.specs.declared.refusals.Refusal.TheVariants.{DeviceFault}
+use Rattle.cs_refusal.specs.declared.refusals.Refusal.TheVariants as refusal
+use Rattle.cs_disk.specs.declared.fault.FileFault.{FileFault}
+use Rattle.cs_disk.specs.declared.fault.FileFault.TheVariants as file
 use Rattle.cs_disk.specs.declared.fault.SystemFault.{SystemFault}
 use Rattle.cs_disk.specs.declared.fault.SystemFault.TheVariants.{Folder, InUse, NoRoom, NotAllowed, NotThere, ReadOnly}
 use Rattle.cs_disk.specs.declared.fault.SystemFault.TheVariants as fault
 use Rattle.cs_tools.specs.declared.outcomes.Outcome.{Outcome}
 use Rattle.cs_tools.specs.declared.outcomes.Outcome.TheVariants.{Absent, Damaged, Done, Failed, MayBeLost, NoStore, Refused, Unopened, Unread}
+
+-- how a command ends whose file wasn't opened or made
+abbrev pub outcome_of_file : FileFault → Outcome
+outcome_of_file (file.System fault) = Unopened fault
+outcome_of_file file.OddLength = NoStore refusal.OddLength
+outcome_of_file file.NotEmpty = Refused refusal.NotEmpty
 
 -- the exit status where the system refused a file: another process has it open, it isn't there or may not be used so,
 -- or there is no store to be had
@@ -36,7 +44,7 @@ abbrev pub refusal_in : Outcome → Option Refusal
 refusal_in (Refused r) = Some r
 refusal_in (NoStore r) = Some r
 refusal_in (Unread r) = Some r
-refusal_in (Unopened f) = Some DeviceFault
+refusal_in (Unopened f) = Some refusal.DeviceFault
 refusal_in Done = None
 refusal_in Absent = None
 refusal_in Failed = None

@@ -1,12 +1,12 @@
 //! Copies of a whole store into another one.
-ghost use Rattle.std.specs.Prelude.{◌≡◌, ◌≢◌, ◌⊎◌, ◌↔◌, IfErr, IfOk, OnOk, None, Some, length, map};
+ghost use Rattle.std.specs.Prelude.{◌≡◌, ◌≢◌, ◌⊎◌, ◌↔◌, IfErr, IfOk, IsOk, OnOk, None, Some, length, map};
 ghost use Rattle.std.specs.List.{AllByRecursion};
 ghost use Rattle.cs_disk.specs.Reads.{OnlyReads};
 ghost use Rattle.cs_index.specs.State.{id_number};
 ghost use Rattle.law_machine.specs.Element.{Bytes, Map};
 ghost use Rattle.cs_store.specs.Maps.{HasMap};
 ghost use Rattle.cs_inspect.specs.Listings.{AreAll};
-ghost use Rattle.cs_tools.specs.Copies.{Agree, HasAMap, MayStopCopy};
+ghost use Rattle.cs_tools.specs.Copies.{Agree, EndsWhole, HasAMap, HasBytes, HasNothing, MayStopCopy, NoneDamaged, over, over_all};
 ghost use Rattle.cs_tools.specs.Reclaims.{IsPersistent};
 ghost use Rattle.cs_tools.specs.declared.outcomes.Outcome.TheVariants.{Done};
 
@@ -31,6 +31,9 @@ pub fn copy<D: PageDisk, E: PageDisk, P: Progress>(
     progress: &P,
 ) -> Outcome
     ensures copied { (m : Map) → HasMap from.old m → HasAMap to.old → D.honest from.old.disk → E.honest to.old.disk → result ≡ Done → HasMap to.new m × IsPersistent to.new }
+    // Of a store without a damaged shard, into one that has none, it ends only so: as done, refused as the other store
+    // may be, or unread since the device or memory refused.
+    ensures whole { (m n : Map) → HasMap from.old m → HasMap to.old n → NoneDamaged m → HasNothing n → D.honest from.old.disk → E.honest to.old.disk → EndsWhole result }
     ensures ends { (result ≡ Done) ⊎ MayStopCopy result }
     // The store that is copied is only read.
     ensures same { from.new ≡ record from.old { disk = from.new.disk } }
@@ -55,6 +58,8 @@ fn put_all<D: PageDisk, E: PageDisk, P: Progress>(
 ) -> Result<(), Outcome>
     ensures persistent { E.honest to.old.disk → OnOk result (IsPersistent to.new) }
     ensures map { HasAMap to.old → HasAMap to.new }
+    ensures put { (m n : Map) → HasMap from.old m → HasMap to.old n → D.honest from.old.disk → OnOk result (HasMap to.new (over_all n m ids.now)) }
+    ensures whole { (m : Map) → HasMap from.old m → D.honest from.old.disk → AllByRecursion (λ id. HasBytes m (id_number id)) ids.now → IfErr result EndsWhole }
     ensures ends { IfErr result MayStopCopy }
     ensures same { from.new ≡ record from.old { disk = from.new.disk } }
     ensures disk { OnlyReads D.PageDisk from.old.disk from.new.disk }
@@ -79,6 +84,8 @@ fn put_next<D: PageDisk, E: PageDisk>(
     done: usize,
 ) -> Result<(), Outcome>
     ensures map { HasAMap to.old → HasAMap to.new }
+    ensures put { (m n : Map) → HasMap from.old m → HasMap to.old n → D.honest from.old.disk → OnOk result (HasMap to.new (over n m (id_number id))) }
+    ensures whole { (m : Map) → HasMap from.old m → D.honest from.old.disk → HasBytes m (id_number id) → IfErr result EndsWhole }
     ensures ends { IfErr result MayStopCopy }
     ensures same { from.new ≡ record from.old { disk = from.new.disk } }
     ensures disk { OnlyReads D.PageDisk from.old.disk from.new.disk }
@@ -97,6 +104,8 @@ fn put_one<D: PageDisk, E: PageDisk>(
     id: ShardId,
 ) -> Result<(), Outcome>
     ensures map { HasAMap to.old → HasAMap to.new }
+    ensures put { (m n : Map) → HasMap from.old m → HasMap to.old n → D.honest from.old.disk → OnOk result (HasMap to.new (over n m (id_number id))) }
+    ensures whole { (m : Map) → HasMap from.old m → D.honest from.old.disk → HasBytes m (id_number id) → IfErr result EndsWhole }
     ensures ends { IfErr result MayStopCopy }
     ensures same { from.new ≡ record from.old { disk = from.new.disk } }
     ensures disk { OnlyReads D.PageDisk from.old.disk from.new.disk }
@@ -116,6 +125,8 @@ fn put_one<D: PageDisk, E: PageDisk>(
 fn finish<E: PageDisk>(to: &mut Store<E>) -> Result<(), Outcome>
     ensures persistent { E.honest to.old.disk → OnOk result (IsPersistent to.new) }
     ensures map { HasAMap to.old → HasAMap to.new }
+    ensures kept { (n : Map) → HasMap to.old n → HasMap to.new n }
+    ensures whole { IfErr result EndsWhole }
     ensures ends { IfErr result MayStopCopy }
     ensures honest { E.honest to.old.disk ↔ E.honest to.new.disk }
 {
@@ -128,6 +139,7 @@ fn finish<E: PageDisk>(to: &mut Store<E>) -> Result<(), Outcome>
 /// The bytes of a shard that a store has.
 fn read_one<D: PageDisk>(store: &mut Store<D>, id: ShardId) -> Result<Vec<u8>, Outcome>
     ensures bytes { (m : Map) → HasMap store.old m → D.honest store.old.disk → IfOk result (λ bytes. m (id_number id) ≡ Some (Bytes bytes.items)) }
+    ensures whole { (m : Map) → HasMap store.old m → D.honest store.old.disk → HasBytes m (id_number id) → IfErr result EndsWhole }
     ensures ends { IfErr result MayStopCopy }
     ensures same { store.new ≡ record store.old { disk = store.new.disk } }
     ensures disk { OnlyReads D.PageDisk store.old.disk store.new.disk }
@@ -148,6 +160,7 @@ fn compare_all<D: PageDisk, E: PageDisk, P: Progress>(
 ) -> Outcome
     ensures agree { (m n : Map) → HasMap from.old m → HasMap to.old n → D.honest from.old.disk → E.honest to.old.disk → AreAll (λ id. m id ≢ None) (map id_number ids.now)
         → result ≡ Done → Agree m n }
+    ensures whole { (m : Map) → HasMap from.old m → HasMap to.old m → NoneDamaged m → D.honest from.old.disk → E.honest to.old.disk → AreAll (λ id. m id ≢ None) (map id_number ids.now) → EndsWhole result }
     ensures ends { (result ≡ Done) ⊎ MayStopCopy result }
     ensures same { from.new ≡ record from.old { disk = from.new.disk } }
     ensures disk { OnlyReads D.PageDisk from.old.disk from.new.disk }
@@ -175,6 +188,8 @@ fn compare_each<D: PageDisk, E: PageDisk, P: Progress>(
     ensures ids { result ≡ Done → copied.now ≡ ids.now }
     ensures agree { (m n : Map) → HasMap from.old m → HasMap to.old n → D.honest from.old.disk → E.honest to.old.disk
         → result ≡ Done → AllByRecursion (λ id. n (id_number id) ≡ m (id_number id)) ids.now }
+    ensures whole { (m : Map) → HasMap from.old m → HasMap to.old m → D.honest from.old.disk → E.honest to.old.disk → AllByRecursion (λ id. HasBytes m (id_number id)) ids.now
+        → map id_number copied.now ≡ map id_number ids.now → EndsWhole result }
     ensures ends { (result ≡ Done) ⊎ MayStopCopy result }
     ensures same { from.new ≡ record from.old { disk = from.new.disk } }
     ensures disk { OnlyReads D.PageDisk from.old.disk from.new.disk }
@@ -202,12 +217,16 @@ fn compare_one<D: PageDisk, E: PageDisk>(
 ) -> Result<(), Outcome>
     ensures id { OnOk result (copied ≡ id) }
     ensures agree { (m n : Map) → HasMap from.old m → HasMap to.old n → D.honest from.old.disk → E.honest to.old.disk → OnOk result (n (id_number id) ≡ m (id_number id)) }
+    ensures whole { (m : Map) → HasMap from.old m → HasMap to.old m → D.honest from.old.disk → E.honest to.old.disk → HasBytes m (id_number id) → id_number copied ≡ id_number id → IfErr result EndsWhole }
     ensures ends { IfErr result MayStopCopy }
     ensures same { from.new ≡ record from.old { disk = from.new.disk } }
     ensures disk { OnlyReads D.PageDisk from.old.disk from.new.disk }
     ensures to_same { to.new ≡ record to.old { disk = to.new.disk } }
     ensures to_disk { OnlyReads E.PageDisk to.old.disk to.new.disk }
 {
+    // Called for their contracts alone: what identifiers are.
+    let _id = id.bytes();
+    let _copied = copied.bytes();
     if copied != id {
         return Err(Outcome::Damaged);
     }
@@ -221,6 +240,7 @@ fn compare_bytes<D: PageDisk, E: PageDisk>(
     id: ShardId,
 ) -> Result<(), Outcome>
     ensures agree { (m n : Map) → HasMap from.old m → HasMap to.old n → D.honest from.old.disk → E.honest to.old.disk → OnOk result (n (id_number id) ≡ m (id_number id)) }
+    ensures whole { (m : Map) → HasMap from.old m → HasMap to.old m → D.honest from.old.disk → E.honest to.old.disk → HasBytes m (id_number id) → IfErr result EndsWhole }
     ensures ends { IfErr result MayStopCopy }
     ensures same { from.new ≡ record from.old { disk = from.new.disk } }
     ensures disk { OnlyReads D.PageDisk from.old.disk from.new.disk }
@@ -240,6 +260,7 @@ fn compare_bytes<D: PageDisk, E: PageDisk>(
 /// Checks that these are the same bytes.
 fn check_same(read: &[u8], put: &[u8]) -> Result<(), Outcome>
     ensures same { OnOk result (read.now ≡ put.now) }
+    ensures passes { read.now ≡ put.now → IsOk result }
     ensures ends { IfErr result MayStopCopy }
 {
     if read == put {

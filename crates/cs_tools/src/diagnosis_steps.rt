@@ -57,7 +57,8 @@ pub enum Step {
     ListRest,
     /// Prints a script that puts the shards that frames on the device spell.
     ExportRest,
-    /// Prints a script that puts the shards of a store of format 3. The version of commit 8d0b7298936e has this command.
+    /// Prints a script that puts the shards of a store that is read no more. The version of commit 8d0b7298936e has this
+    /// command.
     ExportSuperseded,
     /// Shows the file's name, rights and length.
     LookAt,

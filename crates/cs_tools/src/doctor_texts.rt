@@ -163,7 +163,7 @@ fn add_content(alloc: Global, text: &mut String, found: &Diagnosis) -> Result<()
 /// What a disk holds of which no length is known.
 fn words_of(content: Content) -> &'static str {
     match content {
-        Content::Superseded => "a store of format 3, which this version doesn't read",
+        Content::Superseded => "a store of an earlier version, which this one doesn't read",
         Content::Torn { .. } => "a store, and neither page of a pair is whole",
         Content::Broken => "a store of format 2, and a page that it needs is damaged",
         Content::Left => "a root, and no superblock",

@@ -1,14 +1,17 @@
 //! What is known of a file beside how a command over it ended.
-ghost use Rattle.std.specs.Prelude.{◌≡◌, ◌≢◌, ◌↔◌, ◌<◌, ◌≤◌, IsTrue, None, Some, true};
+ghost use Rattle.std.specs.Prelude.{◌≡◌, ◌≢◌, ◌⊎◌, ◌↔◌, ◌<◌, ◌≤◌, Contains, IfSome, IsTrue, None, Some, true};
 ghost use Rattle.cs_disk.specs.Disk.{page, seen};
 ghost use Rattle.cs_disk.specs.Reads.{OnlyReads};
-ghost use Rattle.cs_tools.specs.declared.knowns.Content.TheVariants.{Empty, Length, Superseded, TwoStores, Unknown, Written};
+ghost use Rattle.cs_frame.specs.declared.formats.FormatNumber.TheVariants.{Four, Two};
+ghost use Rattle.cs_twin.specs.declared.findings.Finding.{Finding as Found};
+ghost use Rattle.cs_twin.specs.Findings.{held_of};
 ghost use Rattle.cs_mount.specs.Identities.{stores_on};
-ghost use Rattle.cs_tools.specs.Knowns.{IsSuperseded, begins_superseded};
+ghost use Rattle.cs_tools.specs.declared.knowns.Content.TheVariants.{Broken, Empty, Length, Store, Superseded, Torn, TwoStores, Unknown, Written};
+ghost use Rattle.cs_tools.specs.Knowns.{IsContentOf, IsFirstOf, IsRootPage, IsSuperseded, Names, NamesStore, begins_superseded};
 
 use cs_disk::{PageDisk, SystemFault};
 use cs_frame::{FormatNumber, StoreId, Superblock, decode_root, decode_section, decode_superblock};
-use cs_mount::{holds_superblock, look, two_stores};
+use cs_mount::{Finding, holds_superblock, look, two_stores};
 use std::alloc::Global;
 
 /// The page of the root.
@@ -65,6 +68,16 @@ impl Known {
         }
     }
 
+    /// Only the content is known.
+    fn of_content(content: Content) -> Self
+        ensures { (result.content ≡ content) × (result.system ≡ None) }
+    {
+        Known {
+            content,
+            system: None,
+        }
+    }
+
     /// Nothing is known.
     pub fn nothing() -> Self
         ensures { (result.content ≡ Unknown) × (result.system ≡ None) }
@@ -92,7 +105,9 @@ struct Named {
 }
 
 /// The store that a section of a superblock names, if it is the first section.
-fn named_by(superblock: &Superblock) -> Option<Named> {
+fn named_by(superblock: &Superblock) -> Option<Named>
+    ensures { IfSome result (λ named. IsFirstOf superblock.now named.format named.pages) }
+{
     if superblock.section != 0 {
         return None;
     }
@@ -107,26 +122,44 @@ fn named_by(superblock: &Superblock) -> Option<Named> {
     })
 }
 
-/// The store that the bytes of this page name. Page 0 has the superblock of any format. Any other page may be the last
-/// one of a store, which has the second copy.
-fn named_in(alloc: Global, number: u64, bytes: &[u8; 4096]) -> Option<Named> {
-    let read = if number == 0 {
-        decode_superblock(alloc, bytes)
-    } else {
-        decode_section(alloc, bytes, FormatNumber::Four)
-    };
-    match read {
-        Ok(superblock) => match named_by(&superblock) {
-            Some(named) if number == 0 || named.pages == number.saturating_add(1) => Some(named),
-            _ => None,
-        },
+/// The store that the bytes of page 0 name, of any format.
+fn named_at_first(alloc: Global, bytes: &[u8; 4096]) -> Option<Named>
+    ensures { IfSome result (λ named. Names 0 bytes.now named.format named.pages) }
+{
+    match decode_superblock(alloc, bytes) {
+        Ok(superblock) => named_by(&superblock),
         Err(_) => None,
+    }
+}
+
+/// The store that the bytes of another page name, if the page is that store's last one. It has the second copy.
+fn named_at_last(alloc: Global, number: u64, bytes: &[u8; 4096]) -> Option<Named>
+    ensures { IfSome result (λ named. Names number bytes.now named.format named.pages) }
+{
+    let Ok(superblock) = decode_section(alloc, bytes, FormatNumber::Four) else {
+        return None;
+    };
+    match named_by(&superblock) {
+        Some(named) if named.pages.saturating_sub(1) == number => Some(named),
+        _ => None,
+    }
+}
+
+/// The store that the bytes of this page name.
+fn named_in(alloc: Global, number: u64, bytes: &[u8; 4096]) -> Option<Named>
+    ensures { IfSome result (λ named. Names number bytes.now named.format named.pages) }
+{
+    if number == 0 {
+        named_at_first(alloc, bytes)
+    } else {
+        named_at_last(alloc, number, bytes)
     }
 }
 
 /// The store that a page names. A page that can't be read names none.
 fn named_on<D: PageDisk>(alloc: Global, disk: &mut D, number: u64) -> Option<Named>
     requires { number < D.page_count disk.old }
+    ensures named { D.honest disk.old → IfSome result (λ named. Names number (page (seen (D.state disk.old)) number) named.format named.pages) }
     ensures disk { OnlyReads D.PageDisk disk.old disk.new }
 {
     let mut buffer = [0; 4096];
@@ -138,13 +171,14 @@ fn named_on<D: PageDisk>(alloc: Global, disk: &mut D, number: u64) -> Option<Nam
 
 /// The store that one of the last pages names, but for page 0.
 fn named_at_end<D: PageDisk>(alloc: Global, disk: &mut D) -> Option<Named>
+    ensures named { D.honest disk.old → IfSome result (λ named. NamesStore (D.page_count disk.old) (seen (D.state disk.old)) named.format named.pages) }
     ensures disk { OnlyReads D.PageDisk disk.old disk.new }
 {
     let pages = disk.pages();
     for back in 1..pages.min(LAST) {
-        let named = named_on(alloc, disk, pages - back);
-        if named.is_some() {
-            return named;
+        match named_on(alloc, disk, pages - back) {
+            Some(named) => return Some(named),
+            None => {}
         }
     }
     None
@@ -153,6 +187,7 @@ fn named_at_end<D: PageDisk>(alloc: Global, disk: &mut D) -> Option<Named>
 /// The store that a page of the device names: page 0, or else one of the last.
 fn find_named<D: PageDisk>(alloc: Global, disk: &mut D) -> Option<Named>
     requires { 0 < D.page_count disk.old }
+    ensures named { D.honest disk.old → IfSome result (λ named. NamesStore (D.page_count disk.old) (seen (D.state disk.old)) named.format named.pages) }
     ensures disk { OnlyReads D.PageDisk disk.old disk.new }
 {
     match named_on(alloc, disk, 0) {
@@ -161,10 +196,37 @@ fn find_named<D: PageDisk>(alloc: Global, disk: &mut D) -> Option<Named>
     }
 }
 
+/// Whether the bytes of page 1 are a root, of a format of this number.
+fn is_root_in(alloc: Global, bytes: &[u8; 4096], number: FormatNumber) -> bool
+    ensures { IsTrue result → IsRootPage bytes.now }
+{
+    let Ok(_root) = decode_root(alloc, bytes, number) else {
+        return false;
+    };
+    true
+}
+
 /// Whether the bytes of page 1 are a root, of any format.
-fn is_root(alloc: Global, bytes: &[u8; 4096]) -> bool {
-    decode_root(alloc, bytes, FormatNumber::Two).is_ok()
-        || decode_root(alloc, bytes, FormatNumber::Four).is_ok()
+fn is_root(alloc: Global, bytes: &[u8; 4096]) -> bool
+    ensures { IsTrue result → IsRootPage bytes.now }
+{
+    if is_root_in(alloc, bytes, FormatNumber::Two) {
+        return true;
+    }
+    is_root_in(alloc, bytes, FormatNumber::Four)
+}
+
+/// Whether a page is a root. A page that can't be read isn't.
+fn is_root_on<D: PageDisk>(alloc: Global, disk: &mut D, number: u64) -> bool
+    requires { number < D.page_count disk.old }
+    ensures root { D.honest disk.old → IsTrue result → IsRootPage (page (seen (D.state disk.old)) number) }
+    ensures disk { OnlyReads D.PageDisk disk.old disk.new }
+{
+    let mut buffer = [0; 4096];
+    match disk.read(number, &mut buffer) {
+        Ok(()) => is_root(alloc, &buffer),
+        Err(_) => false,
+    }
 }
 
 /// Whether these bytes begin as a superblock does in the format that is read no more.
@@ -207,8 +269,7 @@ fn is_superseded<D: PageDisk>(alloc: Global, disk: &mut D) -> bool
 fn content_without<D: PageDisk>(alloc: Global, disk: &mut D) -> Content
     ensures some { result ≢ Empty }
     ensures length { (pages wanted : _) → result ≢ Length pages wanted }
-    ensures two { (first last : _) → result ≢ TwoStores first last }
-    ensures superseded { D.honest disk.old → result ≡ Superseded → IsSuperseded (D.page_count disk.old) (seen (D.state disk.old)) }
+    ensures content { D.honest disk.old → 0 < D.page_count disk.old → IsContentOf (D.page_count disk.old) (seen (D.state disk.old)) result }
     ensures disk { OnlyReads D.PageDisk disk.old disk.new }
 {
     if disk.pages() <= ROOT {
@@ -217,27 +278,18 @@ fn content_without<D: PageDisk>(alloc: Global, disk: &mut D) -> Content
     if is_superseded(alloc, disk) {
         return Content::Superseded;
     }
-    let mut buffer = [0; 4096];
-    match disk.read(ROOT, &mut buffer) {
-        Ok(()) if is_root(alloc, &buffer) => Content::Left,
-        _ => Content::Foreign,
+    if is_root_on(alloc, disk, ROOT) {
+        return Content::Left;
     }
+    Content::Foreign
 }
 
-/// What a device holds that has a store of its pages, of which superblock and root lie twice.
-fn content_of_pairs<D: PageDisk>(alloc: Global, disk: &mut D) -> Content
-    ensures some { result ≢ Empty }
-    ensures length { (pages wanted : _) → result ≢ Length pages wanted }
-    ensures two { (first last : _) → result ≢ TwoStores first last }
-    ensures superseded { result ≢ Superseded }
-    ensures disk { OnlyReads D.PageDisk disk.old disk.new }
+/// What a device holds of whose pairs this was found. It has a store of its pages, of which superblock and root lie
+/// twice.
+fn content_of_findings(findings: &[Finding]) -> Content
+    ensures { (result ≡ Store Four) ⊎ ((it : Found) × Contains findings.now it × ((held_of it).version ≡ 0) × (result ≡ Torn it.pair.page it.pair.twin)) }
 {
-    let Ok(findings) = look(alloc, disk) else {
-        return Content::Store {
-            format: FormatNumber::Four,
-        };
-    };
-    for finding in &findings {
+    for finding in findings {
         if finding.held().version == 0 {
             return Content::Torn {
                 page: finding.pair.page,
@@ -247,6 +299,21 @@ fn content_of_pairs<D: PageDisk>(alloc: Global, disk: &mut D) -> Content
     }
     Content::Store {
         format: FormatNumber::Four,
+    }
+}
+
+/// What a device holds that has a store of its pages, of which superblock and root lie twice.
+fn content_of_pairs<D: PageDisk>(alloc: Global, disk: &mut D) -> Content
+    ensures some { result ≢ Empty }
+    ensures length { (pages wanted : _) → result ≢ Length pages wanted }
+    ensures content { D.honest disk.old → NamesStore (D.page_count disk.old) (seen (D.state disk.old)) Four (D.page_count disk.old) → IsContentOf (D.page_count disk.old) (seen (D.state disk.old)) result }
+    ensures disk { OnlyReads D.PageDisk disk.old disk.new }
+{
+    match look(alloc, disk) {
+        Ok(findings) => content_of_findings(&findings),
+        Err(_) => Content::Store {
+            format: FormatNumber::Four,
+        },
     }
 }
 
@@ -278,10 +345,7 @@ fn are_sections<D: PageDisk>(alloc: Global, disk: &mut D, first: u64) -> bool
 /// What a device holds that has a store of format 2 of its pages and of so many sections: those but the first are its
 /// last pages.
 fn content_of_sections<D: PageDisk>(alloc: Global, disk: &mut D, sections: u8) -> Content
-    ensures some { result ≢ Empty }
-    ensures length { (pages wanted : _) → result ≢ Length pages wanted }
-    ensures two { (first last : _) → result ≢ TwoStores first last }
-    ensures superseded { result ≢ Superseded }
+    ensures kind { (result ≡ Store Two) ⊎ (result ≡ Broken) }
     ensures disk { OnlyReads D.PageDisk disk.old disk.new }
 {
     let pages = disk.pages();
@@ -295,13 +359,25 @@ fn content_of_sections<D: PageDisk>(alloc: Global, disk: &mut D, sections: u8) -
     }
 }
 
+/// What a device of some pages holds of which a page names this store, with as many pages.
+fn content_of_named<D: PageDisk>(alloc: Global, disk: &mut D, named: Named) -> Content
+    ensures some { result ≢ Empty }
+    ensures length { (pages wanted : _) → result ≢ Length pages wanted }
+    ensures content { D.honest disk.old → NamesStore (D.page_count disk.old) (seen (D.state disk.old)) named.format (D.page_count disk.old) → IsContentOf (D.page_count disk.old) (seen (D.state disk.old)) result }
+    ensures disk { OnlyReads D.PageDisk disk.old disk.new }
+{
+    match named.format {
+        FormatNumber::Four => content_of_pairs(alloc, disk),
+        FormatNumber::Two => content_of_sections(alloc, disk, named.sections),
+    }
+}
+
 /// What a device of some pages holds that doesn't hold pages of two stores.
 fn content_of_one<D: PageDisk>(alloc: Global, disk: &mut D) -> Content
     requires { 0 < D.page_count disk.old }
     ensures some { result ≢ Empty }
     ensures length { (pages wanted : _) → result ≡ Length pages wanted → (pages ≡ D.page_count disk.old) × (wanted ≢ pages) }
-    ensures two { (first last : _) → result ≢ TwoStores first last }
-    ensures superseded { D.honest disk.old → result ≡ Superseded → IsSuperseded (D.page_count disk.old) (seen (D.state disk.old)) }
+    ensures content { D.honest disk.old → IsContentOf (D.page_count disk.old) (seen (D.state disk.old)) result }
     ensures disk { OnlyReads D.PageDisk disk.old disk.new }
 {
     let pages = disk.pages();
@@ -311,10 +387,7 @@ fn content_of_one<D: PageDisk>(alloc: Global, disk: &mut D) -> Content
             pages,
             wanted: named.pages,
         },
-        Some(named) => match named.format {
-            FormatNumber::Four => content_of_pairs(alloc, disk),
-            FormatNumber::Two => content_of_sections(alloc, disk, named.sections),
-        },
+        Some(named) => content_of_named(alloc, disk, named),
     }
 }
 
@@ -323,8 +396,7 @@ fn content_of<D: PageDisk>(alloc: Global, disk: &mut D) -> Content
     requires { 0 < D.page_count disk.old }
     ensures some { result ≢ Empty }
     ensures length { (pages wanted : _) → result ≡ Length pages wanted → (pages ≡ D.page_count disk.old) × (wanted ≢ pages) }
-    ensures two { (first last : _) → D.honest disk.old → result ≡ TwoStores first last → stores_on (D.page_count disk.old) (seen (D.state disk.old)) ≡ Some (first.0, last.0) }
-    ensures superseded { D.honest disk.old → result ≡ Superseded → IsSuperseded (D.page_count disk.old) (seen (D.state disk.old)) }
+    ensures content { D.honest disk.old → IsContentOf (D.page_count disk.old) (seen (D.state disk.old)) result }
     ensures disk { OnlyReads D.PageDisk disk.old disk.new }
 {
     match two_stores(alloc, disk) {
@@ -339,18 +411,15 @@ fn content_of<D: PageDisk>(alloc: Global, disk: &mut D) -> Content
 pub fn known_of<D: PageDisk>(alloc: Global, disk: &mut D) -> Known
     ensures empty { (result.content ≡ Empty) ↔ (D.page_count disk.old ≡ 0) }
     ensures length { (pages wanted : _) → result.content ≡ Length pages wanted → (pages ≡ D.page_count disk.old) × (wanted ≢ pages) }
+    ensures content { D.honest disk.old → IsContentOf (D.page_count disk.old) (seen (D.state disk.old)) result.content }
     // Page 0 and the last page are of these two stores.
     ensures two { (first last : _) → D.honest disk.old → result.content ≡ TwoStores first last → stores_on (D.page_count disk.old) (seen (D.state disk.old)) ≡ Some (first.0, last.0) }
     ensures superseded { D.honest disk.old → result.content ≡ Superseded → IsSuperseded (D.page_count disk.old) (seen (D.state disk.old)) }
+    ensures system { result.system ≡ None }
     ensures disk { OnlyReads D.PageDisk disk.old disk.new }
 {
-    let content = if disk.pages() == 0 {
-        Content::Empty
-    } else {
-        content_of(alloc, disk)
-    };
-    Known {
-        content,
-        system: None,
+    if disk.pages() == 0 {
+        return Known::of_content(Content::Empty);
     }
+    Known::of_content(content_of(alloc, disk))
 }

@@ -1,6 +1,6 @@
 //! How a command ended.
 ghost use Rattle.std.specs.Prelude.{◌≡◌, ◌≤◌};
-ghost use Rattle.cs_tools.specs.Outcomes.{status_of, status_of_fault};
+ghost use Rattle.cs_tools.specs.Outcomes.{outcome_of_file, status_of, status_of_fault};
 
 use cs_disk::{FileFault, SystemFault};
 use cs_refusal::Refusal;
@@ -31,7 +31,9 @@ pub enum Outcome {
 
 impl Outcome {
     /// How a command ends whose file wasn't opened or made.
-    pub fn of_file(fault: FileFault) -> Self {
+    pub fn of_file(fault: FileFault) -> Self
+        ensures { result ≡ outcome_of_file fault }
+    {
         match fault {
             FileFault::System(fault) => Outcome::Unopened(fault),
             FileFault::OddLength => Outcome::NoStore(Refusal::OddLength),

@@ -1,8 +1,9 @@
 //! Pages that a store has twice and of which one isn't whole.
-ghost use Rattle.std.specs.Prelude.{◌≡◌, ◌≢◌, ◌==◌, ◌⊎◌, MatchBool, None, OnOk, length};
-ghost use Rattle.cs_twin.specs.Findings.{passed_over};
-ghost use Rattle.cs_tools.specs.Pages.{AreLeftWhole, AreWhole, left_damaged, left_made};
-ghost use Rattle.cs_tools.specs.Stats.{GoesOn};
+ghost use Rattle.std.specs.Prelude.{◌≡◌, ◌≢◌, ◌==◌, ◌⊎◌, ◌-◌, ◌^◌, MatchBool, None, OnOk, count_by, flat_map, length, min};
+ghost use Rattle.std.specs.Io.KnownBytes.{Appends};
+ghost use Rattle.cs_twin.specs.Findings.{held_of, is_halved, passed_over};
+ghost use Rattle.cs_twin.specs.Pairs.{half};
+ghost use Rattle.cs_tools.specs.Pages.{AreLeftWhole, AreWhole, half_line, left_count, left_damaged, left_made, pages_text, pair_line, section_line};
 
 use crate::outputs::Style;
 use cs_mount::Finding;
@@ -32,7 +33,8 @@ fn passed_over_of(finding: Finding) -> usize
 
 /// How many pages aren't whole while their other copy is.
 fn count_passed_over(findings: &[Finding]) -> usize
-    ensures { MatchBool (result == 0) (AreWhole findings.now) (¬ AreWhole findings.now) }
+    ensures none { MatchBool (result == 0) (AreWhole findings.now) (¬ AreWhole findings.now) }
+    ensures count { result ≡ min (count_by is_halved findings.now) (2 ^ 64 - 1) }
 {
     let mut count: usize = 0;
     for finding in findings {
@@ -43,7 +45,8 @@ fn count_passed_over(findings: &[Finding]) -> usize
 
 /// How many of them are so still: none where they were written anew.
 fn count_left(findings: &[Finding], mended: bool) -> usize
-    ensures { MatchBool (result == 0) (AreWhole (left_damaged mended findings.now)) (¬ AreWhole (left_damaged mended findings.now)) }
+    ensures none { MatchBool (result == 0) (AreWhole (left_damaged mended findings.now)) (¬ AreWhole (left_damaged mended findings.now)) }
+    ensures count { result ≡ min (count_by is_halved (left_damaged mended findings.now)) (2 ^ 64 - 1) }
 {
     if mended {
         0
@@ -61,11 +64,20 @@ fn count_made(made: &[u64], mended: bool) -> usize
 
 /// How many pages are left that aren't whole, with those on which a section is lost.
 pub fn count_all_left(pages: &FoundPages) -> usize
-    ensures { MatchBool (result == 0) (AreLeftWhole pages.now) (¬ AreLeftWhole pages.now) }
+    ensures none { MatchBool (result == 0) (AreLeftWhole pages.now) (¬ AreLeftWhole pages.now) }
+    ensures count { result ≡ min (left_count pages.now) (2 ^ 64 - 1) }
 {
     let halves = count_left(pages.findings, pages.mended);
     let sections = count_made(pages.made, pages.mended);
     halves.saturating_add(sections)
+}
+
+/// Prints the pages that aren't whole, one a line, and then those on which a section was lost.
+pub fn print_all_pages<W: Write>(writer: &mut W, pages: &FoundPages, style: Style) -> io::Result<()>
+    ensures { OnOk result (Appends (W.contents writer.old) (W.contents writer.new) (pages_text style pages.now)) }
+{
+    print_pages(writer, pages.findings, pages.mended, style)?;
+    print_made(writer, pages.made, pages.mended, style)
 }
 
 /// Prints the pages that aren't whole, one a line: the page, its other copy with the version there, and whether the
@@ -76,7 +88,7 @@ pub fn print_pages<W: Write>(
     mended: bool,
     style: Style,
 ) -> io::Result<()>
-    ensures { OnOk result (GoesOn (W.contents writer.old) (W.contents writer.new)) }
+    ensures { OnOk result (Appends (W.contents writer.old) (W.contents writer.new) (flat_map (pair_line style mended) findings.now)) }
 {
     for finding in findings {
         print_finding(writer, *finding, mended, style)?;
@@ -85,13 +97,8 @@ pub fn print_pages<W: Write>(
 }
 
 /// Prints the pages on which a section was lost, one a line, and whether it was written there since.
-pub fn print_made<W: Write>(
-    writer: &mut W,
-    made: &[u64],
-    mended: bool,
-    style: Style,
-) -> io::Result<()>
-    ensures { OnOk result (GoesOn (W.contents writer.old) (W.contents writer.new)) }
+fn print_made<W: Write>(writer: &mut W, made: &[u64], mended: bool, style: Style) -> io::Result<()>
+    ensures { OnOk result (Appends (W.contents writer.old) (W.contents writer.new) (flat_map (section_line style mended) made.now)) }
 {
     for page in made {
         print_section(writer, *page, mended, style)?;
@@ -101,7 +108,7 @@ pub fn print_made<W: Write>(
 
 /// Prints the line of a page on which a section was lost.
 fn print_section<W: Write>(writer: &mut W, page: u64, mended: bool, style: Style) -> io::Result<()>
-    ensures { OnOk result (GoesOn (W.contents writer.old) (W.contents writer.new)) }
+    ensures { OnOk result (Appends (W.contents writer.old) (W.contents writer.new) (section_line style mended page)) }
 {
     match style {
         Style::Text if mended => writeln!(writer, "page {page} written anew from the index"),
@@ -123,7 +130,7 @@ fn print_finding<W: Write>(
     mended: bool,
     style: Style,
 ) -> io::Result<()>
-    ensures { OnOk result (GoesOn (W.contents writer.old) (W.contents writer.new)) }
+    ensures { OnOk result (Appends (W.contents writer.old) (W.contents writer.new) (pair_line style mended finding)) }
 {
     match finding.passed_over() {
         Some(page) => print_page(writer, finding, page, mended, style),
@@ -131,7 +138,7 @@ fn print_finding<W: Write>(
     }
 }
 
-/// Prints the line of a page that isn't whole.
+/// Prints the line of a page that isn't whole, by what its pair holds.
 fn print_page<W: Write>(
     writer: &mut W,
     finding: Finding,
@@ -139,15 +146,34 @@ fn print_page<W: Write>(
     mended: bool,
     style: Style,
 ) -> io::Result<()>
-    ensures { OnOk result (GoesOn (W.contents writer.old) (W.contents writer.new)) }
+    ensures { OnOk result (Appends (W.contents writer.old) (W.contents writer.new) (half_line style mended page (half finding.pair (held_of finding).turned) (held_of finding).version)) }
 {
-    let held = finding.held();
-    let other = if held.turned {
+    let version = finding.held().version;
+    print_half(writer, page, newest_page(finding), version, mended, style)
+}
+
+/// The page of a pair that holds the newest version.
+fn newest_page(finding: Finding) -> u64
+    ensures { result ≡ half finding.pair (held_of finding).turned }
+{
+    if finding.held().turned {
         finding.pair.twin
     } else {
         finding.pair.page
-    };
-    let version = held.version;
+    }
+}
+
+/// Prints the line of a page that isn't whole, of which another page has this version.
+fn print_half<W: Write>(
+    writer: &mut W,
+    page: u64,
+    other: u64,
+    version: u64,
+    mended: bool,
+    style: Style,
+) -> io::Result<()>
+    ensures { OnOk result (Appends (W.contents writer.old) (W.contents writer.new) (half_line style mended page other version)) }
+{
     match style {
         Style::Text if mended => writeln!(
             writer,

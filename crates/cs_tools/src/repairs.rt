@@ -1,9 +1,9 @@
 //! What is done before damaged pages are written anew.
-ghost use Rattle.std.specs.Prelude.{◌≡◌, ◌⊎◌, OnOk};
+ghost use Rattle.std.specs.Prelude.{◌≡◌, ◌⊎◌, ◌++◌, OnOk, false, flat_map};
 ghost use Rattle.std.specs.Io.KnownBytes.{Appends};
 ghost use Rattle.std.specs.List.{list_any};
+ghost use Rattle.cs_tools.specs.Pages.{pair_line};
 ghost use Rattle.cs_tools.specs.Repairs.{lost_line, may_hide_root};
-ghost use Rattle.cs_tools.specs.Stats.{BeginsWith};
 ghost use Rattle.cs_tools.specs.declared.outcomes.Outcome.TheVariants.{Failed, MayBeLost};
 ghost use Rattle.cs_tools.specs.declared.outputs.Style.TheVariants.{Json, Text};
 
@@ -48,7 +48,7 @@ pub fn stop_repair<D: PageDisk, W: Write>(
     writer: &mut W,
 ) -> Outcome
     ensures ends { (result ≡ MayBeLost) ⊎ (result ≡ Failed) }
-    ensures commands { result ≡ MayBeLost → BeginsWith (W.contents writer.old) (W.contents writer.new) (lost_line style core.now.found.0) }
+    ensures printed { result ≡ MayBeLost → Appends (W.contents writer.old) (W.contents writer.new) (lost_line style core.now.found.0 ++ flat_map (pair_line style false) findings.now) }
 {
     let (commands, _) = core.opened();
     match print_stopped(writer, commands, findings, style) {
@@ -64,7 +64,7 @@ fn print_stopped<W: Write>(
     findings: &[Finding],
     style: Style,
 ) -> io::Result<()>
-    ensures { OnOk result (BeginsWith (W.contents writer.old) (W.contents writer.new) (lost_line style commands)) }
+    ensures { OnOk result (Appends (W.contents writer.old) (W.contents writer.new) (lost_line style commands ++ flat_map (pair_line style false) findings.now)) }
 {
     print_lost(writer, commands, style)?;
     print_pages(writer, findings, false, style)?;

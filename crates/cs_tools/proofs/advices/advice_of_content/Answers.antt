@@ -1,4 +1,4 @@
-use Rattle.std.proofs.Common.{◌≡◌, ◌∙◌, ap, subst, sym, false}
+use Rattle.std.proofs.Common.{ap, sym}
 use Rattle.cs_tools.specs.Advised.{content_text}
 use Rattle.cs_tools.specs.declared.knowns.Content.{Content}
 use Rattle.cs_tools.proofs.Advising.{length_keeps, two_keeps}

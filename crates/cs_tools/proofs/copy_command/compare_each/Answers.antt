@@ -1,8 +1,10 @@
 use Rattle.std.proofs.Common.{refl, subst, take_all, arith}
 use Rattle.cs_disk.proofs.OnlyRead.{reads_none, reads_on}
-use Rattle.cs_tools.specs.Copies.{MayStopCopy}
-use Rattle.cs_tools.proofs.Copying.{AgreeOn, agree_more, has_still, same_more}
+use Rattle.cs_tools.specs.Copies.{HasBytes, MayStopCopy}
+use Rattle.cs_tools.proofs.Copying.{AgreeOn, agree_more, has_still, numbers_at, same_more}
 use Rattle.cs_tools.proofs.Still.{same_on}
+use Rattle.cs_index.specs.State.{id_number}
+use Rattle.cs_tools.proofs.Exporting.{all_at}
 use Rattle.cs_tools.proofs.copy_command.compare_each.Goals as goal
 
 pub loop-k-init : goal.loop-k-init
@@ -38,3 +40,10 @@ returns-in-Err-clause-agree g c = λ m n has_m has_n h k done. absurd (subst May
 pub returns-clause-agree : goal.returns-clause-agree
 returns-clause-agree g c = λ m n has_m has_n h k done.
     subst (AgreeOn m n) (take_all c.loop-k.k c.args.ids.now c.loop-k-test.false) (c.loop-k.invariant.agree m n has_m has_n h k)
+
+pub returns-in-Err-clause-whole : goal.returns-in-Err-clause-whole
+returns-in-Err-clause-whole g c = λ m has_from has_to h k each same.
+    let was = c.loop-k.invariant in
+    let ids = c.args.ids.now in
+    c.in-Err.ensures.whole m (has_still c.args.from.now c.loop-k.from was.same m has_from) (has_still c.args.to.now c.loop-k.to was.to_same m has_to) (was.disk.honesty.0 h) (was.to_disk.honesty.0 k)
+    (all_at (λ id. HasBytes m (id_number id)) ids c.loop-k.k _ c.loop-k-test.true each) (numbers_at c.args.copied.now ids c.loop-k.k _ c.loop-k-test.true same)

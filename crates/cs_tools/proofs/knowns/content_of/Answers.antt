@@ -1,12 +1,10 @@
-use Rattle.std.proofs.Common.{ℕ, subst}
-use Rattle.cs_disk.specs.Disk.{State, seen}
-use Rattle.cs_tools.specs.Knowns.{IsSuperseded}
+use Rattle.std.proofs.Common.{ℕ}
+use Rattle.cs_disk.specs.Disk.{Image}
+use Rattle.cs_tools.specs.Knowns.{IsContentOf}
+use Rattle.cs_tools.proofs.Knowing.{read_before}
 use Rattle.cs_tools.proofs.knowns.content_of.Goals as goal
 
-pub returns-in_default-clause-superseded : goal.returns-in_default-clause-superseded
-returns-in_default-clause-superseded g c h is =
-    let disks = g.D.PageDisk in
-    let here = c.two_stores.new.disk in
+pub returns-in_default-clause-content : goal.returns-in_default-clause-content
+returns-in_default-clause-content g c = λ h.
     let reads = c.two_stores.ensures.disk in
-    subst (λ (n : ℕ). IsSuperseded n (seen (disks.state c.args.disk.now))) reads.pages
-    (subst (λ (s : State). IsSuperseded (disks.page_count here) (seen s)) (reads.same h) (c.content_of_one.ensures.superseded (reads.honesty.0 h) is))
+    read_before g.D.PageDisk (λ (pages : ℕ) (image : Image). IsContentOf pages image c.content_of_one.result) c.args.disk.now c.two_stores.new.disk reads h (c.content_of_one.ensures.content (reads.honesty.0 h))

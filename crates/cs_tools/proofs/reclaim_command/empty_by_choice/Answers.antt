@@ -1,4 +1,4 @@
-use Rattle.std.proofs.Common.{◌≡◌, ◌∙◌, ◌*◌, ◌<◌, ◌≤◌, ℕ, List, None, ap, arith, inl, inr, refl, subst, sym}
+use Rattle.std.proofs.Common.{◌≡◌, ◌*◌, ◌<◌, ◌≤◌, ℕ, List, None, arith, inl, inr, refl, subst, sym}
 use Rattle.std.specs.Prelude.{Option}
 use Rattle.cs_extent.specs.State.{shape}
 use Rattle.cs_inspect.specs.Choices.{Chooses, ReadsOn}

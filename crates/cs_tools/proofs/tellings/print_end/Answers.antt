@@ -1,4 +1,4 @@
-use Rattle.std.specs.Prelude.{◌∷◌, [], ◌++◌}
+use Rattle.std.specs.Prelude.{◌∷◌, []}
 use Rattle.std.proofs.lemmas.Result.{on_ok_weaker}
 use Rattle.cs_tools.specs.Advised.{todo_members}
 use Rattle.cs_tools.specs.Outputs.{quote}

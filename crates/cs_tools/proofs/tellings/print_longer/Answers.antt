@@ -1,6 +1,5 @@
 use Rattle.std.specs.Prelude.{◌++◌, codes}
 use Rattle.std.proofs.lemmas.Result.{on_ok_weaker}
-use Rattle.cs_tools.specs.Advised.{doctor_text}
 use Rattle.cs_tools.specs.Stats.{number_text}
 use Rattle.cs_tools.proofs.Appended.{appends_then}
 use Rattle.cs_tools.proofs.tellings.print_longer.Goals as goal

@@ -1,0 +1,11 @@
+use Rattle.std.proofs.lemmas.Result.{on_ok_weaker}
+use Rattle.cs_tools.specs.Scrubs.{chunk_text, place_text}
+use Rattle.cs_tools.proofs.Appended.{appends_then}
+use Rattle.cs_tools.proofs.scrub_command.print_damaged_chunk.Goals as goal
+
+pub returns : goal.returns
+returns g c =
+    let contents = g.W.Write.contents in
+    on_ok_weaker c.print_place.result
+    (appends_then (contents c.args.writer.now) (contents c.print_chunk.new.writer) (contents c.print_place.new.writer) (chunk_text c.args.style c.args.id c.args.chunk) (place_text c.args.style c.args.place c.args.refusal) c.in_ok-print_chunk.ensures)
+    c.print_place.ensures
