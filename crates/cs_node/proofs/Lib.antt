@@ -5,8 +5,11 @@ pub mod Given
 pub mod Going
 pub mod Laws
 pub mod LogSteps
+pub mod Passing
 pub mod Resting
 pub mod Steps
+pub mod StoreChoices
 pub mod Sums
+pub mod Sweeping
 pub mod Tallied
 pub mod Times

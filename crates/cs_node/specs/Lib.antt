@@ -1,6 +1,7 @@
 pub mod Accounts
 pub mod Answers
 pub mod Behind
+pub mod Choices
 pub mod Closes
 pub mod Dues
 pub mod Jobs

@@ -10,13 +10,16 @@ ghost use Rattle.cs_core.specs.Checkpoints.{IsNotReplaced, Replaces};
 ghost use Rattle.cs_core.specs.Replies.{MayAnswer};
 ghost use Rattle.cs_core.specs.Views.{Applies, IsUntouched, IsStep};
 ghost use Rattle.cs_node.specs.Numbers.{GainsAll};
+ghost use Rattle.cs_inspect.specs.Choices.{ReadsOn};
 ghost use Rattle.cs_node.specs.Behind.{IsBehind};
+ghost use Rattle.cs_node.specs.Choices.{ChoosesPast};
 ghost use Rattle.cs_node.specs.Locks.{Declines};
 ghost use Rattle.cs_node.specs.Mirror.{knows};
 ghost use Rattle.cs_node.specs.Starts.{start_of};
 ghost use Rattle.cs_node.specs.Told.{empty};
 
 use crate::boards::{NamedBoard, Naming, Reader};
+use crate::choices::choose_past;
 use crate::gates::{Gate, step_of};
 use crate::judges::is_full;
 use crate::numbers::Numbers;
@@ -35,6 +38,7 @@ use std::sync::{Mutex, MutexGuard, Wait};
 /// the lock was taken.
 #[derive(Drop)]
 pub struct Engine<D: PageDisk, K: Naming> {
+    alloc: Global,
     core: Core<D>,
     keeper: Reader,
     // it costs no bytes
@@ -106,12 +110,13 @@ impl<D: PageDisk, K: Naming> Lock<D, K> {
 
 impl<D: PageDisk, K: Naming> Engine<D, K> {
     /// A core, and the keeper's seat.
-    fn new(core: Core<D>, keeper: Reader) -> Self
+    fn new(alloc: Global, core: Core<D>, keeper: Reader) -> Self
         requires start { start_of core ≡ K.start }
         requires keeper { (keeper.table_id ≡ K.table) × (keeper.id ≡ 0) × (keeper.me ≡ (knows K.start core.store.frontier, [])) }
         ensures { result ≡ record { core = core; fresh = false } }
     {
         Engine {
+            alloc,
             core,
             keeper,
             fresh: Snapshot::of(&false),
@@ -192,6 +197,15 @@ impl<D: PageDisk, K: Naming> Engine<D, K> {
         self.core.checkpoint()
     }
 
+    /// Chooses the extent to sweep next in format 4, or None, as `choose_past`. It only reads: no event is done.
+    pub fn choose(&mut self, passed: &[usize]) -> Result<Option<usize>, AllocError>
+        ensures chosen { IfOk result (λ found. ChoosesPast D.PageDisk passed.now self.old.core self.new.core found) }
+        ensures reads { ReadsOn D.PageDisk self.old.core self.new.core }
+        ensures fresh { self.new.fresh ≡ self.old.fresh }
+    {
+        choose_past(self.alloc, &mut self.core, passed)
+    }
+
     /// The core, which was opened on what K names.
     pub fn core(&self) -> &Core<D>
         ensures core { result.now ≡ self.now.core }
@@ -211,7 +225,7 @@ impl<D: PageDisk, K: Naming> Locked<D, K> {
         ensures { result ≡ record { engine = record { core = core; fresh = false }; given = 0; piloted = false; handed = [] } }
     {
         Locked {
-            engine: Engine::new(core, keeper),
+            engine: Engine::new(alloc, core, keeper),
             given: 0,
             piloted: false,
             handed: Numbers::new(alloc),
@@ -279,6 +293,7 @@ impl<D: PageDisk, K: Naming> Locked<D, K> {
             handed: _,
         } = self;
         let Engine {
+            alloc: _,
             core,
             keeper: _,
             fresh: _,

@@ -23,7 +23,7 @@ use self::failures::opened_again;
 use self::histories::prints;
 use self::orders::are_told_in_order;
 use self::rivals::is_agreed;
-use self::sweeps::are_both_swept;
+use self::sweeps::{are_begun, are_both_swept};
 use self::tasks::{End, Ended, Task, run};
 use cs_core::{Core, Limits};
 use cs_disk::{FailAt, MemoryDisk};
@@ -105,6 +105,8 @@ enum Wanted {
     Prints(&'static str),
     /// It is closed after two sweeps, the second of the next extent.
     BothExtents,
+    /// It is closed, and its sweeps began with these extents, one after another.
+    Begun(&'static [usize]),
     /// It is closed, and three threads agree on what it did.
     Agreed,
     /// It is closed, and what a gate was told is its history.
@@ -148,6 +150,7 @@ fn is_closed<R: Abort>(rt: &R, alloc: Global, ended: &Ended, wanted: Wanted) {
         }
         Wanted::Prints(text) => prints(rt, alloc, ended.history.as_slice(), text),
         Wanted::BothExtents => are_both_swept(rt, ended.history.as_slice()),
+        Wanted::Begun(extents) => are_begun(rt, alloc, ended.history.as_slice(), extents),
         Wanted::Agreed => is_agreed(rt, ended),
         Wanted::InOrder => are_told_in_order(rt, alloc, ended),
         Wanted::Missing(_) | Wanted::Unclosed => panic!(rt; "a node that is closed"),
