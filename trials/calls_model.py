@@ -66,6 +66,8 @@ class Calls(Store):
             self.device_call()
         self.disk.flush()
         self.newest, self.halted, self.events = {}, False, 0
+        # where the chunks lie whose lengths are in memory: those that were put or moved since, or whose first page was read for a survey
+        self.known = set()
         self.opened = super().open()
         for entries, locator in self.runs:
             first = self.page_of(locator)
@@ -99,6 +101,8 @@ class Calls(Store):
     def append(self, payload_bytes, content, purpose):
         count = len(self.elements)
         locator = super().append(payload_bytes, content, purpose)
+        if content[0] == "chunk":
+            self.known.add(locator)
         for element in self.elements[count:]:
             if element.family == "w":
                 self.newest[element.page] = element
@@ -189,11 +193,14 @@ class Calls(Store):
         return live, unreadable
 
     def survey(self):
-        """The same, and how many pages the greatest chunk has whose header was read."""
+        """The same, and how many pages the greatest chunk has whose header was read. A header is read once after an opening."""
         live, unreadable, greatest = [0] * self.extents, [0] * self.extents, 0
         for _, _, locator in self.chunks():
             try:
-                pages = self.read_first(locator)
+                if locator not in self.known:
+                    self.read_pages(self.page_of(locator), 1)
+                self.known.add(locator)
+                pages = frame_pages(self.payload_of(locator))
                 live[locator[0]] += pages
                 greatest = max(greatest, pages)
             except Refused:

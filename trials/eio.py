@@ -1,8 +1,8 @@
 """A disk of which some pages fail, for a program that is run: eio.c, by its settings."""
 import collections
 
-import reader
 from files import identifier
+from rules import RULES, chunk_bytes
 
 
 def failing(trial, path, log=None, **settings):
@@ -32,9 +32,8 @@ def written(log):
 
 def script_of(rng, form, shards, pages):
     """Puts of so many shards, a dozen more that are deleted, a dozen that are put twice, and syncs that leave several runs."""
-    head = reader.HEADS[form]
     names = [identifier(number * 7919) for number in range(shards + 12)]
-    page, chunk = 4096 - 41 - head, 4096 * pages - 41 - head
+    page, chunk = (chunk_bytes(RULES[form], count) for count in (1, pages))
     rng.shuffle(names)
     # In format 2 each fourth sync leaves one run alone.
     lines, syncs = [], {shards * 3 // 4, shards * 9 // 10, *([shards, shards + 9] if form == 4 else [])}

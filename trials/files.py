@@ -1,5 +1,6 @@
 """What the trials share: scripts, what they print, and what a store has to hold then."""
 
+import json
 import subprocess
 
 
@@ -16,6 +17,14 @@ def run(program, options, script):
     """The lines that a script prints, and the exit status."""
     done = subprocess.run([program, "run", *options], input=script, capture_output=True, text=True)
     return done.stdout.splitlines(), done.returncode
+
+
+def refusal_of(told):
+    """Which refusal a command tells on standard error, as text or in JSON, or what else stands there before a colon; None where nothing is told."""
+    if told.startswith("{"):
+        refused = json.loads(told)
+        return f"refused {refused['refused']} {refused['name']}"
+    return told.split(":")[0] if told else None
 
 
 class Model:

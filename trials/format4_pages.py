@@ -1,27 +1,74 @@
-"""Worked pages of format 4, by a second program."""
-import hashlib, struct
-def sha(b): return hashlib.sha256(b).digest()
-ID=bytes(range(16)); FRONT=ID[:8]
-def pad(b): return b+bytes(4096-len(b))
-def section(version,E,P,S,j,N,recorded,extents):
-    t=b"CSS4"+struct.pack(">QHHBBQ",version,E,P,S,j,N)+ID+struct.pack(">Q",recorded)+b"".join(struct.pack(">HI",p,g) for p,g in extents)
-    return t,sha(t)
-def root(version,commands,runs):
-    t=b"CSR4"+struct.pack(">QQ",version,commands)+ID+bytes([len(runs)])+b"".join(struct.pack(">HHI",e,p,g)+m for e,p,g,m in runs)
-    return t,sha(t)
-def head(i,number,count,command): return i+bytes([number,count])+struct.pack(">Q",command)+FRONT
-def frame(kind,payload): return b"CSF4"+bytes([kind])+struct.pack(">I",len(payload)),sha(payload),payload
-def h(b): return b.hex()
-def words(b,n=4): return " ".join(b[i:i+n].hex() for i in range(0,len(b),n))
-a=bytes(15)+b"\x0a"; b=bytes(15)+b"\x0b"
-ca=frame(0,b"a"+head(a,0,1,1)); cb=frame(0,b"b"+head(b,0,1,2))
-run=FRONT+struct.pack(">I",2)+b"".join(i+b"\x01"+struct.pack(">HHI",0,k,0)+c[1][:8] for k,(i,c) in enumerate(((a,ca),(b,cb))))
-fr=frame(1,run)
-second_root=root(2,2,[(1,0,0,fr[1][:8])]); first_root=root(1,0,[])
-s1=section(1,6,2,1,0,16,0,[(0,0)]*6)
-s4=section(4,6,2,1,0,16,1,[(2,0),(1,0)]+[(0,0)]*4)
-s3=section(7,6,300,3,1,1808,5,[(299,0),(0,1)])
-for name,(t,d) in (("new section",s1),("section 4",s4),("second of three",s3),("root 1",first_root),("root 2",second_root)):
-    print(name,len(t)+32,4096-len(t)-32); print(h(t)); print(words(d))
-for name,(hd,d,p) in (("chunk a",ca),("chunk b",cb),("run",fr)):
-    print(name,len(p),4096-41-len(p)); print(h(hd)); print(h(d)); print(h(p)); print("mark",h(d[:8]))
+"""Pages of format 4, by a second program. It prints the worked pages of docs/FORMATS.md."""
+import hashlib
+import struct
+
+ID = bytes(range(16))
+FRONT = ID[:8]
+
+
+def sha(text):
+    return hashlib.sha256(text).digest()
+
+
+def pad(text):
+    """A page or more that begins with these bytes."""
+    return text + bytes(-len(text) % 4096)
+
+
+def section(version, extents, pages, sections, number, device, recorded, records):
+    """The bytes of a section of the superblock, and their digest."""
+    text = b"CSS4" + struct.pack(">QHHBBQ", version, extents, pages, sections, number, device) + ID + struct.pack(">Q", recorded)
+    text += b"".join(struct.pack(">HI", pointer, generation) for pointer, generation in records)
+    return text, sha(text)
+
+
+def root(version, commands, runs):
+    """The bytes of a root, and their digest."""
+    text = b"CSR4" + struct.pack(">QQ", version, commands) + ID + bytes([len(runs)]) + b"".join(place(*it) for it in runs)
+    return text, sha(text)
+
+
+def place(extent, page, generation, mark):
+    return struct.pack(">HHI", extent, page, generation) + mark
+
+
+def head(name, number, count, command):
+    """What a chunk ends with."""
+    return name + bytes([number, count]) + struct.pack(">Q", command) + FRONT
+
+
+def run(entries):
+    """The payload of a run of these identifiers, each with its places."""
+    return FRONT + struct.pack(">I", len(entries)) + b"".join(name + bytes([len(places)]) + b"".join(places) for name, places in sorted(entries.items()))
+
+
+def frame(kind, payload):
+    """The three parts of a frame: what stands before its digest, the digest, whose first eight bytes are its mark, and the payload."""
+    return b"CSF4" + bytes([kind]) + struct.pack(">I", len(payload)), sha(payload), payload
+
+
+def words(text, size=4):
+    return " ".join(text[at:at + size].hex() for at in range(0, len(text), size))
+
+
+def main():
+    a, b = bytes(15) + b"\x0a", bytes(15) + b"\x0b"
+    chunk_a, chunk_b = frame(0, b"a" + head(a, 0, 1, 1)), frame(0, b"b" + head(b, 0, 1, 2))
+    of_both = frame(1, run({a: [place(0, 0, 0, chunk_a[1][:8])], b: [place(0, 1, 0, chunk_b[1][:8])]}))
+    for name, (text, digest) in (
+            ("new section", section(1, 6, 2, 1, 0, 16, 0, [(0, 0)] * 6)),
+            ("section 4", section(4, 6, 2, 1, 0, 16, 1, [(2, 0), (1, 0)] + [(0, 0)] * 4)),
+            ("second of three", section(7, 6, 300, 3, 1, 1808, 5, [(299, 0), (0, 1)])),
+            ("root 1", root(1, 0, [])),
+            ("root 2", root(2, 2, [(1, 0, 0, of_both[1][:8])]))):
+        print(name, len(text) + 32, 4096 - len(text) - 32)
+        print(text.hex())
+        print(words(digest))
+    for name, (header, digest, payload) in (("chunk a", chunk_a), ("chunk b", chunk_b), ("run", of_both)):
+        print(name, len(payload), 4096 - 41 - len(payload))
+        print(header.hex(), digest.hex(), payload.hex(), sep="\n")
+        print("mark", digest[:8].hex())
+
+
+if __name__ == "__main__":
+    main()

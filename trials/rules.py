@@ -36,13 +36,15 @@ class Rules(NamedTuple):
     records: bool
     # The root and each section of the superblock have two pages in a file, of which a version goes to the one that isn't the newest.
     twice: bool
+    # A shard is cut in chunks of an eighth of an extent, or in as many as there may be; else in as few as may be.
+    evenly: bool
 
 
 RULES = {
     2: Rules(extents=range(4, 2049), pages=range(2, 257), sections=range(1, 9), most_runs=4,
-             pages_first=True, by_size=False, apart=False, fills=False, marks=False, heads=False, records=False, twice=False),
+             pages_first=True, by_size=False, apart=False, fills=False, marks=False, heads=False, records=False, twice=False, evenly=False),
     4: Rules(extents=range(5, 7681), pages=range(2, 65536), sections=range(1, 16), most_runs=24,
-             pages_first=False, by_size=True, apart=True, fills=True, marks=True, heads=True, records=True, twice=True),
+             pages_first=False, by_size=True, apart=True, fills=True, marks=True, heads=True, records=True, twice=True, evenly=True),
 }
 
 
@@ -83,6 +85,43 @@ def head_bytes(rules):
 def chunk_bytes(rules, pages):
     """How many bytes of a shard a chunk has at most, of extents of so many pages."""
     return PAGE * pages - HEADER - head_bytes(rules)
+
+
+def shard_bytes(rules, pages):
+    """How many bytes a shard has at most."""
+    return MOST_CHUNKS * chunk_bytes(rules, pages)
+
+
+def cut_by(length, size):
+    """The lengths of the pieces, if each but the last has this size."""
+    full = max(0, -(-length // size) - 1)
+    return [size] * full + [length - size * full]
+
+
+def cut_pages(rules, lengths):
+    """How many pages the chunk of each of these pieces has."""
+    return [frame_pages(length + head_bytes(rules)) for length in lengths]
+
+
+def cut(rules, pages, length):
+    """The lengths of the pieces of a shard that isn't too large, on extents of so many pages.
+
+    The fewest pieces are as long as may be. Where a shard is cut evenly, so many pieces are wanted that each chunk has an eighth of an extent's pages at most, or
+    one, else eight. Of the numbers up to that one the greatest is taken whose chunks have at most a sixteenth more pages than the fewest pieces."""
+    fewest = cut_by(length, chunk_bytes(rules, pages))
+    if not rules.evenly:
+        return fewest
+    cuts = {count: cut_by(length, max(1, -(-length // count))) for count in range(len(fewest), MOST_CHUNKS + 1)}
+    small = [count for count, lengths in cuts.items() if max(cut_pages(rules, lengths)) <= max(1, pages // 8)]
+    wanted = min(small, default=MOST_CHUNKS)
+    most = 17 * sum(cut_pages(rules, fewest))
+    cheap = [count for count, lengths in cuts.items() if count <= wanted and 16 * sum(cut_pages(rules, lengths)) <= most]
+    return cuts[max(cheap)] if cheap else fewest
+
+
+def shard_pages(rules, pages, length):
+    """How many pages all chunks of a shard of so many bytes have."""
+    return sum(cut_pages(rules, cut(rules, pages, length)))
 
 
 def entry_bytes(rules, chunks):

@@ -3,11 +3,12 @@
 It keeps sets where the program keeps levels, and counts everything anew at each plan, so it is slow and short. What differs by format stands in rules.py,
 and where frames go in places.py."""
 import bisect
+import itertools
 import json
 
 from places import PUT, RUN, MERGE, Places
-from rules import (FULL, IN_FLIGHT, INDEX_FULL, LETTERS, MOST_CHUNKS, ROOT_LOST, RULES, TOO_LARGE, Refused, chunk_bytes, frame_pages, head_bytes, head_of,
-                   most_weight, run_bytes, weigh)
+from rules import (FULL, IN_FLIGHT, INDEX_FULL, LETTERS, MOST_CHUNKS, ROOT_LOST, RULES, TOO_LARGE, Refused, cut, frame_pages, head_bytes, head_of,
+                   most_weight, run_bytes, shard_bytes, weigh)
 
 
 class BadLine(Exception):
@@ -254,10 +255,10 @@ class Store(Places):
     # ---- commands
 
     def put(self, name, data):
-        size = chunk_bytes(self.rules, self.pages)
-        pieces = [data[at:at + size] for at in range(0, len(data), size)] or [b""]
-        if len(pieces) > MOST_CHUNKS:
+        if len(data) > shard_bytes(self.rules, self.pages):
             raise Refused(*TOO_LARGE)
+        ends = [0, *itertools.accumulate(cut(self.rules, self.pages, len(data)))]
+        pieces = [data[begin:end] for begin, end in itertools.pairwise(ends)]
         if self.is_heavy(name, len(pieces)):
             raise Refused(*INDEX_FULL)
         command = self.base + self.accepted + 1

@@ -1,11 +1,12 @@
 -- The pieces that bytes are cut in are those of a put, and their frames have these pages.
-use Rattle.std.proofs.Common.{le_of_eq, le_trans, mul-le-mul_right, ◌≡◌, ◌≢◌, ◌∙◌, ℕ, zero, suc, ◌+◌, ◌-◌, ◌*◌, ◌<◌, ◌≤◌, ◌⊎◌, Bool, true, false, if◌then◌else◌, List, [], ◌∷◌, ◌++◌, length, length-append, take, drop, replicate, refl, sym, ap, subst, inl, inr, ⊎_elim, arith}
+use Rattle.std.proofs.Common.{le_of_eq, le_trans, mul-le-mul_right, ◌≡◌, ◌≢◌, ◌∙◌, ℕ, zero, suc, ◌+◌, ◌-◌, ◌*◌, ◌<◌, ◌≤◌, ◌⊎◌, List, [], ◌∷◌, ◌++◌, length, take, drop, replicate, refl, sym, ap, subst, inl, inr, ⊎_elim, arith}
 use Rattle.std.specs.Prelude.{map, max}
 use Rattle.std.specs.Int.{div_ceil}
 use Rattle.std.proofs.lemmas.Grind.{div_ceil_times}
 use Rattle.std.proofs.lemmas.List.{take-append-drop, length-take, length-take-le, length-drop, take_all, nil_from_length}
 use Rattle.cs_chunk.specs.declared.cuts.Cut.{Cut}
 use Rattle.cs_chunk.specs.Cuts.{IsCut, pages_of, pieces}
+use Rattle.cs_chunk.proofs.Sizes.{pages_by_size, some_bytes}
 use Rattle.cs_frame.specs.declared.formats.FormatNumber.{FormatNumber}
 use Rattle.cs_frame.specs.FormatNumbers.{number_in}
 use Rattle.cs_frame.specs.Formats.{formats_of}
@@ -16,10 +17,11 @@ use Rattle.cs_frame.proofs.Pieces.{length-first_chunks}
 use Rattle.law_machine.specs.Append.{chunk_frames, page_counts}
 use Rattle.law_machine.specs.Device.{Shape}
 use Rattle.law_machine.specs.Events.{AllFullButLast, ArePayloads, Chunked, headed}
-use Rattle.law_machine.specs.Format.{Format, Four, Two}
-use Rattle.law_machine.specs.Geometry.{chunk_bytes_in, head_bytes_in}
+use Rattle.law_machine.specs.Format.{Format}
+use Rattle.law_machine.specs.Pieces.{chunk_bytes_in, head_bytes_in, piece_bytes_in}
 use Rattle.law_machine.specs.Index.{joined}
 use Rattle.law_machine.proofs.Payloads.{payloads_one}
+use Rattle.law_machine.proofs.Pieces.{few_pieces, small_piece, some_piece}
 
 pub length-spelled : (number : FormatNumber) (kind : ℕ) (payload : List ℕ) → length (spelled_frame number kind payload) ≡ page_count (length payload)
 length-spelled number kind payload = length-first_chunks 4096 (page_count (length payload)) (frame_bytes number kind payload)
@@ -95,10 +97,6 @@ counts_are S fits id total command size pages full (suc count) number bytes enou
     (pages_of_piece S fits id number total command (take size bytes) ∙ ap (λ n. page_count (head_bytes_in S.format + n)) front ∙ full)
     ∙ ap (λ ns. pages ∷ ns) rest ∙ ap (λ n. pages ∷ (replicate count pages ++ page_count (head_bytes_in S.format + n) ∷ [])) left
 
--- a full piece and its head take an extent
-full_pages : (head size pages : ℕ) → size ≡ 4096 * pages - (41 + head) → 0 < size → page_count (head + size) ≡ pages
-full_pages head size pages is some = omega (arith, is, some)
-
 -- what is left for the last piece is no more than a piece
 left_over : (length size count rounded : ℕ) → 0 < size → rounded ≡ div_ceil length size → count ≡ max rounded 1 → length - (count - 1) * size ≤ size
 left_over length size count rounded some is most =
@@ -110,24 +108,32 @@ left_over length size count rounded some is most =
     let next : suc (count - 1) * size ≡ size + (count - 1) * size = omega arith in
     omega (arith, whole, times, parts, next)
 
--- so its frame fits on an extent, with its head
-fits_by : (format : Format) (left size pages : ℕ) → 2 ≤ pages → size ≡ chunk_bytes_in format pages → left ≤ size → page_count (head_bytes_in format + left) ≤ pages
-fits_by Two left size pages some is low = omega (arith, some, is, low)
-fits_by (Four store device) left size pages some is low = omega (arith, some, is, low)
-
 -- a piece has a byte at least
-pub size_some : (format : Format) (size pages : ℕ) → 2 ≤ pages → size ≡ chunk_bytes_in format pages → 0 < size
-size_some Two size pages some is = omega (arith, some, is)
-size_some (Four store device) size pages some is = omega (arith, some, is)
+pub size_some : (format : Format) (bytes size pages : ℕ) → 2 ≤ pages → size ≡ piece_bytes_in format pages bytes → 0 < size
+size_some format bytes size pages some is =
+    let one : 1 ≤ pages = omega (arith, some) in
+    let positive : 0 < piece_bytes_in format pages bytes = some_piece format pages bytes (some_bytes format pages one) in omega (arith, is, positive)
 
-pub last_fits : (format : Format) (length size count rounded pages head last : ℕ) → 2 ≤ pages → size ≡ chunk_bytes_in format pages → head ≡ head_bytes_in format
-    → rounded ≡ div_ceil length size → count ≡ max rounded 1 → last ≡ page_count (head + (length - (count - 1) * size)) → last ≤ pages
-last_fits format length size count rounded pages head last some is of rounds most pages_are =
-    le_trans (le_of_eq (pages_are ∙ ap (λ n. page_count (n + (length - (count - 1) * size))) of))
-    (fits_by format (length - (count - 1) * size) size pages some is (left_over length size count rounded (size_some format size pages some is) rounds most))
+-- and its frame fits on an extent, with its head
+pub size_fits : (format : Format) (bytes size pages : ℕ) → 2 ≤ pages → size ≡ piece_bytes_in format pages bytes → page_count (head_bytes_in format + size) ≤ pages
+size_fits format bytes size pages some is =
+    let one : 1 ≤ pages = omega (arith, some) in
+    pages_by_size format pages size one (le_trans (le_of_eq is) (small_piece format pages bytes (some_bytes format pages one)))
 
-module _ (S : Shape) (bytes : List ℕ) (cut : Cut) (is : IsCut S (length bytes) cut) (some_byte : 0 < cut.size) (size_is : S.chunk_bytes ≡ chunk_bytes_in S.format S.pages) where
-  cut_chunked : Chunked S.chunk_bytes bytes (pieces cut.size cut.count bytes)
+-- eight of them are enough for a shard that isn't too large
+pub size_enough : (format : Format) (bytes size pages : ℕ) → 2 ≤ pages → size ≡ piece_bytes_in format pages bytes → bytes ≤ 8 * chunk_bytes_in format pages → bytes ≤ 8 * size
+size_enough format bytes size pages some is short =
+    let one : 1 ≤ pages = omega (arith, some) in
+    let all : bytes ≤ 8 * piece_bytes_in format pages bytes = few_pieces format pages bytes (some_bytes format pages one) short in omega (arith, is, all)
+
+-- the last frame has no more pages than another
+pub last_fits : (length size count rounded head last pages : ℕ) → 0 < size → rounded ≡ div_ceil length size → count ≡ max rounded 1
+    → last ≡ page_count (head + (length - (count - 1) * size)) → pages ≡ page_count (head + size) → last ≤ pages
+last_fits length size count rounded head last pages some rounds most last_is pages_are =
+    omega (arith, last_is, pages_are, left_over length size count rounded some rounds most)
+
+module _ (S : Shape) (bytes : List ℕ) (cut : Cut) (is : IsCut S (length bytes) cut) (some_byte : 0 < cut.size) where
+  cut_chunked : Chunked (S.piece_bytes (length bytes)) bytes (pieces cut.size cut.count bytes)
   cut_chunked = (
     joined_pieces cut.size cut.count bytes is.enough,
     counted cut.count is.some,
@@ -156,11 +162,10 @@ module _ (S : Shape) (bytes : List ℕ) (cut : Cut) (is : IsCut S (length bytes)
   pub cut_pages : FitsFormat S.format → (id command : ℕ) → page_counts (chunk_frames S (formats_of S) (headed (formats_of S) id 0 cut.count command (pieces cut.size cut.count bytes))) ≡ pages_of cut
   cut_pages fits id command =
       let same : cut.count ≡ suc (cut.count - 1) = omega (arith, is.some) in
-      let full : page_count (head_bytes_in S.format + cut.size) ≡ S.pages = full_pages (head_bytes_in S.format) cut.size S.pages (is.size ∙ size_is) some_byte in
       let enough : length bytes ≤ suc (cut.count - 1) * cut.size = subst (λ k. length bytes ≤ k * cut.size) same is.enough in
       ap page_counts (frames_are S (headed (formats_of S) id 0 cut.count command (pieces cut.size cut.count bytes)))
       ∙ ap (λ k. page_counts (map (spelled_frame (number_in S.format) 0) (headed (formats_of S) id 0 cut.count command (pieces cut.size k bytes)))) same
-      ∙ counts_are S fits id cut.count command cut.size cut.pages (full ∙ sym is.pages) (cut.count - 1) 0 bytes enough (least_of is.few)
+      ∙ counts_are S fits id cut.count command cut.size cut.pages (sym is.pages) (cut.count - 1) 0 bytes enough (least_of is.few)
       ∙ ap (λ k. replicate (cut.count - 1) cut.pages ++ k ∷ []) (sym is.last)
     where
       least_of : (cut.count ≡ 1) ⊎ ((cut.count - 1) * cut.size < length bytes) → (cut.count - 1) * cut.size ≤ length bytes

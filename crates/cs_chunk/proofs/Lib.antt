@@ -1,5 +1,6 @@
 pub mod Pieces
 pub mod PieceCounts
+pub mod Sizes
 pub mod Chunkings
 pub mod Copied
 pub mod Newest

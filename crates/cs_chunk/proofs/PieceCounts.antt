@@ -1,5 +1,5 @@
 -- In how many pieces bytes are put.
-use Rattle.std.proofs.Common.{◌≡◌, ℕ, suc, ◌+◌, ◌*◌, ◌<◌, ◌≤◌, List, [], ◌∷◌, ◌++◌, length, length-append, append-nil, inl, inr, mul-le-mul_right, subst, sym, ap, arith}
+use Rattle.std.proofs.Common.{◌≡◌, ◌⊎◌, ℕ, suc, ◌+◌, ◌-◌, ◌*◌, ◌<◌, ◌≤◌, List, [], ◌∷◌, ◌++◌, length, length-append, append-nil, inl, inr, mul-le-mul_right, subst, sym, ap, arith}
 use Rattle.std.specs.Prelude.{max}
 use Rattle.std.specs.Int.{div_ceil}
 use Rattle.std.proofs.lemmas.Bool.{cases_lt}
@@ -39,6 +39,29 @@ module _ (most size rounded count : ℕ) (some : 0 < most) (is : rounded ≡ div
         let next : suc n * most ≡ most + n * most = omega arith in
         omega (arith, times, next, below, fits))
     | inr le ↦ le
+  ]
+
+  -- there are enough pieces, and all of them are needed
+  pub all_bytes : size ≤ count * most
+  all_bytes = omega (arith, above, up)
+
+  front : 2 ≤ count → (count - 1) * most < size
+  front more =
+      let same : rounded ≡ suc (count - 1) = omega (arith, rounds, more) in
+      let times : rounded * most ≡ suc (count - 1) * most = ap (λ (n : ℕ). n * most) same in
+      let next : suc (count - 1) * most ≡ most + (count - 1) * most = omega arith in omega (arith, times, next, below)
+
+  pub all_needed : (count ≡ 1) ⊎ ((count - 1) * most < size)
+  all_needed = elim (cases_lt 1 count) [
+    | inl more ↦ inr (front (omega (arith, more)))
+    | inr le ↦ inl (omega (arith, le, rounds))
+  ]
+
+  pub full_bytes : (count - 1) * most ≤ size
+  full_bytes = elim (cases_lt 1 count) [
+    | inl more ↦ (let lt = front (omega (arith, more)) in omega (arith, lt))
+    | inr le ↦ (let none : count - 1 ≡ 0 = omega (arith, le) in
+        let zeros : (count - 1) * most ≡ 0 * most = ap (λ (n : ℕ). n * most) none in omega (arith, zeros))
   ]
 
   pub few_enough : (n : ℕ) → 1 ≤ n → size ≤ n * most → count ≤ n

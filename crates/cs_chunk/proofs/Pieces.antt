@@ -59,7 +59,7 @@ pages_in_array ps n count p last same some few =
     ∙ ap (λ (xs : List ℕ). xs ++ last ∷ []) (take-replicate (count - 1) n p (omega arith))
 
 -- each frame has a page, and no more than an extent
-pub each_in_range : (m p last most : ℕ) → 1 ≤ last → last ≤ p → p ≡ most → All (λ k. (1 ≤ k) × (k ≤ most)) (replicate m p ++ last ∷ [])
+pub each_in_range : (m p last most : ℕ) → 1 ≤ last → last ≤ p → p ≤ most → All (λ k. (1 ≤ k) × (k ≤ most)) (replicate m p ++ last ∷ [])
 each_in_range zero p last most some le same zero d lt = (some, omega (arith, le, same))
 each_in_range zero p last most some le same (suc k) d lt = absurd (omega (arith, lt))
 each_in_range (suc m) p last most some le same zero d lt = (omega (arith, some, le), omega (arith, same))

@@ -1,10 +1,10 @@
 -- What a cut says of the payloads of a put.
-use Rattle.std.proofs.Common.{◌≡◌, ◌≢◌, ◌∙◌, ℕ, ◌+◌, ◌-◌, ◌*◌, ◌<◌, ◌≤◌, Bool, true, false, List, length, if◌then◌else◌, MatchBool, IsTrue, refl, sym, ap, subst, arith}
+use Rattle.std.proofs.Common.{◌≡◌, ◌∙◌, ℕ, ◌<◌, ◌≤◌, Bool, true, false, List, length, MatchBool, IsTrue, refl, sym, ap, subst, le_of_eq, le_trans}
 use Rattle.std.specs.Prelude.{◌↔◌, Result, Err}
 use Rattle.cs_chunk.specs.declared.cuts.Cut.{Cut}
 use Rattle.cs_chunk.specs.Cuts.{IsCut, pages_of, pieces}
 use Rattle.cs_chunk.specs.Puts.{ArePayloadsIn, IsPutFull, IsPutWorn, PutFits, frames_in}
-use Rattle.cs_chunk.proofs.Chunkings.{cut_only, cut_pages, cut_payloads, size_some}
+use Rattle.cs_chunk.proofs.Chunkings.{cut_only, cut_pages, cut_payloads, size_fits, size_some}
 use Rattle.cs_refusal.specs.declared.refusals.Refusal.{Refusal}
 use Rattle.cs_deps.specs.Staging.{Staging}
 use Rattle.cs_extent.specs.Places.{FitIn}
@@ -28,16 +28,19 @@ module _ (x : State) (id command : ℕ) (bytes : List ℕ) (whole : IsWhole x) (
   payloads = headed (formats_of (shape x)) id 0 cut.count command (pieces cut.size cut.count bytes)
 
   some_byte : 0 < cut.size
-  some_byte = size_some x.format cut.size x.pages whole.geometry.fewest_pages is.size
+  some_byte = size_some x.format (length bytes) cut.size x.pages whole.geometry.fewest_pages is.size
+
+  pub pages_fit : cut.pages ≤ x.pages
+  pages_fit = le_trans (le_of_eq is.pages) (size_fits x.format (length bytes) cut.size x.pages whole.geometry.fewest_pages is.size)
 
   pub chunked : ArePayloadsIn x id command bytes payloads
-  chunked = cut_payloads (shape x) bytes cut is some_byte refl id command
+  chunked = cut_payloads (shape x) bytes cut is some_byte id command
 
   pub pages : page_counts (frames_in x payloads) ≡ pages_of cut
-  pages = cut_pages (shape x) bytes cut is some_byte refl whole.geometry.fits_format id command
+  pages = cut_pages (shape x) bytes cut is some_byte whole.geometry.fits_format id command
 
   pub one_cut : (cs : List (List ℕ)) → ArePayloadsIn x id command bytes cs → cs ≡ payloads
-  one_cut = cut_only (shape x) bytes cut is some_byte refl id command
+  one_cut = cut_only (shape x) bytes cut is some_byte id command
 
   pub only : (cs : List (List ℕ)) → ArePayloadsIn x id command bytes cs → page_counts (frames_in x cs) ≡ pages_of cut
   only cs h = ap (λ (ds : List (List ℕ)). page_counts (frames_in x ds)) (one_cut cs h) ∙ pages

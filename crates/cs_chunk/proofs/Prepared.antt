@@ -7,7 +7,7 @@ use Rattle.cs_chunk.specs.declared.cuts.Cut.{Cut}
 use Rattle.cs_chunk.specs.Cuts.{IsCut, pages_of, pieces}
 use Rattle.cs_chunk.specs.Puts.{ArePayloadsIn, ArePutIn, AreNewestFrames, IsPutSoFar, MayPut, frames_in}
 use Rattle.cs_chunk.proofs.Chunkings.{frames_are, length-pieces}
-use Rattle.cs_chunk.proofs.Planned.{chunked, one_cut, only, pages}
+use Rattle.cs_chunk.proofs.Planned.{chunked, one_cut, only, pages, pages_fit}
 use Rattle.cs_chunk.proofs.Putting.{appended_whatever, put_reads}
 use Rattle.cs_deps.specs.State.{State as Graph}
 use Rattle.cs_extent.specs.Appended.{AreAppended, AreAppendedBy, IsReady}
@@ -39,7 +39,7 @@ count_places apart x g r (f ∷ fs) (l ∷ ls) y h a = ap suc (count_places apar
 count_places apart x g r [] (l ∷ ls) y h a = absurd a
 count_places apart x g r (f ∷ fs) [] y h a = absurd a
 
-each_page : (m p last most : ℕ) → 1 ≤ last → last ≤ p → p ≡ most → AllByRecursion (λ k. (1 ≤ k) × (k ≤ most)) (replicate m p ++ last ∷ [])
+each_page : (m p last most : ℕ) → 1 ≤ last → last ≤ p → p ≤ most → AllByRecursion (λ k. (1 ≤ k) × (k ≤ most)) (replicate m p ++ last ∷ [])
 each_page zero p last most some le same = ((some, omega (arith, le, same)), tt)
 each_page (suc m) p last most some le same = ((omega (arith, some, le), omega (arith, same)), each_page m p last most some le same)
 
@@ -71,7 +71,7 @@ module _ (x : State) (g k : Graph) (id command : ℕ) (bytes : List ℕ) (whole 
     sections = section_there x whole;
     pointers = whole.pointers;
     found = whole.found_given;
-    pages = subst (λ ks. AllByRecursion (λ n. (1 ≤ n) × (n ≤ x.pages)) ks) (sym pages_are) (each_page (cut.count - 1) cut.pages cut.last x.pages cut.least cut.most is.pages);
+    pages = subst (λ ks. AllByRecursion (λ n. (1 ≤ n) × (n ≤ x.pages)) ks) (sym pages_are) (each_page (cut.count - 1) cut.pages cut.last x.pages cut.least cut.most (pages_fit x id command bytes whole cut is));
     fits = subst (λ ks. FitIn x ForPut ks) (sym pages_are) fits;
     numbers = λ worn. numbers (subst (λ ks. AreWorn x g.staging ForPut ks) pages_are worn);
     room = omega (arith, room, ap length frames, length-frames (shape x) cs, count_is, ap sum pages_are);

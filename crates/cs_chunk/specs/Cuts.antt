@@ -13,7 +13,7 @@ abbrev pub pieces : (size count : ℕ) → List ℕ → List (List ℕ)
 pieces size zero bytes = []
 pieces size (suc count) bytes = take size bytes ∷ pieces size count (drop size bytes)
 
--- the pages of the frames of a cut, each with its head: all but the last have as many as an extent
+-- the pages of the frames of a cut, each with its head: all but the last have those of a full piece
 abbrev pub pages_of : Cut → List ℕ
 pages_of cut = replicate (cut.count - 1) cut.pages ++ cut.last ∷ []
 
@@ -26,10 +26,10 @@ frames_cut S cut id command bytes =
 abbrev pub IsOversized : Shape → (length : ℕ) → Type 0
 IsOversized S length = S.most_chunks * S.chunk_bytes < length
 
--- so many bytes are cut so: in as few pieces as may be, and at least one
+-- so many bytes are cut so: in as few pieces of this size as may be, and at least one
 pub record IsCut (S : Shape) (length : ℕ) (cut : Cut) : Type 0 where
-  pub size : cut.size ≡ S.chunk_bytes
-  pub pages : cut.pages ≡ S.pages
+  pub size : cut.size ≡ S.piece_bytes length
+  pub pages : cut.pages ≡ page_count (head_bytes_in S.format + cut.size)
   pub most : cut.count ≤ S.most_chunks
   pub some : 1 ≤ cut.count
   pub enough : length ≤ cut.count * cut.size

@@ -24,6 +24,11 @@ header_fault_in x view kind l = meant_header_fault (shape x).format (kind_byte k
 abbrev pub length_at : Shape → (view : ℕ → List ℕ) → Locator → ℕ
 length_at S view l = payload_length (view (S.address l.extent l.page))
 
+-- the header at a place in these extents passes as that of the frame that l means, and says so many bytes
+pub record IsHeaderIn (x : State) (view : ℕ → List ℕ) (kind : FrameKind) (l : Locator) (count : ℕ) : Type 0 where
+  pub passes : header_fault_in x view kind l ≡ None
+  pub says : count ≡ length_at (shape x) view l
+
 -- the device or memory refused, or one of a header's tests: 1, 9, 20, 22, 24 and 26
 abbrev pub IsHeaderRefusal : Refusal → Type 0
 IsHeaderRefusal r = IsNoAnswer r ⊎ (r ≡ BadMagic) ⊎ (r ≡ BadVersion) ⊎ (r ≡ BadLength) ⊎ (r ≡ Misplaced)

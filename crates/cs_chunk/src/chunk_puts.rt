@@ -8,22 +8,22 @@ ghost use Rattle.cs_extent.specs.Frames.{IsWorn};
 ghost use Rattle.cs_extent.specs.Places.{FitIn, GoesIn};
 ghost use Rattle.cs_extent.specs.State.{IsWhole, shape};
 ghost use Rattle.cs_extent.specs.Worn.{AreWorn};
+ghost use Rattle.cs_frame.specs.Frames.{page_count};
 ghost use Rattle.cs_frame.specs.Identifiers.{id_number};
 ghost use Rattle.cs_frame.specs.Places.{HasPlaceFor};
 ghost use Rattle.law_machine.specs.Append.{page_counts};
 ghost use Rattle.law_machine.specs.Events.{Chunked};
 ghost use Rattle.law_machine.specs.Extents.{ForPut};
+ghost use Rattle.law_machine.specs.Pieces.{head_bytes_in};
 
 use crate::cuts::{Cut, Origin};
+use crate::even_pieces::{MOST_CHUNKS, piece_bytes};
 use crate::reads::format_of;
 use cs_deps::Graph;
 use cs_extent::{Extents, Purpose};
 use cs_frame::{ChunkHead, Locator, Places, ShardId, encode_chunk, frame_pages, head_bytes};
 use cs_refusal::Refusal;
 use std::alloc::{AllocError, Global};
-
-/// The most chunks of a shard.
-const MOST_CHUNKS: usize = 8;
 
 /// The greatest piece of a shard in one chunk, in bytes.
 fn chunk_bytes(extents: &Extents) -> usize
@@ -41,28 +41,41 @@ pub fn shard_bytes(extents: &Extents) -> usize
     MOST_CHUNKS * chunk_bytes(extents)
 }
 
+/// The size of the pieces of a shard of so many bytes, of all but the last.
+fn piece_size(extents: &Extents, bytes: usize) -> usize
+    requires { ¬ IsOversized (shape extents.now) bytes }
+    ensures bytes { result ≡ (shape extents.now).piece_bytes bytes }
+    ensures some { 1 ≤ result }
+    ensures few { bytes ≤ 8 * result }
+    ensures pages { page_count (head_bytes_in (shape extents.now).format + result) ≤ (shape extents.now).pages }
+{
+    piece_bytes(extents.geometry(), bytes)
+}
+
 impl Cut {
-    /// How so many bytes are cut: in one piece at least, all but the last as long as may be. None if they are too many.
+    /// How so many bytes are cut: in one piece at least, all but the last of one length. None if they are too many.
     ///
-    /// A chunk has 4,096 bytes for each page of an extent, less 41 and less 34 for its head, and there are at most
-    /// eight. Format 2 has no heads.
+    /// A chunk has at most 4,096 bytes for each page of an extent, less 41 and less 34 for its head, and there are at
+    /// most eight. Format 2 has no heads, and its pieces are as long as may be.
     pub fn of(extents: &Extents, bytes: usize) -> Option<Cut>
         ensures cut { MatchOption result (IsOversized (shape extents.now) bytes) (IsCut (shape extents.now) bytes) }
         ensures small { IfSome result (λ _. ¬ IsOversized (shape extents.now) bytes) }
-        ensures pieces { IfSome result (λ cut. (xs : List ℕ) (pieces : List (List ℕ)) → length xs ≡ bytes → Chunked (shape extents.now).chunk_bytes xs pieces
-            → length pieces ≡ cut.count) }
+        ensures pieces { IfSome result (λ cut. (xs : List ℕ) (pieces : List (List ℕ)) → length xs ≡ bytes
+            → Chunked ((shape extents.now).piece_bytes bytes) xs pieces → length pieces ≡ cut.count) }
+        ensures pages { IfSome result (λ cut. cut.pages ≤ (shape extents.now).pages) }
         ensures whole { IsWhole extents.now }
     {
         if shard_bytes(extents) < bytes {
             return None;
         }
-        let size = chunk_bytes(extents);
+        let size = piece_size(extents, bytes);
         let count = bytes.div_ceil(size).max(1);
+        let head = head_bytes(format_of(extents));
         Some(Cut {
             size,
             count,
-            pages: extents.extent_pages(),
-            last: frame_pages(head_bytes(format_of(extents)) + (bytes - (count - 1) * size)),
+            pages: frame_pages(head + size),
+            last: frame_pages(head + (bytes - (count - 1) * size)),
         })
     }
 
@@ -93,7 +106,7 @@ impl Cut {
 
     /// Refuses a put before memory is asked for.
     fn may_put(self, extents: &Extents, graph: &Graph) -> Result<(), Refusal>
-        requires pages { self.pages ≡ (shape extents.now).pages }
+        requires pages { self.pages ≤ (shape extents.now).pages }
         requires ready { IsReady extents.now graph.now.staging }
         ensures full { (result ≡ Err Refusal.Full) ↔ ¬ FitIn extents.now ForPut (pages_of self) }
         ensures fits { OnOk result (FitIn extents.now ForPut (pages_of self)) }
@@ -106,7 +119,7 @@ impl Cut {
     /// Whether the chunks find places for a put: if not, `put` refuses it with 30 `Full`. It is the same for any bytes
     /// that are cut so, any identifier and command. Takes no memory.
     pub fn fits(self, extents: &Extents) -> bool
-        requires { self.pages ≡ (shape extents.now).pages }
+        requires { self.pages ≤ (shape extents.now).pages }
         ensures { (bytes : List ℕ) (id command : ℕ) → IsCut (shape extents.now) (length bytes) self
             → MatchBool result (PutFits extents.now id command bytes) (IsPutFull extents.now id command bytes) }
     {

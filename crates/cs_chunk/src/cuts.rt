@@ -12,14 +12,14 @@ pub struct Origin {
     pub command: u64,
 }
 
-/// So many bytes cut in chunks: all but the last have a frame as long as an extent.
+/// So many bytes cut in chunks: all but the last have one length.
 #[derive(Clone, Copy)]
 pub struct Cut {
-    /// The bytes of a full chunk.
+    /// The bytes of each piece but the last.
     pub size: usize,
     /// How many chunks there are.
     pub count: usize,
-    /// The pages of a full chunk's frame.
+    /// The pages of each chunk's frame but the last.
     pub pages: usize,
     /// The pages of the last chunk's frame.
     pub last: usize,

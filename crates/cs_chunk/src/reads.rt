@@ -1,12 +1,12 @@
 //! Reads of frames.
-ghost use Rattle.std.specs.Prelude.{◌≡◌, ◌⊎◌, ◌+◌, ◌*◌, ◌-◌, ◌^◌, ◌<◌, ◌≤◌, ℕ, List, IfErr, IfOk, IsOk, MatchResult, OnOk, length, All};
+ghost use Rattle.std.specs.Prelude.{◌≡◌, ◌⊎◌, ◌+◌, ◌*◌, ◌-◌, ◌^◌, ◌<◌, ◌≤◌, ℕ, List, IfErr, IfOk, IfSome, IsOk, IsSome, MatchResult, None, OnOk, length, All};
 ghost use Rattle.cs_chunk.specs.Chunks.{IsFrameIn, IsMeant, end_in, kind_of, AreChunksIn, AreMeant};
-ghost use Rattle.cs_chunk.specs.Lengths.{IsHeaderRefusal, IsOfFaultOrMark, header_fault_in, length_at, AreHeadersIn, IsOfHeaderIn, lengths_at};
+ghost use Rattle.cs_chunk.specs.Lengths.{IsHeaderIn, IsHeaderRefusal, IsOfFaultOrMark, header_fault_in, length_at, AreHeadersIn, IsOfHeaderIn, lengths_at};
 ghost use Rattle.cs_chunk.specs.Newest.{AreNewest, IsReadAs};
 ghost use Rattle.cs_chunk.specs.Reads.{AnswersFault, AreReadAs, IsCaused, IsFrameFront, IsFrameRefusal, IsNoAnswer, IsOfFault, IsReadRefusal, fault_in, pages_in, IsOfChunkIn};
 ghost use Rattle.cs_refusal.specs.Refusals.{number_of};
 ghost use Rattle.cs_deps.specs.State.{NoneOn};
-ghost use Rattle.cs_disk.specs.Disk.{seen};
+ghost use Rattle.cs_disk.specs.Disk.{Image, seen};
 ghost use Rattle.cs_disk.specs.Reads.{OnlyReads};
 ghost use Rattle.cs_extent.specs.State.{IsWhole, shape};
 ghost use Rattle.cs_frame.specs.FormatNumbers.{number_in};
@@ -304,6 +304,35 @@ pub fn read_length<D: PageDisk>(
     match decode_meant_header(format_of(extents), kind, locator.mark, &first, there) {
         Ok(header) => Ok(header.payload_len),
         Err(fault) => Err(refusal_of_fault(fault)),
+    }
+}
+
+/// How many bytes the payload has of the frame that begins at a place, as `read_length` returns it, by the newest write
+/// to the frame's first page that waits. None if no write to it waits, or if one of the header's tests fails. The device
+/// isn't asked.
+pub fn waiting_length(
+    extents: &Extents,
+    graph: &Graph,
+    kind: FrameKind,
+    locator: Locator,
+) -> Option<u32>
+    requires extent { locator.extent < (shape extents.now).extents }
+    requires page { locator.page < (shape extents.now).pages }
+    // Whatever the device holds, the length is the one that the header says.
+    ensures said { (image : Image) (view : ℕ → List ℕ) → AreNewest graph.now image view → IfSome result (IsHeaderIn extents.now view kind locator) }
+    // If a write to the page waits and the header passes, there is a length.
+    ensures there { (image : Image) (view : ℕ → List ℕ) → AreNewest graph.now image view → header_fault_in extents.now view kind locator ≡ None
+        → IsSome result ⊎ NoneOn graph.now ((shape extents.now).address locator.extent locator.page) }
+    ensures size { IfSome result (λ count. locator.page + page_count count ≤ (shape extents.now).pages) }
+{
+    let number = page_number(extents, locator);
+    let there = end_of(extents, locator) - usize::from(locator.page);
+    let Some(first) = graph.newest_on(number) else {
+        return None;
+    };
+    match decode_meant_header(format_of(extents), kind, locator.mark, first, there) {
+        Ok(header) => Some(header.payload_len),
+        Err(_) => None,
     }
 }
 

@@ -11,7 +11,8 @@ use cs_disk::SystemFault;
 use cs_frame::{Geometry, StoreId};
 use cs_mount::MountOptions;
 use cs_options::{
-    Sizing, TooSmall, USUAL_SIZE, Wish, exact_of, geometry_for, mode_of, sizing_of, wish_of,
+    Sizing, TooSmall, USUAL_SIZE, Wish, exact_of, geometry_for, largest_shard, mode_of,
+    shard_size_of, sizing_of, sure_bytes, wish_of,
 };
 use cs_refusal::Refusal;
 use cs_tools::store::{NO_IDENTITY, new_identity};
@@ -49,7 +50,7 @@ pub fn create_in_file<R: AllocGlobal + Files<File = File> + RandomSource + Print
     tell_made(
         rt,
         path,
-        geometry,
+        Told::of(geometry, options),
         make(rt, path, geometry, mode, manner),
         manner,
     )
@@ -231,11 +232,30 @@ fn make_quietly<R: AllocGlobal + Files<File = File>>(
     }
 }
 
+/// What is told of a new store: its geometry, and for shards of which size its room is told.
+#[derive(Clone, Copy)]
+pub struct Told {
+    geometry: Geometry,
+    shard_size: u64,
+}
+
+impl Told {
+    /// The room is that for shards of the size that the options ask for, by default 1 MiB; or for the longest that the
+    /// store takes.
+    pub fn of(geometry: Geometry, options: &ArgMatches) -> Told {
+        let largest = largest_shard(geometry);
+        Told {
+            geometry,
+            shard_size: shard_size_of(options).unwrap_or(largest).min(largest),
+        }
+    }
+}
+
 /// Prints what was made, or why it wasn't, and gives the exit status.
 pub fn tell_made<R: AllocGlobal + Print + Eprint>(
     rt: &R,
     path: &str,
-    geometry: Geometry,
+    told: Told,
     made: Result<(), Unopened>,
     manner: Manner,
 ) -> u8
@@ -244,26 +264,11 @@ pub fn tell_made<R: AllocGlobal + Print + Eprint>(
     if let Err(unopened) = made {
         return explain_unopened(rt, &unopened, manner.style);
     }
-    let outcome = match print_created(path, geometry, manner.style, &mut io::writer(rt)) {
+    let outcome = match print_created(path, told, manner.style, &mut io::writer(rt)) {
         Ok(()) => Outcome::Done,
         Err(_) => Outcome::Failed,
     };
     explain(rt, outcome, &Known::nothing(), manner.style)
-}
-
-/// How many extents hold the runs of the index at most.
-fn run_extents(extents: u64) -> u64
-    ensures { result ≤ 2 }
-{
-    if extents >= 16 { 2 } else { 1 }
-}
-
-/// The bytes of the largest shard that a new store takes: 8 chunks, if there are extents enough beside those that puts
-/// leave.
-fn largest_shard(geometry: Geometry) -> u64 {
-    let extents = u64::from(geometry.extents());
-    let chunks = extents.saturating_sub(run_extents(extents) + 2).min(8);
-    chunks.saturating_mul(geometry.chunk_bytes() as u64)
 }
 
 /// What a word has at its end for so many things.
@@ -278,28 +283,28 @@ pub fn hex_of(geometry: Geometry) -> Simple {
 }
 
 /// Prints what was made.
-fn print_created<W: Write>(
-    path: &str,
-    geometry: Geometry,
-    style: Style,
-    writer: &mut W,
-) -> io::Result<()> {
+fn print_created<W: Write>(path: &str, told: Told, style: Style, writer: &mut W) -> io::Result<()> {
+    let Told {
+        geometry,
+        shard_size,
+    } = told;
     let extents = geometry.extents();
     let pages = geometry.pages();
     let sections = geometry.sections();
     let bytes = geometry.device_pages().saturating_mul(4096);
     let largest = largest_shard(geometry);
     let identifiers = geometry.most_weight() / 33;
+    let room = sure_bytes(geometry, shard_size).unwrap_or(0);
     let plural = plural_of(sections);
     let id = hex_of(geometry);
     match style {
         Style::Text => writeln!(
             writer,
-            "created {path}: format 4, id {id}, {extents} extents of {pages} pages, {sections} section{plural}: {bytes} bytes; shards up to {largest} bytes, up to {identifiers} identifiers of one chunk"
+            "created {path}: format 4, id {id}, {extents} extents of {pages} pages, {sections} section{plural}: {bytes} bytes; shards up to {largest} bytes, up to {identifiers} identifiers of one chunk\nroom for {room} bytes in shards of {shard_size} bytes"
         )?,
         Style::Json => writeln!(
             writer,
-            "{{\"created\":true,\"format\":4,\"id\":\"{id}\",\"extents\":{extents},\"pages\":{pages},\"sections\":{sections},\"bytes\":{bytes},\"shard_bytes\":{largest},\"identifiers\":{identifiers}}}"
+            "{{\"created\":true,\"format\":4,\"id\":\"{id}\",\"extents\":{extents},\"pages\":{pages},\"sections\":{sections},\"bytes\":{bytes},\"shard_bytes\":{largest},\"identifiers\":{identifiers},\"room_bytes\":{room},\"room_shard_bytes\":{shard_size}}}"
         )?,
     }
     writer.flush()

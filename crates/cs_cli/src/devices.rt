@@ -1,7 +1,7 @@
 //! The command `create --device`.
 ghost use Rattle.std.specs.Prelude.{◌≤◌, IfErr};
 
-use crate::creates::{Room, geometry_asked, identity_made, mode_given, tell_made};
+use crate::creates::{Room, Told, geometry_asked, identity_made, mode_given, tell_made};
 use crate::files::{OverFile, Written, device_disk};
 use crate::lefts::{left_on, warn_of_left};
 use crate::manners::Manner;
@@ -46,10 +46,16 @@ pub fn create_on_device<R: AllocGlobal + Files<File = File> + RandomSource + Pri
         Ok(disk) => disk,
         Err(status) => return status,
     };
-    tell_made(rt, path, geometry, make_on(rt, disk, geometry), manner)
+    tell_made(
+        rt,
+        path,
+        Told::of(geometry, options),
+        make_on(rt, disk, geometry),
+        manner,
+    )
 }
 
-/// The geometry that the options ask for on a device of so many pages, by default the greatest that fits; or the exit
+/// The geometry that the options ask for on a device of so many pages, by default one that takes all of it; or the exit
 /// status if none does.
 fn geometry_on<R: RandomSource + Eprint>(
     rt: &R,

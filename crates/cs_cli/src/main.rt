@@ -18,6 +18,7 @@ mod lefts;
 mod manners;
 mod openings;
 mod overs;
+mod overviews;
 mod progress;
 mod queries;
 mod repairs;

@@ -1,7 +1,7 @@
 //! The command `create --force` over a file.
 ghost use Rattle.std.specs.Prelude.{◌≤◌, IfErr};
 
-use crate::creates::{create_in_file, geometry_in_file, mode_given, tell_made};
+use crate::creates::{Told, create_in_file, geometry_in_file, mode_given, tell_made};
 use crate::devices::make_on;
 use crate::files::{Place, emptied_disk, is_block_device};
 use crate::lefts::{Left, left_in, warn_of_left};
@@ -39,7 +39,7 @@ pub fn create_over_file<
     tell_made(
         rt,
         path,
-        geometry,
+        Told::of(geometry, options),
         make_over(rt, path, geometry, manner),
         manner,
     )

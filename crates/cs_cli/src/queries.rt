@@ -1,10 +1,11 @@
 //! The commands over the whole of a store in a file: `list`, `stat`, `scrub`, `reclaim`, `export`.
-ghost use Rattle.std.specs.Prelude.{◌≤◌};
+ghost use Rattle.std.specs.Prelude.{◌≤◌, IfErr};
 
 use crate::fences::open_to_write;
 use crate::files::{OverFile, Place, Read, Written, disk_to_open};
 use crate::manners::{End, Manner};
 use crate::openings::{Opened, Shown, Unopened, open_store};
+use crate::overviews::{Wanted, show, wanted_of};
 use crate::progress::Told;
 use crate::seals::end_written;
 use crate::warnings::{explain_unopened, warn_of, warn_of_older};
@@ -16,7 +17,7 @@ use cs_mount::{AsOf, Mounted, Remade};
 use cs_options::{Listing, from_of, listing_of};
 use cs_tools::store::Store;
 use cs_tools::{
-    FoundPages, Known, Outcome, Progress, Style, explain, export, list, reclaim, scrub, stat,
+    Aim, FoundPages, Known, Outcome, Progress, Style, explain, export, list, reclaim, scrub, stat,
 };
 use std::alloc::Global;
 use std::fs::File;
@@ -27,21 +28,37 @@ use std::time::Clock;
 
 /// What is asked of the whole of a store.
 #[derive(Clone, Copy)]
-pub enum Query {
+pub enum Query<'a> {
     List(Listing),
     Stat(Style),
+    /// What a person wants to see.
+    Show(Wanted<'a>),
     Scrub(Style),
     /// From this identifier on.
     Export(ShardId),
 }
 
 /// What the command of this name asks of a store; none where a word is no identifier.
-pub fn query_of(name: &str, options: &ArgMatches, style: Style) -> Option<Query> {
+pub fn query_of<'a>(name: &str, options: &ArgMatches<'a>, style: Style) -> Option<Query<'a>> {
     match name {
-        "list" => listing_of(options).map(Query::List),
-        "export" => from_of(options).map(Query::Export),
-        "stat" => Some(Query::Stat(style)),
+        "list" => match listing_of(options) {
+            Some(listing) => Some(Query::List(listing)),
+            None => None,
+        },
+        "export" => match from_of(options) {
+            Some(from) => Some(Query::Export(from)),
+            None => None,
+        },
+        "stat" => Some(stat_of(options, style)),
         _ => Some(Query::Scrub(style)),
+    }
+}
+
+/// What `stat` asks of a store.
+fn stat_of<'a>(options: &ArgMatches<'a>, style: Style) -> Query<'a> {
+    match wanted_of(options) {
+        Some(wanted) => Query::Show(wanted),
+        None => Query::Stat(style),
     }
 }
 
@@ -71,10 +88,11 @@ pub fn ask_file<R: AllocGlobal + Clock + Files<File = File> + Print + Eprint>(
     ask_opened(rt, opened, query, manner, &mut writer)
 }
 
-/// Reclaims the extents with the most garbage of the store in a file, and gives the exit status.
+/// Reclaims extents of the store in a file, as far as is aimed at, and gives the exit status.
 pub fn reclaim_file<R: AllocGlobal + Clock + Files<File = File> + Print + Eprint>(
     rt: &R,
     place: Place,
+    aim: Aim,
     end: End,
     manner: Manner,
 ) -> u8
@@ -87,12 +105,12 @@ pub fn reclaim_file<R: AllocGlobal + Clock + Files<File = File> + Print + Eprint
         Ok(store) => store.into_core(),
         Err(unopened) => return explain_unopened(rt, &unopened, manner.style),
     };
-    let outcome = reclaim(rt.alloc(), &mut core, manner.style, &mut writer);
+    let outcome = reclaim(rt.alloc(), &mut core, aim, manner.style, &mut writer);
     end_written(rt, core, outcome, end, manner)
 }
 
 /// Asks the store that was opened, if it was, and gives the exit status.
-fn ask_opened<E: Shown + Drop, R: AllocGlobal + Clock + Eprint, W: Write>(
+fn ask_opened<E: Shown + Drop, R: AllocGlobal + Clock + Files<File = File> + Eprint, W: Write>(
     rt: &R,
     opened: Result<Opened<Store<E>>, Unopened>,
     query: Query,
@@ -122,7 +140,7 @@ fn ask_opened<E: Shown + Drop, R: AllocGlobal + Clock + Eprint, W: Write>(
 }
 
 /// Asks a store of whose pages this was found, and gives the exit status.
-fn ask_core<E: Shown + Drop, R: AllocGlobal + Clock + Eprint, W: Write>(
+fn ask_core<E: Shown + Drop, R: AllocGlobal + Clock + Files<File = File> + Eprint, W: Write>(
     rt: &R,
     mut core: Core<E>,
     pages: &FoundPages,
@@ -133,25 +151,32 @@ fn ask_core<E: Shown + Drop, R: AllocGlobal + Clock + Eprint, W: Write>(
     ensures { result ≤ 7 }
 {
     let told = Told::new(rt, manner);
-    let outcome = ask(rt.alloc(), &mut core, pages, query, &told, writer);
+    let outcome = match ask(rt, &mut core, pages, query, &told, writer) {
+        Ok(outcome) => outcome,
+        Err(status) => return status,
+    };
     let known = Known::of_system(core.into_disk().into_below().fault());
     explain(rt, outcome, &known, manner.style)
 }
 
-/// Asks a store of whose pages this was found.
-fn ask<D: PageDisk, P: Progress, W: Write>(
-    alloc: Global,
+/// Asks a store of whose pages this was found. It returns the exit status where the file of a picture wasn't made.
+fn ask<D: PageDisk, R: AllocGlobal + Files<File = File> + Eprint, P: Progress, W: Write>(
+    rt: &R,
     core: &mut Core<D>,
     pages: &FoundPages,
     query: Query,
     progress: &P,
     writer: &mut W,
-) -> Outcome {
+) -> Result<Outcome, u8>
+    ensures { IfErr result (λ status. status ≤ 7) }
+{
+    let alloc = rt.alloc();
     match query {
-        Query::List(listing) => list_of(alloc, core, listing, writer),
-        Query::Stat(style) => stat(alloc, core, style, writer),
-        Query::Scrub(style) => scrub(alloc, core, pages, progress, style, writer),
-        Query::Export(from) => export(alloc, core, from, progress, writer),
+        Query::List(listing) => Ok(list_of(alloc, core, listing, writer)),
+        Query::Stat(style) => Ok(stat(alloc, core, style, writer)),
+        Query::Show(wanted) => show(rt, core, wanted, writer),
+        Query::Scrub(style) => Ok(scrub(alloc, core, pages, progress, style, writer)),
+        Query::Export(from) => Ok(export(alloc, core, from, progress, writer)),
     }
 }
 

@@ -9,6 +9,7 @@ use crate::doctors::doctor_file;
 use crate::files::{Place, is_special, loss_of};
 use crate::manners::{End, Manner};
 use crate::overs::create_over_file;
+use crate::overviews::wanted_of;
 use crate::queries::{ask_file, query_of, reclaim_file};
 use crate::repairs::repair_file;
 use crate::salvages::{Asked, export_frames, get_rest, list_rest};
@@ -17,12 +18,12 @@ use clap::ArgMatches;
 use cs_disk::Access;
 use cs_frame::{ShardId, StoreId};
 use cs_options::{
-    NoFile, NoGeometry, device_pages_of, file_of, from_page_of, id_of, identity_of, listing_of,
-    lost_geometry_of, skipped_of, wait_of,
+    NoFile, NoGeometry, NoReach, Reach, device_pages_of, file_of, from_page_of, id_of, identity_of,
+    listing_of, lost_geometry_of, reach_of, skipped_of, wait_of,
 };
 use cs_tools::rescue::Whose;
 use cs_tools::store::Loss;
-use cs_tools::{Depth, Known, Outcome, explain, graph};
+use cs_tools::{Aim, Depth, Known, Outcome, explain, graph};
 use std::fs::File;
 use std::io;
 use std::io::BufWriter;
@@ -363,7 +364,13 @@ fn run_query<R: AllocGlobal + Clock + Files<File = File> + Print + Eprint>(
         return cs_words::COMMAND_LINE;
     }
     if name == "reclaim" {
-        return reclaim_file(rt, place_to_write(path, options), End::of(options), manner);
+        return run_reclaim(rt, options, path, manner);
+    }
+    if options.get_flag("json") && wanted_of(options).is_some() {
+        let _ = eprintln!(rt;
+            "error: --summary, --map and --map-svg are for a person: leave out --json"
+        );
+        return cs_words::COMMAND_LINE;
     }
     let place = match place_to_read(rt, path, options) {
         Ok(place) => place,
@@ -373,6 +380,45 @@ fn run_query<R: AllocGlobal + Clock + Files<File = File> + Print + Eprint>(
         Some(query) => ask_file(rt, place, options.get_flag("as-of"), query, manner),
         None => tell_no_id(rt),
     }
+}
+
+/// Reclaims the store in a file, as far as the options ask for.
+fn run_reclaim<R: AllocGlobal + Clock + Files<File = File> + Print + Eprint>(
+    rt: &R,
+    options: &ArgMatches,
+    path: &str,
+    manner: Manner,
+) -> u8
+    ensures { result ≤ 7 }
+{
+    let aim = match reach_of(options) {
+        Ok(Reach::Usual) => Aim::Pairs,
+        Ok(Reach::Put(bytes)) => Aim::Room(bytes as usize),
+        Ok(Reach::Brim) => Aim::Brim,
+        Err(why) => return tell_no_reach(rt, why),
+    };
+    reclaim_file(
+        rt,
+        place_to_write(path, options),
+        aim,
+        End::of(options),
+        manner,
+    )
+}
+
+/// Reports why it isn't known how far a reclaim is to go, and gives the exit status.
+fn tell_no_reach<R: Eprint>(rt: &R, why: NoReach) -> u8
+    ensures { result ≤ 7 }
+{
+    let _ = match why {
+        NoReach::Both => eprintln!(rt;
+            "error: --for and --all both say how far to reclaim: give one of them"
+        ),
+        NoReach::NoSize => eprintln!(rt;
+            "error: --for takes a number of bytes, or of K, M, G or T, each 1,024 of the one before: 4M"
+        ),
+    };
+    cs_words::COMMAND_LINE
 }
 
 /// Draws the plan document on standard input.

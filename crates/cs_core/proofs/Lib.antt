@@ -19,6 +19,7 @@ pub mod KeptCopies
 pub mod KeptMoves
 pub mod KeptPuts
 pub mod KeptStages
+pub mod Known
 pub mod Leaving
 pub mod Loading
 pub mod Looking
@@ -31,9 +32,13 @@ pub mod Moves
 pub mod MovesApart
 pub mod NewTaken
 pub mod Noted
+pub mod NotedChunks
+pub mod NotedFrames
+pub mod NotedLengths
 pub mod Opening
 pub mod Opens
 pub mod Puts
+pub mod PutRefusals
 pub mod PutsMeant
 pub mod Readying
 pub mod Refusing

@@ -89,6 +89,13 @@ newest_roomed g room image view are p = go (are p)
     go (inl n) = inl (record { number = n.number; waits = n.waits; write = n.write; last = n.last })
     go (inr none) = inr none
 
+pub newest_in_room : (g : GraphState) (room : ℕ) (image : Image) (view : ℕ → List ℕ) → AreNewest g image view → AreNewest (record g { room = room }) image view
+newest_in_room g room image view are p = go (are p)
+  where
+    go : IsReadAs g image p (view p) → IsReadAs (record g { room = room }) image p (view p)
+    go (inl n) = inl (record { number = n.number; waits = n.waits; write = n.write; last = n.last })
+    go (inr none) = inr none
+
 -- ---- what is kept
 
 module _ {D : Type 0} (disks : PageDisk D) {v : View D} (core : IsCore disks v) (after : D) (reads : OnlyReads disks v.disk after) where

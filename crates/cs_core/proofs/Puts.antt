@@ -57,7 +57,7 @@ frames_length S F (c ∷ cs) = ap suc (frames_length S F cs)
 -- what was placed of a put that isn't too heavy may be entered
 pub light_placed : (b : Bool) (x y : ExtentsState) (g h : GraphState) (i j : IndexState) (id command : ℕ) (bytes : List ℕ) (cs : List (List ℕ)) (ls : List Spot)
     → ArePayloads (shape x) (formats_of (shape x)) id command bytes cs → AreAppendedBy b x g ForPut (chunk_frames (shape x) (formats_of (shape x)) cs) ls y h
-    → ((pieces : List (List ℕ)) → Chunked (shape x).chunk_bytes bytes pieces → weight_with (weigh_in i.format) (index_of i) id (length pieces) ≤ i.limit)
+    → ((pieces : List (List ℕ)) → Chunked ((shape x).piece_bytes (length bytes)) bytes pieces → weight_with (weigh_in i.format) (index_of i) id (length pieces) ≤ i.limit)
     → j ≡ record i { room = j.room } → weight_with (weigh_in j.format) (index_of j) id (length ls) ≤ j.limit
 light_placed b x y g h i j id command bytes cs ls are all light roomed =
     let many : length ls ≡ length are.0 = placed_length b x y g h ForPut (chunk_frames (shape x) (formats_of (shape x)) cs) ls all
@@ -66,20 +66,20 @@ light_placed b x y g h i j id command bytes cs ls are all light roomed =
     (subst (λ (n : ℕ). weight_with (weigh_in i.format) (index_of i) id n ≤ i.limit) (sym many) (light are.0 are.1))
 
 -- the pieces of a put are as many as were weighed
-module _ (S : Shape) (index : IndexState) (id count : ℕ) (bytes : List ℕ) (counts : (pieces : List (List ℕ)) → Chunked S.chunk_bytes bytes pieces → length pieces ≡ count) where
+module _ (S : Shape) (index : IndexState) (id count : ℕ) (bytes : List ℕ) (counts : (pieces : List (List ℕ)) → Chunked (S.piece_bytes (length bytes)) bytes pieces → length pieces ≡ count) where
   abbrev weight : ℕ → ℕ
   weight n = weight_with (weigh_in index.format) (index_of index) id n
 
-  pub too_heavy : 0 < S.chunk_bytes → index.limit < weight count → IsTooHeavy S index id bytes
+  pub too_heavy : 0 < S.piece_bytes (length bytes) → index.limit < weight count → IsTooHeavy S index id bytes
   too_heavy some over =
-      let pieces = chunked_there S.chunk_bytes bytes some in
+      let pieces = chunked_there (S.piece_bytes (length bytes)) bytes some in
       (pieces.0, pieces.1, subst (λ (n : ℕ). index.limit < weight n) (sym (counts pieces.0 pieces.1)) over)
 
   module _ (fits : index.limit < weight count → ⊥) where
     pub not_heavy : IsTooHeavy S index id bytes → ⊥
     not_heavy heavy = fits (subst (λ (n : ℕ). index.limit < weight n) (counts heavy.0 heavy.1) heavy.2)
 
-    pub light_enough : (pieces : List (List ℕ)) → Chunked S.chunk_bytes bytes pieces → weight (length pieces) ≤ index.limit
+    pub light_enough : (pieces : List (List ℕ)) → Chunked (S.piece_bytes (length bytes)) bytes pieces → weight (length pieces) ≤ index.limit
     light_enough pieces cut = subst (λ (n : ℕ). weight n ≤ index.limit) (sym (counts pieces cut)) (no_heavier index.limit (weight count) fits)
 
 -- a test that failed

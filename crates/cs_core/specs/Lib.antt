@@ -4,6 +4,8 @@ pub mod Checkpoints
 pub mod Disks
 pub mod Frontiers
 pub mod Histories
+pub mod Known
+pub mod Lengths
 pub mod Lookups
 pub mod Meanings
 pub mod Openings

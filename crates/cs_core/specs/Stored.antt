@@ -108,7 +108,7 @@ but_for_room s = record s { graph = record s.graph { room = 0 }; index = record 
 -- with an entry of the chunks of these bytes in place of what the identifier has, the newest entries of an index weigh
 -- more than they may
 abbrev pub IsTooHeavy : Shape → IndexState → (id : ℕ) → (bytes : List ℕ) → Type 0
-IsTooHeavy S index id bytes = (pieces : List (List ℕ)) × Chunked S.chunk_bytes bytes pieces
+IsTooHeavy S index id bytes = (pieces : List (List ℕ)) × Chunked (S.piece_bytes (length bytes)) bytes pieces
     × (index.limit < weight_with (weigh_in index.format) (index_of index) id (length pieces))
 
 -- why a put is refused where the number of commands is the greatest, whatever its identifier and its number: 30 where

@@ -105,7 +105,7 @@ impl Store {
 
 /// Why a put is refused if no further command can be numbered: 30 `Full` comes before 35 `WornOut`.
 fn why_worn(extents: &Extents, cut: Cut) -> Refusal
-    requires { cut.pages ≡ (shape extents.now).pages }
+    requires { cut.pages ≤ (shape extents.now).pages }
     ensures { (bytes : List ℕ) → IsCut (shape extents.now) (length bytes) cut → IsWhyWorn extents.now bytes result }
 {
     if cut.fits(extents) {

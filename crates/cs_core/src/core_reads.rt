@@ -1,5 +1,5 @@
 //! What is read of a store: Get, which is an event, and the calls beside it, which are none.
-ghost use Rattle.std.specs.Prelude.{◌≡◌, ◌≢◌, ◌+◌, ◌<◌, ◌≤◌, ◌↔◌, ◌⊎◌, [], ℕ, IfErr, IfOk, IfSome, List, MatchBool, MatchResult, None, length, map, IsTrue};
+ghost use Rattle.std.specs.Prelude.{◌≡◌, ◌≢◌, ◌+◌, ◌<◌, ◌≤◌, ◌↔◌, ◌⊎◌, [], ℕ, IfErr, IfOk, IfSome, List, MatchBool, MatchResult, None, Some, length, map, IsTrue};
 ghost use Rattle.cs_chunk.specs.Chunks.{IsFrameIn, IsMeant, kind_of};
 ghost use Rattle.cs_chunk.specs.Lengths.{IsHeaderRefusal, IsOfFaultOrMark, header_fault_in, length_at};
 ghost use Rattle.cs_chunk.specs.Newest.{AreNewest};
@@ -7,19 +7,23 @@ ghost use Rattle.cs_chunk.specs.Reads.{AnswersFault, IsCaused, IsNoAnswer, IsRea
 ghost use Rattle.cs_disk.specs.Disk.{seen, LeavesOnly};
 ghost use Rattle.cs_disk.specs.Reads.{OnlyReads};
 ghost use Rattle.cs_extent.specs.State.{shape};
+ghost use Rattle.cs_frame.specs.declared.frames.FrameKind.TheVariants.{Chunk};
 ghost use Rattle.cs_frame.specs.Formats.{as_locator, formats_of};
 ghost use Rattle.cs_frame.specs.Frames.{page_count};
 ghost use Rattle.cs_index.specs.State.{id_number, index_of};
 ghost use Rattle.law_machine.specs.Index.{live_at};
+ghost use Rattle.cs_core.specs.Known.{AreKnown, IsGiven};
+ghost use Rattle.cs_core.specs.Lengths.{noted_at};
 ghost use Rattle.cs_core.specs.Lookups.{AreMeantBytes, IsSaid, TellsSize, IsReading, IsSize};
 ghost use Rattle.cs_core.specs.Reads.{GetAnswers};
 ghost use Rattle.cs_reader.specs.ImageReads.{page_total};
 ghost use Rattle.law_machine.specs.State.{State, map_now};
-ghost use Rattle.cs_core.specs.Stored.{AreInside};
+ghost use Rattle.cs_core.specs.Stored.{AreInside, but_for_room};
 ghost use Rattle.cs_core.specs.Views.{IsIn};
 ghost use Rattle.cs_core.specs.Prefixes.{IsPrefixOf};
 
 use crate::cores::Core;
+use crate::lengths::Lengths;
 use crate::stores::Store;
 use cs_chunk::{read_chunks, read_frame, read_length, read_lengths};
 use cs_disk::PageDisk;
@@ -111,8 +115,10 @@ impl Store {
     }
 
     /// How many bytes the payload of the frame of this kind has that begins at a place, as `read_length` of cs_chunk.
+    /// What is noted is returned without a read. What is read is noted if memory allows it.
     pub fn read_length<D: PageDisk>(
         &self,
+        lengths: &mut Lengths,
         disk: &mut D,
         kind: FrameKind,
         place: Locator,
@@ -120,6 +126,11 @@ impl Store {
         requires device { page_total (shape self.now.extents) ≡ D.page_count disk.old }
         requires extent { place.extent < (shape self.now.extents).extents }
         requires page { place.page < (shape self.now.extents).pages }
+        requires known { AreKnown D.PageDisk (but_for_room self.now) disk.old lengths.old }
+        // If the length of a chunk is noted, and its place is on a page that is given now, the disk isn't asked.
+        ensures noted { (count : ℕ) → noted_at lengths.old place ≡ Some count → kind ≡ Chunk → IsGiven self.now.extents place
+            → (result ≡ Ok count) × (disk.new ≡ disk.old) }
+        ensures known { AreKnown D.PageDisk (but_for_room self.now) disk.new lengths.new }
         ensures told { D.honest disk.old → (view : ℕ → List ℕ) → AreNewest self.now.graph (seen (D.state disk.old)) view
             → IfOk result (λ count. count ≡ length_at (shape self.now.extents) view place) }
         ensures read { D.honest disk.old → (view : ℕ → List ℕ) (payload : List ℕ) → AreNewest self.now.graph (seen (D.state disk.old)) view
@@ -135,7 +146,16 @@ impl Store {
     {
         // Called for its contract alone: what all extents keep.
         self.extents.extent_count();
-        read_length(&self.extents, &self.graph, disk, kind, place)
+        if let Some(count) = self.known_length(lengths, kind, place) {
+            return Ok(count);
+        }
+        match read_length(&self.extents, &self.graph, disk, kind, place) {
+            Ok(count) => {
+                let _ = self.note_read(lengths, kind, place, count);
+                Ok(count)
+            }
+            Err(refusal) => Err(refusal),
+        }
     }
 
     /// Whether the index has places of a shard's chunks.
@@ -243,7 +263,10 @@ impl<D: PageDisk> Core<D> {
 
     /// How many bytes the payload of the frame of this kind has that begins at a place, by the frame's first page: the
     /// newest write to it that waits, else what the device has. Only the header is tested: a frame whose digest or
-    /// padding is damaged has a length too. It takes no memory itself.
+    /// padding is damaged has a length too.
+    ///
+    /// The length of a chunk is kept, and given again without a read until the chunk's extent is emptied. So is that of
+    /// a chunk that was put or moved. It takes up to 32 bytes a chunk; if memory is refused the length isn't kept.
     ///
     /// 20 `BadMagic`, 24 `BadVersion` or 22 `BadLength`, the first test that fails, if no header of this kind is there.
     /// 26 `Misplaced` if one is there of a frame that the place doesn't mean, or if its digest is damaged. 1
@@ -274,7 +297,8 @@ impl<D: PageDisk> Core<D> {
     {
         // Called for its contract alone: what all extents keep.
         self.store.extent_count();
-        self.store.read_length(&mut self.disk, kind, place)
+        self.store
+            .read_length(&mut self.lengths, &mut self.disk, kind, place)
     }
 
     /// The extents: their geometry, and of each its pointer, its generation, and whether it is open or being swept.

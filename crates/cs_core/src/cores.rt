@@ -39,6 +39,7 @@ ghost use Rattle.cs_core.specs.Prefixes.{IsPrefixOf};
 use crate::core_openings::{flush_and_read, start_store};
 use crate::events::{Bytes, Event, OutOfMemory, Reply};
 use crate::histories::{History, replay_events};
+use crate::lengths::Lengths;
 use crate::stores::Store;
 use cs_deps::{Dependency, Element, GraphView, LAST_NUMBER, Plan};
 use cs_disk::PageDisk;
@@ -69,18 +70,21 @@ pub struct Core<D: PageDisk> {
     pub(crate) store: Store,
     history: History,
     limit: usize,
+    // how long the chunks are that were read, put or moved, which contracts don't see
+    pub(crate) lengths: Lengths,
 }
 
 impl<D: PageDisk> Model for Core<D> {
     ghost use Rattle.std.specs.Prelude.{◌≤◌, length};
     ghost use Rattle.cs_core.specs.Stored.{but_for_room};
-    ghost use Rattle.cs_core.specs.Views.{IsCore, View};
+    ghost use Rattle.cs_core.specs.Known.{KeepsKnown};
+    ghost use Rattle.cs_core.specs.Views.{View};
 
     ghost Value = { View D };
 
     ghost view = { λ c. record { disk = c.disk; opened = (D.state c.opened.value).durable; found = c.found; store = but_for_room c.store; history = c.history.all; base = c.history.base; limit = c.limit } };
 
-    ghost invariant = { λ c. IsCore D.PageDisk (record { disk = c.disk; opened = (D.state c.opened.value).durable; found = c.found; store = but_for_room c.store; history = c.history.all; base = c.history.base; limit = c.limit }) };
+    ghost invariant = { λ c. KeepsKnown D.PageDisk (record { disk = c.disk; opened = (D.state c.opened.value).durable; found = c.found; store = but_for_room c.store; history = c.history.all; base = c.history.base; limit = c.limit }) c.lengths };
 }
 
 impl<D: PageDisk> Core<D> {
@@ -127,6 +131,7 @@ impl<D: PageDisk> Core<D> {
                 store,
                 history: History::new(alloc),
                 limit: limits.history,
+                lengths: Lengths::none(alloc),
             }),
             Err(fault) => Err((fault, disk)),
         }
@@ -187,6 +192,7 @@ impl<D: PageDisk> Core<D> {
                 store: found.store,
                 history: History::new(alloc),
                 limit: limits.history,
+                lengths: Lengths::none(alloc),
             }),
             Err(refusal) => Err((refusal, disk)),
         }
@@ -230,14 +236,16 @@ impl<D: PageDisk> Core<D> {
         ensures honest { D.honest self.old.disk ↔ D.honest self.new.disk }
         ensures pages { D.page_count self.new.disk ≡ D.page_count self.old.disk }
     {
-        // Called for its contract alone: what all extents keep.
-        self.store.extent_count();
+        self.store.keeps_whole();
         if event.is_limited() && self.limit <= self.history.kept().len() {
             return Ok(Reply::Refused(Refusal::HistoryFull));
         }
         self.history.reserve()?;
         let kept = event.copy()?;
         let (reply, noted) = self.store.serve(&mut self.disk, event)?;
+        self.store.keeps_whole();
+        // If memory is refused some lengths aren't noted, and have to be read.
+        let _ = self.store.note_done(&mut self.lengths, event, &reply);
         self.history.push(kept, noted);
         Ok(reply)
     }
@@ -401,15 +409,7 @@ impl<D: PageDisk> Core<D> {
     pub fn into_disk(self) -> D
         ensures { result ≡ self.disk }
     {
-        let Core {
-            alloc: _,
-            disk,
-            opened: _,
-            found: _,
-            store: _,
-            history: _,
-            limit: _,
-        } = self;
+        let (disk, _) = self.into_parts();
         disk
     }
 }
@@ -492,6 +492,7 @@ impl<D: PageDisk> Core<D> {
             store: _,
             history,
             limit: _,
+            lengths: _,
         } = self;
         (disk, history.into_kept())
     }

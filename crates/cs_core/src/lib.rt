@@ -3,7 +3,8 @@
 //!
 //! An event goes through `cores` (`apply`) and `stores` (`serve`), which refuses most of them where the store is
 //! halted, to one call of a `Store`: `commands`, `core_reads`, `stagings`, `rounds` or `sweep_events`. `core_openings`
-//! makes a new store, or one of what cs_reader reads.
+//! makes a new store, or one of what cs_reader reads. `known_lengths` keeps in memory how long chunks are that were
+//! read, put or moved (`lengths`).
 #![tactic(auto)]
 
 mod commands;
@@ -13,6 +14,8 @@ mod core_reads;
 mod cores;
 mod events;
 mod histories;
+mod known_lengths;
+mod lengths;
 mod rounds;
 mod stagings;
 mod stores;

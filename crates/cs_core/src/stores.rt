@@ -1,7 +1,7 @@
 //! A store without its disk: extents, the graph of what waits, the index, and how far the round that is out has come;
 //! and how it serves an event.
 ghost use Rattle.std.specs.Prelude.{◌≡◌, ◌+◌, ◌^◌, ◌<◌, ◌≤◌, MatchBool, MatchOption, None, Some, ◌≢◌, IfOk, OnErr, false};
-ghost use Rattle.cs_deps.specs.State.{AreCounted};
+ghost use Rattle.cs_deps.specs.State.{AreCounted, IsWhole as IsWholeGraph};
 ghost use Rattle.cs_extent.specs.State.{IsWhole, shape};
 ghost use Rattle.cs_core.specs.Stored.{AreInside, IsKept, Stored, but_for_room};
 ghost use Rattle.cs_disk.specs.Disk.{State as DiskState};
@@ -104,6 +104,15 @@ impl Store {
         ensures whole { IsWhole self.now.extents }
     {
         self.extents.extent_count()
+    }
+
+    /// Called for its contract alone: what all stores keep of their extents and of what waits.
+    pub fn keeps_whole(&self)
+        ensures extents { IsWhole self.now.extents }
+        ensures graph { IsWholeGraph self.now.graph }
+    {
+        self.extents.extent_count();
+        self.graph.families();
     }
 
     /// The index. Its contract says what all stores keep of it.

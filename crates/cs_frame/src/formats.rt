@@ -8,6 +8,7 @@ ghost use Rattle.cs_frame.specs.Runs.{greatest_chunks};
 ghost use Rattle.cs_frame.specs.Superblocks.{FitsRecord, record_in};
 ghost use Rattle.law_machine.specs.Format.{Four, Two};
 ghost use Rattle.law_machine.specs.Geometry.{apart_in, by_size_in, fills_in, head_bytes_in, heads_in, marks_in, pages_first_in, records_in, twins_in, weigh_in};
+ghost use Rattle.law_machine.specs.Pieces.{evenly_in};
 
 use crate::geometries::file_pages;
 use crate::identities::StoreId;
@@ -100,7 +101,8 @@ pub(crate) enum Known {
 ///
 /// In format 2 chunks and runs may lie on one extent, and a section of the superblock needs the pages that it counts.
 /// In format 4 they lie apart, places have marks, chunks have heads, and the pages of superblock and root lie twice.
-/// A store of format 4 has an identity, and says how many pages its device had when it was made.
+/// There the bytes of a shard are cut in even pieces. A store of format 4 has an identity, and says how many pages its
+/// device had when it was made.
 #[derive(Clone, Copy, Debug, PartialEq, Eq)]
 pub struct Format {
     known: Known,
@@ -249,6 +251,16 @@ impl Format {
     /// Whether the payload of a chunk has a head.
     pub fn has_heads(self) -> bool
         ensures { result ≡ heads_in self }
+    {
+        match self.known {
+            Known::Two => false,
+            Known::Four { .. } => true,
+        }
+    }
+
+    /// Whether the bytes of a shard are cut in even pieces. If not, all but the last are as long as may be.
+    pub fn cuts_evenly(self) -> bool
+        ensures { result ≡ evenly_in self }
     {
         match self.known {
             Known::Two => false,

@@ -83,9 +83,9 @@ impl ExtentUse {
 }
 
 /// How each extent is used, in the order of the extents. A chunk counts on the extent where it begins. The page of its
-/// header is read once, from the newest write to it that waits, else from the device. If the header fails a test, or
-/// the device refuses the read, the chunk counts as unreadable. It costs a read for each live chunk, and memory for all
-/// of them and for the extents.
+/// header is read once, from the newest write to it that waits, else from the device, unless the core knows the chunk's
+/// length. If the header fails a test, or the device refuses the read, the chunk counts as unreadable. It costs a read
+/// for each live chunk of which the core doesn't know the length, and memory for all of them and for the extents.
 pub fn uses<D: PageDisk>(alloc: Global, core: &mut Core<D>) -> Result<Vec<ExtentUse>, AllocError>
     ensures extents { IfOk result (λ uses. AreExtents (shape core.old.store.extents).extents (extents_of core.old.store.extents) uses.items) }
     // Whatever reads failed, the counts are those of what was read.

@@ -3,5 +3,7 @@ pub mod Devices
 pub mod Files
 pub mod Sizes
 pub mod Sizings
+pub mod SureRooms
 pub mod Wishes
 pub mod Salvages
+pub mod Reaches

@@ -218,3 +218,38 @@ pub const MODE: Choice = Choice {
     takes: Takes::TextOr("OCTAL", "0600"),
     help: "The permissions of the new file",
 };
+
+/// The option for a reclaim that makes room for a put.
+pub const FOR: Choice = Choice {
+    name: "for",
+    takes: Takes::Text("BYTES"),
+    help: "Goes on until a put of so many bytes has room: a number of bytes, or of K, M, G or T",
+};
+
+/// The option for a reclaim up to the brim.
+pub const ALL: Choice = Choice {
+    name: "all",
+    takes: Takes::Nothing,
+    help: "Goes on until no page is dead and no sweep is sure to gain anything",
+};
+
+/// The option for the figures that a person asks for.
+pub const SUMMARY: Choice = Choice {
+    name: "summary",
+    takes: Takes::Nothing,
+    help: "Prints a few lines instead: how full the store is, how much can still be put, and what a further page costs",
+};
+
+/// The option for a map of the extents.
+pub const MAP: Choice = Choice {
+    name: "map",
+    takes: Takes::Nothing,
+    help: "Prints one character for each extent instead, after the lines of --summary if that is given",
+};
+
+/// The option for a picture of the extents.
+pub const MAP_SVG: Choice = Choice {
+    name: "map-svg",
+    takes: Takes::Text("PATH"),
+    help: "Writes the map as a picture into a new file",
+};

@@ -56,11 +56,14 @@ lay on the device before are left out, unless --any-store is given. Pages that c
 the exit status is 5 unless all of the file was read, and the index has just these shards.";
 
 /// Of `stat`.
-pub const STAT: &str = "Example:
-  cs_cli stat s.store
+pub const STAT: &str = "Examples:
+  cs_cli stat s.store                    all figures, with a line for each extent
+  cs_cli stat s.store --summary --map    a few lines, and a character for each extent
+  cs_cli stat s.store --map-svg map.svg  a picture of the extents
 
 An extent's pointer is the number of its pages that are in use. Those of them that no shard has are dead: runs of the
-index, and what was put again or deleted. Empty extents have no line.";
+index, and what was put again or deleted. Empty extents have no line.
+The room that --summary prints is what puts find with `reclaim --for` between them.";
 
 /// Of `scrub`.
 pub const SCRUB: &str = "Example:
@@ -80,11 +83,14 @@ It opens the file for reading and writes nothing. A page that cannot be read is 
 Exit status: 0 sound, 5 degraded, 3 the store is not to be opened, 6 in use, 7 not there or not allowed.";
 
 /// Of `reclaim`.
-pub const RECLAIM: &str = "Example:
-  cs_cli reclaim s.store
+pub const RECLAIM: &str = "Examples:
+  cs_cli reclaim s.store           as long as what lives on two extents fits on one
+  cs_cli reclaim s.store --for 4M  until a put of 4 MiB has room
+  cs_cli reclaim s.store --all     until nothing is left to gain
 
 It moves the live chunks off the extents that have the most garbage, so that these extents can be written anew.
-Each line reports an extent; the last one says how many are empty now and were before.";
+Each line reports an extent; the last one says how many are empty now and were before.
+With --for, status 1 (refused 30 Full) means that the put has no room though nothing is left to gain.";
 
 /// Of `create`.
 pub const CREATE: &str = "Examples:

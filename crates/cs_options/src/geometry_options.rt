@@ -1,8 +1,11 @@
 //! Which geometry a new store gets.
-ghost use Rattle.std.specs.Prelude.{◌≡◌, ◌↔◌, ◌⊎◌, ◌*◌, ◌/◌, ◌+◌, ◌<◌, ◌≤◌, ℕ, IfErr, IfOk, IfSome, IsNone, IsSome, IsTrue};
-ghost use Rattle.cs_frame.specs.Geometries.{file_format, file_pages, sections_needed};
-ghost use Rattle.cs_options.specs.Wishes.{Holds, IsEnough, NoneSuits, Suits};
+ghost use Rattle.std.specs.Prelude.{◌≡◌, ◌↔◌, ◌⊎◌, ◌*◌, ◌-◌, ◌/◌, ◌+◌, ◌<◌, ◌≤◌, ℕ, IfErr, IfOk, IfSome, IsNone, IsSome, IsTrue};
+ghost use Rattle.cs_frame.specs.Geometries.{IsGeometry, file_format, file_pages, sections_needed};
+ghost use Rattle.cs_options.specs.SureRooms.{Takes, full_extents, largest_shard, put_extents, sure_room};
+ghost use Rattle.cs_options.specs.Wishes.{Holds, IsEnough, NoneRoomier, NoneSuits, OfAllThatSuit, Suits, piece_bytes, usual_pages};
 
+use crate::shard_cuts::{CHUNK_OVERHEAD, Cut, MOST_CHUNKS};
+use crate::sure_rooms::{RUN_OVERHEAD, full_extents, put_extents, room_of};
 use cs_frame::{Geometry, StoreId};
 
 /// What a new store is to hold, and how large it may be.
@@ -23,191 +26,198 @@ pub struct TooSmall {
     pub least: Option<u64>,
 }
 
-/// The most chunks of a shard.
-const MOST_CHUNKS: u64 = 8;
-
-/// The extents that puts leave empty: up to two for the runs of the index, and two for sweeps. So a shard of some
-/// chunks that is put, and put again before its old chunks are swept, needs twice as many extents and these.
-const LEFT_BY_PUTS: u64 = 4;
-
-/// The pages that a superblock of one section and the root have, with their second copies.
-const PAIRED_PAGES: u64 = 4;
-
 /// The most extents of a store.
 const MOST_EXTENTS: u64 = 7_680;
 
 /// The most pages of an extent.
 const MOST_PAGES: u64 = 65_535;
 
-/// How many extents a store gets if nothing asks for larger ones.
-const USUAL_EXTENTS: u64 = 64;
-
-/// The pages of an extent above which more extents are made before larger ones: 4 MiB, which is what a sweep moves at
-/// most.
+/// The pages of an extent above which none is made if that is enough: 4 MiB, which is what a sweep moves at most.
 const USUAL_PAGES: u64 = 1_024;
 
-/// The bytes of an extent that no piece of a shard has: the header of a frame and the head of a chunk.
-const CHUNK_OVERHEAD: u64 = 75;
-
-/// The bytes of an extent that no entry of the index has: the header of a frame, the front of the store's identity and
-/// the count of a run.
-const RUN_OVERHEAD: u64 = 53;
+/// The extents of a section.
+const SECTION_EXTENTS: u64 = 512;
 
 /// The bytes of an entry of the index for a shard of one chunk.
 const ENTRY_BYTES: u64 = 33;
 
-/// The geometry that a new store with this identity gets, in a file as large as the store needs. It has some 64
-/// extents, and from 256 MiB on more, of 1,024 pages. They are larger if the shards ask for it, or if there would be
-/// too many. If no geometry does what is wished, the least size comes with which one does.
+/// The geometry that a new store with this identity gets, in a file as large as the store needs. Of all that do what is
+/// wished it has the most pages that are sure to hold shards. Its extents have 4 MiB at most, if the wish asks for no
+/// larger ones. If no geometry does what is wished, it returns the least size with which one does.
 pub fn geometry_for(wish: Wish, store: StoreId) -> Result<Geometry, TooSmall>
     ensures format { IfOk result (λ geometry. geometry.format ≡ file_format store.0 geometry.extents geometry.pages geometry.sections) }
-    ensures suits { IfOk result (λ geometry. (chunks : ℕ) × Suits wish.size wish.shard_size wish.shards geometry.format geometry.extents geometry.pages geometry.sections chunks) }
-    ensures none { IfErr result (λ _. (chunks : ℕ) → NoneSuits wish.size wish.shard_size wish.shards chunks) }
+    ensures suits { IfOk result (λ geometry. Suits wish.size wish.shard_size wish.shards geometry.format geometry.extents geometry.pages geometry.sections) }
+    ensures roomiest { IfOk result (λ geometry. NoneRoomier wish.size wish.shard_size wish.shards (usual_pages wish.size wish.shard_size wish.shards) (sure_room wish.shard_size geometry.extents geometry.pages)) }
+    ensures small { IfOk result (λ geometry. (geometry.pages ≤ usual_pages wish.size wish.shard_size wish.shards) ⊎ OfAllThatSuit wish.size wish.shard_size wish.shards (λ _ pages. usual_pages wish.size wish.shard_size wish.shards < pages)) }
+    ensures none { IfErr result (λ _. NoneSuits wish.size wish.shard_size wish.shards) }
     ensures enough { IfErr result (λ small. IfSome small.least (IsEnough wish.shard_size wish.shards)) }
-    ensures least { IfErr result (λ small. (size chunks : ℕ) → IfSome small.least (λ least. size < least) → NoneSuits size wish.shard_size wish.shards chunks) }
+    ensures least { IfErr result (λ small. (size : ℕ) → IfSome small.least (λ least. size < least) → NoneSuits size wish.shard_size wish.shards) }
 {
-    let pages = usual_pages(wish.size).max(pages_needed(wish, MOST_CHUNKS));
-    let chunks = chunks_of(wish.shard_size, pages);
-    if let Some(geometry) = with_pages(wish, store, pages, chunks) {
+    if let Some(geometry) = roomiest(wish, store, usual_pages(wish)) {
         return Ok(geometry);
     }
-    for fewer in 0..MOST_CHUNKS {
-        if let Some(geometry) = with_chunks(wish, store, MOST_CHUNKS - fewer) {
-            return Ok(geometry);
-        }
+    if let Some(geometry) = roomiest(wish, store, MOST_PAGES) {
+        return Ok(geometry);
     }
     Err(TooSmall {
         least: least_size(wish),
     })
 }
 
-/// How many pages an extent gets on a device of so many bytes, if nothing asks for more.
-fn usual_pages(size: u64) -> u64 {
-    let pages = size / 4096;
-    (pages / USUAL_EXTENTS)
-        .min(USUAL_PAGES)
-        .max(pages.div_ceil(MOST_EXTENTS).min(MOST_PAGES))
-}
-
-/// How many pages an extent needs, so that the largest shard has room in so many chunks, and the index has room.
-fn pages_needed(wish: Wish, chunks: u64) -> u64
-    requires { 1 ≤ chunks }
-    ensures some { 2 ≤ result }
-    ensures enough { result ≤ 65535 → Holds wish.shard_size wish.shards chunks result }
-    ensures least { (pages : ℕ) → Holds wish.shard_size wish.shards chunks pages → result ≤ pages }
+/// How many pages an extent has at most, if that is enough.
+fn usual_pages(wish: Wish) -> u64
+    ensures { result ≡ usual_pages wish.size wish.shard_size wish.shards }
 {
-    let chunk = longest_piece(wish.shard_size, chunks);
-    let run = wish.shards.saturating_mul(ENTRY_BYTES);
-    let pages = pages_of(chunk.saturating_add(CHUNK_OVERHEAD));
-    pages.max(pages_of(run.saturating_add(RUN_OVERHEAD))).max(2)
+    let shards = wish.shards.max(wish.size / wish.shard_size.max(4096));
+    let run = shards
+        .saturating_mul(ENTRY_BYTES)
+        .saturating_add(RUN_OVERHEAD);
+    let spread = (wish.size / 4096).div_ceil(MOST_EXTENTS);
+    USUAL_PAGES
+        .max(wish.shard_size.div_ceil(4096))
+        .max(spread.max(run.div_ceil(4096)))
+        .min(MOST_PAGES)
 }
 
-/// How many bytes the longest of so many pieces has at least.
-fn longest_piece(bytes: u64, pieces: u64) -> u64
-    requires { 1 ≤ pieces }
-    ensures enough { bytes ≤ pieces * result }
-    ensures least { (piece : ℕ) → bytes ≤ pieces * piece → result ≤ piece }
-{
-    bytes.div_ceil(pieces)
-}
-
-/// How many pages have room for so many bytes.
-fn pages_of(bytes: u64) -> u64
-    ensures enough { bytes ≤ 4096 * result }
-    ensures least { (pages : ℕ) → bytes ≤ 4096 * pages → result ≤ pages }
-{
-    bytes.div_ceil(4096)
-}
-
-/// How many chunks a shard of so many bytes has if an extent has so many pages.
-fn chunks_of(shard_size: u64, pages: u64) -> u64 {
-    let chunk = pages.saturating_mul(4096).saturating_sub(CHUNK_OVERHEAD);
-    shard_size.div_ceil(chunk.max(1)).max(1)
-}
-
-/// The geometry with as few pages an extent as so many chunks need, and as many extents as the size allows.
-fn with_chunks(wish: Wish, store: StoreId, chunks: u64) -> Option<Geometry>
-    requires some { 1 ≤ chunks }
-    requires most { chunks ≤ 8 }
+/// Of the geometries that do what is wished, with so many pages an extent at most, the one with the most pages that are
+/// sure to hold shards. Of several it is the one with the smallest extents.
+fn roomiest(wish: Wish, store: StoreId, most: u64) -> Option<Geometry>
+    requires { most ≤ 65535 }
     ensures format { IfSome result (λ geometry. geometry.format ≡ file_format store.0 geometry.extents geometry.pages geometry.sections) }
-    ensures suits { IfSome result (λ geometry. Suits wish.size wish.shard_size wish.shards geometry.format geometry.extents geometry.pages geometry.sections chunks) }
-    ensures none { IsNone result → NoneSuits wish.size wish.shard_size wish.shards chunks }
+    ensures suits { IfSome result (λ geometry. Suits wish.size wish.shard_size wish.shards geometry.format geometry.extents geometry.pages geometry.sections) }
+    ensures roomiest { IfSome result (λ geometry. NoneRoomier wish.size wish.shard_size wish.shards most (sure_room wish.shard_size geometry.extents geometry.pages)) }
+    ensures small { IfSome result (λ geometry. geometry.pages ≤ most) }
+    ensures none { IsNone result → OfAllThatSuit wish.size wish.shard_size wish.shards (λ _ pages. most < pages) }
 {
-    with_pages(wish, store, pages_needed(wish, chunks), chunks)
+    let mut best: Option<Geometry> = None;
+    for pages in 2..most + 1 {
+        best = roomier(wish.shard_size, best, with_pages(wish, store, pages));
+    }
+    best
+}
+
+/// The geometry of two that is sure to hold more, and the first if they hold as much.
+fn roomier(shard_size: u64, one: Option<Geometry>, other: Option<Geometry>) -> Option<Geometry>
+    requires one { IfSome one (λ geometry. shard_size ≤ 8 * piece_bytes geometry.pages) }
+    requires other { IfSome other (λ geometry. shard_size ≤ 8 * piece_bytes geometry.pages) }
+    ensures among { (result ≡ one) ⊎ (result ≡ other) }
+    ensures none { IsNone result → IsNone one × IsNone other }
+    ensures first { IfSome result (λ best. IfSome one (λ geometry. sure_room shard_size geometry.extents geometry.pages ≤ sure_room shard_size best.extents best.pages)) }
+    ensures second { IfSome result (λ best. IfSome other (λ geometry. sure_room shard_size geometry.extents geometry.pages ≤ sure_room shard_size best.extents best.pages)) }
+{
+    match (one, other) {
+        (Some(one), Some(other)) => {
+            if room_of(one, shard_size) < room_of(other, shard_size) {
+                Some(other)
+            } else {
+                Some(one)
+            }
+        }
+        (Some(one), None) => Some(one),
+        (None, other) => other,
+    }
 }
 
 /// The geometry with so many pages an extent, and as many extents as the size allows; none if that doesn't do what is
-/// wished with so many chunks.
-fn with_pages(wish: Wish, store: StoreId, pages: u64, chunks: u64) -> Option<Geometry>
-    requires { 2 ≤ pages }
+/// wished.
+fn with_pages(wish: Wish, store: StoreId, pages: u64) -> Option<Geometry>
+    requires { pages ≤ 65535 }
     ensures format { IfSome result (λ geometry. geometry.format ≡ file_format store.0 geometry.extents geometry.pages geometry.sections) }
-    ensures suits { IfSome result (λ geometry. Suits wish.size wish.shard_size wish.shards geometry.format geometry.extents geometry.pages geometry.sections chunks) }
-    ensures some { 1 ≤ chunks → chunks ≤ 8 → Holds wish.shard_size wish.shards chunks pages → ((2 * chunks + 4) * pages + 4) * 4096 ≤ wish.size → IsSome result }
+    ensures suits { IfSome result (λ geometry. Suits wish.size wish.shard_size wish.shards geometry.format geometry.extents geometry.pages geometry.sections) }
+    ensures pages { IfSome result (λ geometry. geometry.pages ≡ pages) }
+    ensures roomiest { IfSome result (λ geometry. OfAllThatSuit wish.size wish.shard_size wish.shards (λ extents each. each ≡ pages → sure_room wish.shard_size extents each ≤ sure_room wish.shard_size geometry.extents geometry.pages)) }
+    ensures none { IsNone result → OfAllThatSuit wish.size wish.shard_size wish.shards (λ _ each. each ≡ pages → ⊥) }
 {
+    if !holds(wish, pages) {
+        return None;
+    }
     let extents = extents_on(wish.size, pages);
+    if !takes_two(wish.shard_size, extents, pages) {
+        return None;
+    }
     // Called for its contract alone: an identity has 16 bytes.
     store.bytes();
-    let geometry = Geometry::for_file(store, extents, pages, None).ok()?;
-    if suits(wish, geometry, chunks) {
-        Some(geometry)
-    } else {
-        None
-    }
+    Geometry::for_file(store, extents, pages, None).ok()
+}
+
+/// Whether a shard of the largest size isn't too long with so many pages an extent, and the index has room.
+fn holds(wish: Wish, pages: u64) -> bool
+    requires { pages ≤ 65535 }
+    ensures { IsTrue result ↔ Holds wish.shard_size wish.shards pages }
+{
+    2 <= pages
+        && wish.shard_size <= MOST_CHUNKS * (4096 * pages - CHUNK_OVERHEAD)
+        && wish.shards <= (4096 * pages - RUN_OVERHEAD) / ENTRY_BYTES
+}
+
+/// Whether a shard of so many bytes can be put, each shorter one too, and this one again before anything is swept.
+fn takes_two(shard_size: u64, extents: u64, pages: u64) -> bool
+    requires shard_size { shard_size ≤ 8 * piece_bytes pages }
+    requires extents { extents ≤ 7680 }
+    requires pages { (2 ≤ pages) × (pages ≤ 65535) }
+    ensures { IsTrue result ↔ ((shard_size ≤ largest_shard extents pages) × Takes 2 shard_size extents pages) }
+{
+    let cut = Cut::of(shard_size, pages);
+    shard_size <= full_extents(extents) * (4096 * pages - CHUNK_OVERHEAD)
+        && 2 * cut.chunks <= put_extents(extents) * (pages / cut.longest)
 }
 
 /// How many extents of so many pages a device of so many bytes has room for.
 fn extents_on(size: u64, pages: u64) -> u64
-    requires { 2 ≤ pages }
+    requires { (2 ≤ pages) × (pages ≤ 65535) }
     ensures most { result ≤ 7680 }
     ensures room { 1 ≤ result → file_pages result pages (sections_needed result) ≤ size / 4096 }
-    // As many as a shard of 8 chunks asks for at most are found where one section is enough for them.
-    ensures enough { (extents : ℕ) → extents ≤ 20 → extents * pages + 4 ≤ size / 4096 → extents ≤ result }
+    ensures greatest { (extents : ℕ) → extents ≤ 7680 → file_pages extents pages (sections_needed extents) ≤ size / 4096 → extents ≤ result }
 {
-    let device = size / 4096;
-    let most = (device.saturating_sub(PAIRED_PAGES) / pages).min(MOST_EXTENTS);
-    // Each section of the superblock has its two pages.
-    let superblock = 2 * most.div_ceil(512) + 2;
-    (device.saturating_sub(superblock) / pages).min(most)
-}
-
-/// Whether a store of this geometry does what is wished, with so many chunks for the largest shard.
-fn suits(wish: Wish, geometry: Geometry, chunks: u64) -> bool
-    ensures { IsTrue result ↔ Suits wish.size wish.shard_size wish.shards geometry.format geometry.extents geometry.pages geometry.sections chunks }
-{
-    let extents = u64::from(geometry.extents());
-    geometry.format().has_twins()
-        && geometry.device_pages() <= wish.size / 4096
-        && 1 <= chunks
-        && chunks <= MOST_CHUNKS
-        && 2 * chunks + LEFT_BY_PUTS <= extents
-        && wish.shard_size <= chunks * geometry.chunk_bytes() as u64
-        && wish.shards <= geometry.most_weight() as u64 / ENTRY_BYTES
+    // The root has two pages, and the superblock two for each section.
+    let left = (size / 4096).saturating_sub(2);
+    let section = SECTION_EXTENTS * pages + 2;
+    let rest = (left % section).saturating_sub(2);
+    (SECTION_EXTENTS * (left / section) + rest / pages).min(MOST_EXTENTS)
 }
 
 /// The least size with which a geometry does what is wished; none if no size is enough.
 fn least_size(wish: Wish) -> Option<u64>
     ensures enough { IfSome result (IsEnough wish.shard_size wish.shards) }
-    ensures least { (size chunks : ℕ) → IfSome result (λ least. size < least) → NoneSuits size wish.shard_size wish.shards chunks }
+    ensures least { (size : ℕ) → IfSome result (λ least. size < least) → NoneSuits size wish.shard_size wish.shards }
 {
     let mut least: Option<u64> = None;
-    for fewer in 0..MOST_CHUNKS {
-        least = lesser(least, size_with(wish, MOST_CHUNKS - fewer));
+    for pages in 2..MOST_PAGES + 1 {
+        least = lesser(least, size_with(wish, pages));
     }
     least
 }
 
-/// The least size with which one does so with so many chunks for the largest shard.
-fn size_with(wish: Wish, chunks: u64) -> Option<u64>
-    requires some { 1 ≤ chunks }
-    requires most { chunks ≤ 8 }
+/// The least size with which one does so with so many pages an extent.
+fn size_with(wish: Wish, pages: u64) -> Option<u64>
+    requires { pages ≤ 65535 }
     ensures enough { IfSome result (IsEnough wish.shard_size wish.shards) }
-    ensures least { (size : ℕ) → IfSome result (λ least. size < least) → NoneSuits size wish.shard_size wish.shards chunks }
+    ensures least { (size : ℕ) → IfSome result (λ least. size < least) → OfAllThatSuit size wish.shard_size wish.shards (λ _ each. each ≡ pages → ⊥) }
 {
-    let pages = pages_needed(wish, chunks);
-    if pages > MOST_PAGES {
+    if !holds(wish, pages) {
         return None;
     }
-    Some(4096 * ((2 * chunks + LEFT_BY_PUTS) * pages + PAIRED_PAGES))
+    let cut = Cut::of(wish.shard_size, pages);
+    let full = wish.shard_size.div_ceil(4096 * pages - CHUNK_OVERHEAD);
+    let extents = extents_for(cut.chunks, pages / cut.longest, full);
+    // One section is enough for them.
+    Some(4096 * (extents * pages + 4))
+}
+
+/// The least number of extents that take two shards of so many chunks, if an extent takes so many chunks, and each
+/// shard that so many extents hold.
+fn extents_for(chunks: u64, each: u64, full: u64) -> u64
+    requires chunks { chunks ≤ 8 }
+    requires each { 1 ≤ each }
+    requires full { full ≤ 8 }
+    ensures bounds { (5 ≤ result) × (result ≤ 20) }
+    ensures enough { 2 * chunks ≤ put_extents result * each }
+    ensures holds { full ≤ full_extents result }
+    ensures least { (extents : ℕ) → 5 ≤ extents → 2 * chunks ≤ put_extents extents * each → full ≤ full_extents extents → result ≤ extents }
+{
+    let used = (2 * chunks).div_ceil(each).max((2 * full).min(8)).max(2);
+    // From 16 extents on two of them may hold the index.
+    if used <= 12 { used + 3 } else { used + 4 }
 }
 
 /// The lesser of two sizes.

@@ -9,9 +9,12 @@ mod files;
 mod forms;
 mod geometry_options;
 mod options;
+mod reclaim_options;
 mod salvage_options;
+mod shard_cuts;
 mod sizes;
 mod sizings;
+mod sure_rooms;
 mod tables;
 
 pub use commands::command;
@@ -22,6 +25,8 @@ pub use files::{
 };
 pub use geometry_options::{TooSmall, Wish, geometry_for};
 pub use options::{Listing, Measure, from_of, geometry_of, id_of, listing_of, measure_of, race_of};
+pub use reclaim_options::{NoReach, Reach, reach_of};
 pub use salvage_options::{NoGeometry, from_page_of, lost_geometry_of};
 pub use sizes::size_of;
-pub use sizings::{Sizing, USUAL_SIZE, exact_of, sizing_of, wish_of};
+pub use sizings::{Sizing, USUAL_SIZE, exact_of, shard_size_of, sizing_of, wish_of};
+pub use sure_rooms::{largest_shard, sure_bytes};

@@ -67,12 +67,19 @@ pub fn wish_of(options: &ArgMatches, usual: u64) -> Option<Wish>
         × (size_at options.now (codes "shard-size") 1048576 ≡ Some wish.shard_size) × (shards_asked options.now ≡ wish.shards)) }
 {
     let size = size_given(options, "size", usual)?;
-    let shard_size = size_given(options, "shard-size", USUAL_SHARD)?;
+    let shard_size = shard_size_of(options)?;
     Some(Wish {
         size,
         shard_size,
         shards: number_given(options, "shards").unwrap_or(1),
     })
+}
+
+/// The size of the largest shard that the options ask for. It returns None if the text is no size.
+pub fn shard_size_of(options: &ArgMatches) -> Option<u64>
+    ensures { result ≡ size_at options.now (codes "shard-size") 1048576 }
+{
+    size_given(options, "shard-size", USUAL_SHARD)
 }
 
 /// The size of an option, with this default. It returns None if the text is no size.

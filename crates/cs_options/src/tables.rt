@@ -1,10 +1,10 @@
 //! The commands, each with its options.
 
 use crate::choices::{
-    ACCEPT_LOSS, ANY_STORE, AS_OF, DEEP, DEVICE, DEVICE_PAGES, EXTENTS, FILE, FORCE, FROM,
-    FROM_PAGE, IDENTITY, JSON, LOST_EXTENTS, LOST_PAGES, LOST_SECTIONS, MODE, NO_LOCK, NO_SEAL,
-    PAGES, REPAIR, SALVAGE, SALVAGE_FRAMES, SECTIONS, SHARD, SHARD_SIZE, SHARDS, SIZE, SKIP_EXTENT,
-    STORE, WAIT,
+    ACCEPT_LOSS, ALL, ANY_STORE, AS_OF, DEEP, DEVICE, DEVICE_PAGES, EXTENTS, FILE, FOR, FORCE,
+    FROM, FROM_PAGE, IDENTITY, JSON, LOST_EXTENTS, LOST_PAGES, LOST_SECTIONS, MAP, MAP_SVG, MODE,
+    NO_LOCK, NO_SEAL, PAGES, REPAIR, SALVAGE, SALVAGE_FRAMES, SECTIONS, SHARD, SHARD_SIZE, SHARDS,
+    SIZE, SKIP_EXTENT, STORE, SUMMARY, WAIT,
 };
 use crate::examples;
 use crate::forms::{Choice, Form, Takes};
@@ -101,6 +101,9 @@ pub const WHOLE_FORMS: &[Form] = &[
         after: Some(examples::STAT),
         options: &[
             STORE,
+            SUMMARY,
+            MAP,
+            MAP_SVG,
             IDENTITY,
             AS_OF,
             DEVICE_PAGES,
@@ -148,6 +151,8 @@ pub const WHOLE_FORMS: &[Form] = &[
         after: Some(examples::RECLAIM),
         options: &[
             STORE,
+            FOR,
+            ALL,
             ACCEPT_LOSS,
             SKIP_EXTENT,
             NO_SEAL,

@@ -6,8 +6,9 @@ use Rattle.std.proofs.lemmas.Option.{same_Some}
 use Rattle.cs_index.specs.Copies.{copy_of, newest_copies, numbered}
 use Rattle.cs_index.specs.declared.counted_copies.ChunkCopy.{ChunkCopy}
 use Rattle.law_machine.specs.Apart.{any_copy_on, some_copy}
-use Rattle.law_machine.specs.Element.{Copy}
-use Rattle.cs_reclaim.specs.Copied.{last_of}
+use Rattle.cs_frame.specs.Formats.{place_of}
+use Rattle.law_machine.specs.Element.{Copy, Locator as Place}
+use Rattle.cs_reclaim.specs.Copied.{last_of, last_place_of}
 
 -- one more is the newest
 pub noted_more : (cs : List ChunkCopy) (c : ChunkCopy) → newest_copies (cs ++ c ∷ []) ≡ copy_of c ∷ newest_copies cs
@@ -94,6 +95,17 @@ last_noted (b ∷ []) c is = ap (λ (d : ChunkCopy). Some (numbered (d.id, d.chu
 last_noted (b ∷ d ∷ cs) c is =
     let up : length (b ∷ d ∷ cs) - 1 ≡ suc (length (d ∷ cs) - 1) = omega arith in
     last_append (newest_copies (d ∷ cs)) (copy_of b) (numbered (c.id, c.chunk)) (last_noted (d ∷ cs) c (subst (λ n. slice_get (b ∷ d ∷ cs) n ≡ Some c) up is))
+
+place_append : (xs : List Copy) (x : Copy) (p : Place) → last_place_of xs ≡ Some p → last_place_of (xs ++ x ∷ []) ≡ Some p
+place_append [] x p is = absurd (cc is)
+place_append (y ∷ xs) x p is = is
+
+pub place_noted : (cs : List ChunkCopy) (c : ChunkCopy) → slice_get cs (length cs - 1) ≡ Some c → last_place_of (newest_copies cs) ≡ Some (place_of c.to)
+place_noted [] c is = absurd (cc is)
+place_noted (b ∷ []) c is = ap (λ (d : ChunkCopy). Some (place_of d.to)) (same_Some b c is)
+place_noted (b ∷ d ∷ cs) c is =
+    let up : length (b ∷ d ∷ cs) - 1 ≡ suc (length (d ∷ cs) - 1) = omega arith in
+    place_append (newest_copies (d ∷ cs)) (copy_of b) (place_of c.to) (place_noted (d ∷ cs) c (subst (λ n. slice_get (b ∷ d ∷ cs) n ≡ Some c) up is))
 
 pub last_none : (cs : List ChunkCopy) → slice_get cs (length cs - 1) ≡ None → last_of (newest_copies cs) ≡ None
 last_none [] is = refl

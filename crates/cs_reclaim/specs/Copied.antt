@@ -27,6 +27,11 @@ abbrev pub last_of : List Copy → Option (ℕ × ℕ)
 last_of [] = None
 last_of (c ∷ cs) = Some (c.id, c.chunk)
 
+-- where the last copy lies, if there is one
+abbrev pub last_place_of : List Copy → Option Place
+last_place_of [] = None
+last_place_of (c ∷ cs) = Some c.to
+
 -- of an index each chunk that lives on the extent is copied, up to the one that was copied last
 abbrev pub AllUpTo : (index : List Entry) → List Copy → ℕ → Type 0
 AllUpTo index copies e = (id chunk : ℕ) (l : Place) → nth (live_at index id) chunk ≡ Some l → l.extent ≡ e

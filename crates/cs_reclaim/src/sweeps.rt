@@ -8,7 +8,7 @@ ghost use Rattle.cs_disk.specs.Reads.{OnlyReads};
 ghost use Rattle.cs_extent.specs.Appended.{IsReady};
 ghost use Rattle.cs_extent.specs.State.{extents_of, shape};
 ghost use Rattle.cs_frame.specs.declared.frames.FrameKind.TheVariants.{Chunk};
-ghost use Rattle.cs_frame.specs.Formats.{as_locator};
+ghost use Rattle.cs_frame.specs.Formats.{as_locator, place_of};
 ghost use Rattle.cs_index.specs.Copies.{numbered};
 ghost use Rattle.cs_index.specs.Merges.{deletions_go, stage_takes};
 ghost use Rattle.cs_index.specs.Staged.{IsExact};
@@ -19,7 +19,7 @@ ghost use Rattle.law_machine.specs.Formats.{ChunkFrame};
 ghost use Rattle.law_machine.specs.Index.{live_at, lookup};
 ghost use Rattle.law_machine.specs.Lists.{◌∈◌};
 ghost use Rattle.cs_reclaim.specs.ByRule.{IsBegunIn, IsMovedIn, IsNextIn, IsRetireExactIn, IsRetiredIn, IsSweepFullIn, IsSweepStagedIn, IsSweepWornIn, IsSweptIn, MayNotBeginIn, MayStageIn, NothingToMoveIn, StaysIn, is_left_over_in};
-ghost use Rattle.cs_reclaim.specs.Copied.{AllUpTo, AreInOrder, last_of};
+ghost use Rattle.cs_reclaim.specs.Copied.{AllUpTo, AreInOrder, last_of, last_place_of};
 ghost use Rattle.cs_reclaim.specs.Moves.{AnswersMove, AnswersPlace, IsMoveFull, IsMoveWorn};
 ghost use Rattle.cs_reclaim.specs.Sweeps.{IsMarked, IsNotMarked};
 
@@ -28,7 +28,7 @@ use crate::sweeps_v2::{Sweep, is_sweepable, retire_extent};
 use cs_deps::Graph;
 use cs_disk::PageDisk;
 use cs_extent::Extents;
-use cs_frame::ShardId;
+use cs_frame::{Locator, ShardId};
 use cs_index::{ChunkCopy, Index};
 use cs_refusal::Refusal;
 use std::alloc::Global;
@@ -79,6 +79,16 @@ impl Sweeps {
         ensures { result ≡ length self.now }
     {
         self.copies.len()
+    }
+
+    /// Where the last copy lies.
+    pub fn last_place(&self) -> Option<Locator>
+        ensures { option_map place_of result ≡ last_place_of self.now }
+    {
+        match self.copies.last() {
+            Some(copy) => Some(copy.to),
+            None => None,
+        }
     }
 
     /// Which chunk was copied last, by identifier and number, counted from 0.

@@ -1,6 +1,7 @@
 -- Puts of which each chunk has a whole frame.
 use Rattle.std.proofs.Common.{◌≡◌, ◌∙◌, ℕ, zero, suc, ◌*◌, ◌<◌, ◌≤◌, ◌^◌, true, List, [], ◌∷◌, length, get_or, inl, inr, refl, sym, ap, arith}
 use Rattle.std.specs.List.{Contains}
+use Rattle.std.proofs.lemmas.Bool.{cases_lt}
 use Rattle.std.proofs.lemmas.List.Elements.{Contains-get_or}
 use Rattle.sha2.specs.Sha256.{sha256}
 use Rattle.cs_disk.specs.Disk.{Image}
@@ -8,8 +9,11 @@ use Rattle.cs_frame.specs.Frames.{page_count}
 use Rattle.cs_frame.specs.Geometries.{FitsFormat}
 use Rattle.cs_frame.specs.Identifiers.{id_number}
 use Rattle.law_machine.proofs.Counting.{few_chunks}
+use Rattle.law_machine.proofs.Pieces.{few_pieces}
 use Rattle.law_machine.specs.Events.{ArePayloads}
+use Rattle.law_machine.specs.Format.{Format}
 use Rattle.law_machine.specs.Geometry.{heads_in, store_front}
+use Rattle.law_machine.specs.Pieces.{chunk_bytes_in, piece_bytes_in}
 use Rattle.cs_salvage.specs.declared.parts.Part.{Part}
 use Rattle.cs_salvage.specs.declared.parts.Put.{Put}
 use Rattle.cs_salvage.specs.declared.searches.Sought.{Sought}
@@ -35,6 +39,13 @@ listed {A = A} P (suc n) each =
 taken : (whose : Whose) (own : List ℕ) → AreTaken whose own own
 taken OfStore own = refl
 taken OfAny own = tt
+
+-- eight pieces are enough for what eight chunks hold
+eight_enough : (format : Format) (pages bytes : ℕ) → bytes ≤ 8 * chunk_bytes_in format pages → bytes ≤ 8 * piece_bytes_in format pages bytes
+eight_enough format pages bytes short = elim (cases_lt 0 (chunk_bytes_in format pages)) [
+  | inl some ↦ few_pieces format pages bytes some short
+  | inr none ↦ omega (arith, short, none)
+]
 
 module _ (sought : Sought) (image : Image) (put : Put) (bytes : List ℕ) (payloads : List (List ℕ))
     (are : ArePayloads (shape_in sought.geometry) (formats_in sought.geometry) (id_number put.id) put.command bytes payloads) where
@@ -102,5 +113,6 @@ module _ (sought : Sought) (image : Image) (put : Put) (bytes : List ℕ) (paylo
       → HasFrames sought.geometry image payloads → HasOnly sought image put payloads → (parts : List Part) → AreParts sought image parts → IsWhole parts put
   is_whole small fits heads id short frames only parts all =
       let count = many sought.geometry put bytes payloads are in
-      let few : length are.0 ≤ 8 = few_chunks (shape_in sought.geometry).chunk_bytes 8 bytes are.0 (omega arith) are.1.2 are.1.0 short in
+      let few : length are.0 ≤ 8 = few_chunks ((shape_in sought.geometry).piece_bytes (length bytes)) 8 bytes are.0 (omega arith) are.1.2 are.1.0
+      (eight_enough sought.geometry.format sought.geometry.pages (length bytes) short) in
       all_there small fits heads id (omega (arith, count, few)) frames parts all (clear fits only parts all) (omega (arith, count, are.1.1))

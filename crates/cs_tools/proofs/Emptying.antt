@@ -1,16 +1,15 @@
 -- Chosen extents that are emptied one after another.
-use Rattle.std.proofs.Common.{◌≡◌, ◌≢◌, ◌∙◌, ◌⊎◌, ap, inl, inr, ◌+◌, ◌*◌, ◌-◌, ◌^◌, ◌≤◌, ℕ, add-one, arith, min, subst, sym}
+use Rattle.std.proofs.Common.{◌≡◌, ◌≢◌, ◌∙◌, ◌⊎◌, ap, inl, inr, ◌+◌, ℕ, add-one, subst, sym}
 use Rattle.cs_core.specs.Views.{View}
 use Rattle.cs_disk.specs.declared.disk.PageDisk.{Ghosts as PageDisk}
-use Rattle.cs_extent.specs.State.{State as Extents, IsWhole, shape}
-use Rattle.cs_frame.specs.Geometries.{greatest_extents}
+use Rattle.cs_extent.specs.State.{State as Extents, shape}
 use Rattle.law_machine.specs.Device.{Shape}
-use Rattle.law_machine.specs.Format.{Format, Four, Two}
 use Rattle.law_machine.specs.Extents.{empties}
 use Rattle.std.specs.Prelude.{Err, IfErr, IfOk, IsErrAnd, List, OnOk, Option, Result, Ok}
 use Rattle.cs_extent.specs.State.{extents_of}
 use Rattle.cs_refusal.specs.declared.refusals.Refusal.{Refusal as Why}
 use Rattle.cs_refusal.specs.declared.refusals.Refusal.TheVariants.{OutOfMemory}
+use Rattle.cs_tools.specs.declared.aims.Aim.{Aim}
 use Rattle.cs_tools.specs.declared.outputs.Style.{Style}
 use Rattle.cs_tools.specs.declared.reclaim_command.Stop.{Stop}
 use Rattle.cs_tools.specs.declared.reclaim_command.Stop.TheVariants.{Failed, Refused}
@@ -20,20 +19,9 @@ use Rattle.cs_tools.specs.declared.outcomes.Outcome.{Outcome}
 use Rattle.cs_tools.specs.declared.outcomes.Outcome.TheVariants.{Damaged, Done}
 use Rattle.cs_tools.specs.Reclaims.{EmptiesChosen, EmptiesTimes, IfRefused, LieApart, empty_extents}
 
-pub one_more : {D : Type 0} (disks : PageDisk D) (style : Style) (n : ℕ) (old mid new : View D) (a b c : Option (List ℕ)) → EmptiesTimes disks style n old mid a b → EmptiesChosen disks style mid new b c
-    → EmptiesTimes disks style (n + 1) old new a c
-one_more {D} disks style n old mid new a b c times more = subst (λ (k : ℕ). EmptiesTimes disks style k old new a c) (sym (add-one n)) (mid, b, times, more)
-
-few : (format : Format) → greatest_extents format ≤ 7680
-few Two = omega arith
-few (Four store device) = omega arith
-
--- two for each extent, of which there are so few
-pub two_each : (x held : Extents) (count most : ℕ) → x ≡ held → IsWhole x → count ≡ (shape x).extents → most ≡ min (count * 2) (2 ^ 64 - 1) → most ≡ 2 * (shape held).extents
-two_each x held count most same whole is twice =
-    let bound : greatest_extents x.format ≤ 7680 = few x.format in
-    let le : (shape x).extents ≤ greatest_extents x.format = whole.geometry.most_extents in
-    subst (λ (y : Extents). most ≡ 2 * (shape y).extents) same (omega (arith, bound, le, is, twice))
+pub one_more : {D : Type 0} (disks : PageDisk D) (aim : Aim) (style : Style) (n : ℕ) (old mid new : View D) (a b c : Option (List ℕ)) → EmptiesTimes disks aim style n old mid a b → EmptiesChosen disks aim style mid new b c
+    → EmptiesTimes disks aim style (n + 1) old new a c
+one_more {D} disks aim style n old mid new a b c times more = subst (λ (k : ℕ). EmptiesTimes disks aim style k old new a c) (sym (add-one n)) (mid, b, times, more)
 
 -- of those who say that nothing is chosen the counts are the same
 pub same_count : {E : Type 0} (n m : ℕ) → ◌≡◌ {A = Result Sought E} (Ok (Nothing n)) (Ok (Nothing m)) → n ≡ m

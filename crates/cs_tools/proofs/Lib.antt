@@ -1,4 +1,5 @@
 pub mod Advising
+pub mod Aiming
 pub mod Appended
 pub mod Changing
 pub mod Continued
@@ -7,9 +8,12 @@ pub mod Drawing
 pub mod Emptying
 pub mod Exported
 pub mod Exporting
+pub mod Figuring
 pub mod Getting
 pub mod Hexes
 pub mod Knowing
+pub mod Outlines
+pub mod Overviewing
 pub mod Payloads
 pub mod Putting
 pub mod Quiet
@@ -18,6 +22,7 @@ pub mod Reading
 pub mod Rescuing
 pub mod Resting
 pub mod Retelling
+pub mod Rows
 pub mod Salvaging
 pub mod Scrubbing
 pub mod Still

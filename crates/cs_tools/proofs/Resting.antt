@@ -1,5 +1,5 @@
 -- What a reclaim that ends well leaves.
-use Rattle.std.proofs.Common.{◌≡◌, ◌≢◌, ◌∙◌, ◌⊎◌, ℕ, ◌<◌, List, [], ◌∷◌, false, true, Ok, Err, refl, sym, ap, subst, inl, inr, arith}
+use Rattle.std.proofs.Common.{◌≡◌, ◌∙◌, ◌⊎◌, ℕ, zero, suc, ◌<◌, List, [], ◌∷◌, false, true, Ok, Err, refl, sym, ap, subst, inl, inr, arith}
 use Rattle.std.specs.Prelude.{IsOk, OnOk, Result}
 use Rattle.cs_core.specs.declared.events.Event.{Event}
 use Rattle.cs_core.specs.declared.events.Event.TheVariants.{Put}
@@ -9,7 +9,6 @@ use Rattle.cs_core.specs.Stored.{Stored}
 use Rattle.cs_core.specs.Views.{View}
 use Rattle.cs_refusal.specs.declared.refusals.Refusal.{Refusal}
 use Rattle.cs_disk.proofs.OnlyRead.{reads_none}
-use Rattle.cs_disk.specs.Reads.{OnlyReads}
 use Rattle.cs_disk.specs.declared.disk.PageDisk.{Ghosts as PageDisk}
 use Rattle.cs_writeback.specs.Histories.{IsRefused, IsStopped, Went}
 use Rattle.cs_frame.specs.declared.identifiers.ShardId.{ShardId}
@@ -28,17 +27,46 @@ store_read {D} a b same = ap (λ (v : View D). v.store) same
 pub persists : {D : Type 0} (a b : View D) → b.store ≡ a.store → IsPersistent a → IsPersistent b
 persists a b same is = subst (λ (v : Stored). v.frontier ≡ v.accepted) (sym same) is
 
--- so many extents were emptied
-abbrev pub IsSoFar : {D : Type 0} → (old new : View D) → ℕ → Type 0
-IsSoFar old new count = ((count ≡ 0) × (new ≡ old)) ⊎ ((0 < count) × IsPersistent new)
+-- nothing was done, and no extent was emptied since; or all is persistent
+abbrev pub IsSoFar : {D : Type 0} → (old new : View D) → (since : ℕ) → Type 0
+IsSoFar old new since = ((since ≡ 0) × (new ≡ old)) ⊎ IsPersistent new
 
-pub some_emptied : {D : Type 0} (old new : View D) (count : ℕ) → count ≢ 0 → IsSoFar old new count → IsPersistent new
-some_emptied old new count some (inl none) = absurd (some none.0)
-some_emptied old new count some (inr done) = done.1
+persists_since : {D : Type 0} (old new : View D) (since : ℕ) → IsSoFar old new since → 0 < since → IsPersistent new
+persists_since old new since (inl none) some = absurd (omega (arith, none.0, some))
+persists_since old new since (inr done) some = done
 
-pub none_emptied : {D : Type 0} (disks : PageDisk D) (first old new : View D) (count : ℕ) → count ≡ 0 → old ≡ record first { disk = old.disk } → OnlyReads disks first.disk old.disk → IsSoFar old new count → ReadsOn disks first new
-none_emptied {D} disks first old new count none same reads (inl is) = subst (λ (v : View D). ReadsOn disks first v) (sym is.1) (same, reads)
-none_emptied {D} disks first old new count none same reads (inr done) = absurd (omega (arith, done.0, none))
+-- a shard may be put again where some were emptied, and else nothing is done
+pub settled : {D : Type 0} (P : Type 0) (old new : View D) (since : ℕ) → (since ≡ 0 → new ≡ old) → (since ≡ 0 → P) → (0 < since → IsPersistent new) → ((new ≡ old) × P) ⊎ IsPersistent new
+settled P old new zero none p rests = inl (none refl, p refl)
+settled P old new (suc n) none p rests = inr (rests (omega arith))
+
+module _ {D : Type 0} (P : Type 0) (first old new : View D) (since left : ℕ) (so_far : IsSoFar first old since) (step : (0 < since → IsPersistent old) → ((new ≡ old) × P) ⊎ IsPersistent new) where
+  pub so_far_then : (P → left ≡ since) → IsSoFar first new left
+  so_far_then same = go so_far (step (persists_since first old since so_far))
+    where
+      go : IsSoFar first old since → ((new ≡ old) × P) ⊎ IsPersistent new → IsSoFar first new left
+      go (inl none) (inl is) = inl (same is.1 ∙ none.0, is.0 ∙ none.1)
+      go (inr done) (inl is) = inr (subst (λ (v : View D). IsPersistent v) (sym is.0) done)
+      go before (inr done) = inr done
+
+  pub so_far_none : IsSoFar first new 0
+  so_far_none = go so_far (step (persists_since first old since so_far))
+    where
+      go : IsSoFar first old since → ((new ≡ old) × P) ⊎ IsPersistent new → IsSoFar first new 0
+      go (inl none) (inl is) = inl (refl, is.0 ∙ none.1)
+      go (inr done) (inl is) = inr (subst (λ (v : View D). IsPersistent v) (sym is.0) done)
+      go before (inr done) = inr done
+
+-- after that a shard may be put again
+pub kept_so : {D T E : Type 0} (r : Result T E) (first old new : View D) (since : ℕ) → IsSoFar first old since → (since ≡ 0 → new ≡ old) → (IsPersistent old → OnOk r (IsPersistent new)) → OnOk r ((new ≡ first) ⊎ IsPersistent new)
+kept_so (Err e) first old new since so_far none rests = tt
+kept_so (Ok x) first old new since (inl is) none rests = inl (none is.0 ∙ is.1)
+kept_so (Ok x) first old new since (inr done) none rests = inr (rests done)
+
+-- after reads nothing was done, or all is persistent
+pub kept_then : {D : Type 0} (disks : PageDisk D) (first read new : View D) → ReadsOn disks first read → (new ≡ read) ⊎ IsPersistent new → IsPersistent new ⊎ ReadsOn disks first new
+kept_then {D} disks first read new reads (inl same) = inr (subst (λ (v : View D). ReadsOn disks first v) (sym same) reads)
+kept_then {D} disks first read new reads (inr done) = inl done
 
 -- nothing was done, or all is persistent
 abbrev pub IsAtRest : {D : Type 0} → (old new : View D) → Type 0

@@ -1,8 +1,9 @@
 -- What the command `reclaim` does, and what it leaves as it is.
-use Rattle.std.specs.Prelude.{◌≡◌, ◌⊎◌, ◌↔◌, ◌*◌, ◌≤◌, ◌==◌, ◌∷◌, ◌++◌, [], ℕ, zero, suc, List, Option, None, Some, true, false, codes, decimal, if◌then◌else◌}
+use Rattle.std.specs.Prelude.{◌≡◌, ◌⊎◌, ◌↔◌, ◌≤◌, ◌==◌, ◌∷◌, ◌++◌, [], ℕ, zero, suc, List, Option, Some, true, false, codes, decimal, if◌then◌else◌}
 use Rattle.std.specs.Io.KnownBytes.{Appends}
 use Rattle.cs_refusal.specs.declared.refusals.Refusal.{Refusal}
-use Rattle.cs_refusal.specs.declared.refusals.Refusal.TheVariants.{OutOfMemory}
+use Rattle.cs_refusal.specs.declared.refusals.Refusal.TheVariants.{Full, OutOfMemory, TooLarge}
+use Rattle.cs_chunk.specs.Cuts.{IsOversized}
 use Rattle.cs_disk.specs.declared.disk.PageDisk.{Ghosts as PageDisk}
 use Rattle.cs_core.specs.Views.{View}
 use Rattle.cs_writeback.specs.Histories.{MakesRoom}
@@ -13,8 +14,11 @@ use Rattle.cs_extent.specs.State.{extents_of, shape}
 use Rattle.law_machine.specs.Extents.{empties}
 use Rattle.law_machine.specs.Element.{Map}
 use Rattle.cs_store.specs.Maps.{HasMap}
-use Rattle.cs_inspect.specs.Choices.{Chooses, ReadsOn}
+use Rattle.cs_inspect.specs.Choices.{ReadsOn}
+use Rattle.cs_tools.specs.Aims.{ChoosesFor, IsFullFor, IsPutAnd, IsSettled, NoneIsChosen, most_emptied}
+use Rattle.cs_tools.specs.Headers.{IsLeft}
 use Rattle.cs_tools.specs.Stats.{member}
+use Rattle.cs_tools.specs.declared.aims.Aim.{Aim}
 use Rattle.cs_tools.specs.declared.outputs.Style.{Style}
 use Rattle.cs_tools.specs.declared.outputs.Style.TheVariants.{Json, Text}
 use Rattle.cs_tools.specs.declared.reclaim_command.Sought.{Sought}
@@ -54,7 +58,8 @@ IfRefused Failed Holds = Unit {0}
 
 -- ---- what is printed
 
--- the line of an extent that was emptied: its number, how many of its pages no shard had, and how many chunks were moved off it
+-- the line of an extent that was emptied: its number, how many of its pages no shard had, and how many chunks were
+-- moved off it
 abbrev pub emptied_line : Style → (extent dead moved : ℕ) → List ℕ
 emptied_line Text extent dead moved = codes "extent " ++ decimal extent ++ codes " emptied: dead pages " ++ decimal dead ++ codes ", chunks moved " ++ decimal moved ++ 10 ∷ []
 emptied_line Json extent dead moved =
@@ -85,15 +90,21 @@ abbrev pub WhetherEmptied : Sought → (emptied nothing : Type 0) → Type 0
 WhetherEmptied Emptied emptied nothing = emptied
 WhetherEmptied (Nothing unreadable) emptied nothing = nothing
 
+-- it is printed how many extents are empty and how many were, and that so many headers couldn't be read
+abbrev pub PrintsLeft : {D : Type 0} → Style → (unreadable : ℕ) → (old new : View D) → (before after : Option (List ℕ)) → Type 0
+PrintsLeft style unreadable old new before after = Appends before after (left_text style (empty_extents old) (empty_extents new) unreadable)
+
 module _ {D : Type 0} (disks : PageDisk D) where
-  -- The core came from what it was by calls, one after another, or by none; its shape is the same, and over an honest disk its map.
+  -- The core came from what it was by calls, one after another, or by none; its shape is the same, and over an honest
+  -- disk its map.
   pub record Tidies (old new : View D) : Type 0 where
     pub ran : Ran disks old new
     pub shape : shape new.store.extents ≡ shape old.store.extents
     pub honest : disks.honest old.disk ↔ disks.honest new.disk
     pub map : disks.honest old.disk → (m : Map) → HasMap old m → HasMap new m
 
-  -- An extent is emptied: room is made in the history, the extent is swept, which moves so many chunks, and then all is synced.
+  -- An extent is emptied: room is made in the history, the extent is swept, which moves so many chunks, and then all is
+  -- synced.
   pub record Empties (extent moved : ℕ) (old new : View D) : Type 0 where
     pub room : View D
     pub made : MakesRoom old room
@@ -103,35 +114,54 @@ module _ {D : Type 0} (disks : PageDisk D) where
     pub syncs : Syncs disks swept new
 
   -- an extent is chosen by what was read, it is emptied, and its line is printed
-  abbrev pub EmptiesChosen : Style → (old new : View D) → (before after : Option (List ℕ)) → Type 0
-  EmptiesChosen style old new before after = (read : View D) × (extent : ℕ) × (dead : ℕ) × (moved : ℕ) × ReadsOn disks old read × Chooses disks old read (Some (extent, dead))
+  abbrev pub EmptiesChosen : Aim → Style → (old new : View D) → (before after : Option (List ℕ)) → Type 0
+  EmptiesChosen aim style old new before after = (read : View D) × (extent : ℕ) × (dead : ℕ) × (moved : ℕ) × ReadsOn disks old read × ChoosesFor disks aim old read (Some (extent, dead))
       × Empties extent moved read new × Appends before after (emptied_line style extent dead moved)
 
   -- that so many times, one after another
-  abbrev pub EmptiesTimes : Style → ℕ → (old new : View D) → (before after : Option (List ℕ)) → Type 0
-  EmptiesTimes style zero old new before after = (new ≡ old) × (after ≡ before)
-  EmptiesTimes style (suc n) old new before after = (mid : View D) × (between : Option (List ℕ)) × EmptiesTimes style n old mid before between × EmptiesChosen style mid new between after
+  abbrev pub EmptiesTimes : Aim → Style → ℕ → (old new : View D) → (before after : Option (List ℕ)) → Type 0
+  EmptiesTimes aim style zero old new before after = (new ≡ old) × (after ≡ before)
+  EmptiesTimes aim style (suc n) old new before after = (mid : View D) × (between : Option (List ℕ)) × EmptiesTimes aim style n old mid before between × EmptiesChosen aim style mid new between after
 
-  -- that until none is chosen, or until two were chosen for each extent, when the extents are looked at once more
-  abbrev pub EmptiesAll : Style → (old new : View D) → (before after : Option (List ℕ)) → Type 0
-  EmptiesAll style old new before after = (n : ℕ) × (n ≤ 2 * (shape old.store.extents).extents) × (last : View D) × EmptiesTimes style n old last before after
-      × ((ReadsOn disks last new × Chooses disks last new None) ⊎ ((n ≡ 2 * (shape old.store.extents).extents) × ReadsOn disks last new))
+  -- that until nothing more is to be emptied, or until as many were as may be; then it is only read
+  abbrev pub EmptiesAll : Aim → Style → (old new : View D) → (before after : Option (List ℕ)) → Type 0
+  EmptiesAll aim style old new before after = (n : ℕ) × (n ≤ most_emptied aim (shape old.store.extents).extents) × (last : View D) × EmptiesTimes aim style n old last before after
+      × ReadsOn disks last new × (IsSettled disks aim last ⊎ (n ≡ most_emptied aim (shape old.store.extents).extents))
 
-  -- that, and then it is printed how many extents are empty and how many were, and that so many headers couldn't be read
-  abbrev pub Reclaims : Style → (unreadable : ℕ) → (old new : View D) → (before after : Option (List ℕ)) → Type 0
-  Reclaims style unreadable old new before after = (between : Option (List ℕ)) × EmptiesAll style old new before between
-      × Appends between after (left_text style (empty_extents old) (empty_extents new) unreadable)
+  -- that until none is chosen, or until as many were emptied as may be; then it is only read, and the put that is aimed
+  -- at has no room
+  abbrev pub EmptiesInVain : Aim → Style → (old new : View D) → (before after : Option (List ℕ)) → Type 0
+  EmptiesInVain aim style old new before after = (n : ℕ) × (n ≤ most_emptied aim (shape old.store.extents).extents) × (last : View D) × EmptiesTimes aim style n old last before after
+      × ReadsOn disks last new × (NoneIsChosen disks aim last ⊎ (n ≡ most_emptied aim (shape old.store.extents).extents)) × IsPutAnd aim (IsFullFor new.store.extents)
+
+  -- all is emptied, and then that is printed
+  abbrev pub Reclaims : Aim → Style → (unreadable : ℕ) → (old new : View D) → (before after : Option (List ℕ)) → Type 0
+  Reclaims aim style unreadable old new before after = (between : Option (List ℕ)) × EmptiesAll aim style old new before between × PrintsLeft style unreadable old new between after
 
   -- the sweep of an extent is refused so, or the sync after it
   abbrev pub StopsEmptying : (extent : ℕ) → (old new : View D) → Refusal → Type 0
   StopsEmptying extent old new r = (room : View D) × MakesRoom old room
       × (IsSweepRefused disks extent room new r ⊎ ((swept : View D) × (moved : ℕ) × (root : ℕ) × Sweeps disks extent room swept moved root × StopsSync disks swept r new))
 
-  -- memory runs out as the extents are looked at; or one is chosen by what was read, and its sweep is refused so, or the sync after it
-  abbrev pub StopsNext : (old new : View D) → Refusal → Type 0
-  StopsNext old new r = ((r ≡ OutOfMemory) × ReadsOn disks old new)
-      ⊎ ((read : View D) × (extent : ℕ) × (dead : ℕ) × ReadsOn disks old read × Chooses disks old read (Some (extent, dead)) × StopsEmptying extent read new r)
+  -- memory runs out as the extents are looked at; or one is chosen by what was read, and its sweep is refused so, or
+  -- the sync after it
+  abbrev pub StopsNext : Aim → (old new : View D) → Refusal → Type 0
+  StopsNext aim old new r = ((r ≡ OutOfMemory) × ReadsOn disks old new)
+      ⊎ ((read : View D) × (extent : ℕ) × (dead : ℕ) × ReadsOn disks old read × ChoosesFor disks aim old read (Some (extent, dead)) × StopsEmptying extent read new r)
 
   -- extents are emptied, one after another, their lines are printed, and then it is refused so
-  abbrev pub StopsReclaim : Style → (old new : View D) → (before after : Option (List ℕ)) → Refusal → Type 0
-  StopsReclaim style old new before after r = (n : ℕ) × (last : View D) × EmptiesTimes style n old last before after × StopsNext last new r
+  abbrev pub StopsLater : Aim → Style → (old new : View D) → (before after : Option (List ℕ)) → Refusal → Type 0
+  StopsLater aim style old new before after r = (n : ℕ) × (last : View D) × EmptiesTimes aim style n old last before after × StopsNext aim last new r
+
+  -- the put that is aimed at has no room, though all is emptied: its lines are printed, and it is refused 30
+  abbrev pub StopsFull : Aim → Style → (old new : View D) → (before after : Option (List ℕ)) → Refusal → Type 0
+  StopsFull aim style old new before after r = (r ≡ Full) × (unreadable : ℕ) × IsLeft disks unreadable new
+      × (between : Option (List ℕ)) × EmptiesInVain aim style old new before between × PrintsLeft style unreadable old new between after
+
+  -- the put that is aimed at is too large for a shard: it is refused 31, and nothing is done
+  abbrev pub StopsAtOnce : Aim → (old new : View D) → (before after : Option (List ℕ)) → Refusal → Type 0
+  StopsAtOnce aim old new before after r = (r ≡ TooLarge) × IsPutAnd aim (IsOversized (shape old.store.extents)) × (new ≡ old) × (after ≡ before)
+
+  -- it is refused so in one of these ways
+  abbrev pub StopsReclaim : Aim → Style → (old new : View D) → (before after : Option (List ℕ)) → Refusal → Type 0
+  StopsReclaim aim style old new before after r = StopsAtOnce aim old new before after r ⊎ StopsLater aim style old new before after r ⊎ StopsFull aim style old new before after r

@@ -301,7 +301,7 @@ fn advice_of_call(refusal: Refusal) -> &'static str
             "The input is no plan document: print one by the line `document` of a script."
         }
         Refusal::Full => {
-            "`reclaim`, and try again; where that doesn't help, `copy` the shards into a larger store."
+            "`reclaim --for BYTES`, with as many as the shard has, and try again; if that is refused too, `copy` the shards into a larger store."
         }
         Refusal::TooLarge => {
             "A shard has at most 8 chunks of an extent each: cut it into several shards, or `copy` all into a store with more pages an extent."

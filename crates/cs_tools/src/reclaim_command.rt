@@ -1,25 +1,31 @@
 //! The command `reclaim`.
-ghost use Rattle.std.specs.Prelude.{◌≡◌, ◌≢◌, ◌⊎◌, ◌↔◌, ℕ, Err, IfErr, IfOk, IsOk, None, Ok, OnOk};
+ghost use Rattle.std.specs.Prelude.{◌≡◌, ◌≢◌, ◌⊎◌, ◌↔◌, ℕ, Err, IfErr, IfOk, IsOk, Ok, OnOk};
 ghost use Rattle.std.specs.Io.KnownBytes.{Appends};
 ghost use Rattle.cs_refusal.specs.declared.refusals.Refusal.{Refusal as Why};
 ghost use Rattle.cs_core.specs.Views.{View};
 ghost use Rattle.cs_writeback.specs.Syncs.{StopsSync, Syncs};
 ghost use Rattle.law_machine.specs.Element.{Map};
+ghost use Rattle.cs_chunk.specs.Cuts.{IsOversized};
+ghost use Rattle.cs_extent.specs.State.{shape};
 ghost use Rattle.cs_store.specs.Maps.{HasMap};
-ghost use Rattle.cs_inspect.specs.Choices.{Chooses, ReadsOn};
+ghost use Rattle.cs_inspect.specs.Choices.{ReadsOn};
+ghost use Rattle.cs_tools.specs.Aims.{HasNoRoomFor, HasRoomFor, IfPut, IsPutAnd, IsSettled};
 ghost use Rattle.cs_tools.specs.Changes.{LeavesPrefixAt, LeavesPrefixBetween};
 ghost use Rattle.cs_tools.specs.Headers.{AreReadable, HasUnreadable, IsLeft, WasCounted, WasUnreadable};
-ghost use Rattle.cs_tools.specs.Reclaims.{Empties, EmptiesAll, EmptiesChosen, IfRefused, IsPersistent, LieApart, LieTogether, MayRefuseReclaim, MayStop, Reclaims, StopsEmptying, StopsNext, StopsReclaim, Tidies, WhetherEmptied, count_line, empty_line, emptied_line, left_text, unreadable_line};
+ghost use Rattle.cs_tools.specs.Reclaims.{Empties, EmptiesAll, EmptiesChosen, IfRefused, IsPersistent, LieApart, LieTogether, MayRefuseReclaim, MayStop, Reclaims, StopsEmptying, StopsFull, StopsLater, StopsNext, StopsReclaim, Tidies, WhetherEmptied, count_line, empty_line, emptied_line, left_text, unreadable_line};
 ghost use Rattle.cs_tools.specs.declared.outcomes.Outcome.TheVariants.{Damaged, Done, Failed, Refused};
 ghost use Rattle.cs_tools.specs.declared.reclaim_command.Sought.TheVariants.{Nothing};
 ghost use Rattle.cs_tools.specs.declared.reclaim_command.Stop.TheVariants.{Failed as StopFailed, Refused as StopRefused};
 
+use crate::aims::{Aim, has_room_for, is_too_large, most_emptied};
 use crate::headers::look_over;
 use crate::outcomes::Outcome;
 use crate::outputs::Style;
 use crate::reclaims_v2::empty_by_garbage;
+use crate::seeks::{Next, next_for};
 use cs_core::Core;
 use cs_disk::PageDisk;
+use cs_extent::Extents;
 use cs_inspect::SweepRule;
 use cs_refusal::Refusal;
 use cs_writeback::{make_room, sweep, sync};
@@ -49,32 +55,43 @@ pub enum Stop {
 /// Empties extents, each with a sync after it, and prints what it freed. What was emptied before a refusal stays
 /// emptied.
 ///
-/// It empties the extent that `fewest_live` of cs_inspect tells, again and again until that chooses none. It does so
-/// at most twice for each extent.
+/// For the aim `Pairs` it empties the extent that `fewest_live` of cs_inspect chooses, until that chooses none. For the
+/// others it empties the one that `choose_sweep` chooses, up to the brim: until that chooses none, or until the put that
+/// is aimed at has room. If that put has no room at the end, it is refused 30 Full after all lines. If the put is too
+/// large for a shard, it is refused 31 TooLarge before anything is done. `most_emptied` says how many extents are emptied
+/// at most.
 ///
-/// An extent with a chunk whose header can't be read is passed over. If there is one it is printed how many headers can't
-/// be read, and the command ends as damaged.
+/// An extent with a chunk whose header can't be read is passed over. If there is one it is printed how many headers
+/// can't be read, and the command ends as damaged.
 ///
-/// In stores of formats 1 and 2 it empties all extents of which half or more is garbage, those with most garbage first.
-/// After an open the pages above the write pointer of an extent aren't written any more, so they count as garbage.
+/// In stores of formats 1 and 2 it empties all extents of which half or more is garbage, those with most garbage first,
+/// or as many of them as the put needs. After an open the pages above the write pointer of an extent aren't written any
+/// more, so they count as garbage.
 pub fn reclaim<D: PageDisk, W: Write>(
     alloc: Global,
     core: &mut Core<D>,
+    aim: Aim,
     style: Style,
     writer: &mut W,
 ) -> Outcome
     ensures ends { (result ≡ Done) ⊎ (result ≡ Damaged) ⊎ ((r : Why) × (result ≡ Refused r)) ⊎ (result ≡ Failed) }
-    // It is refused as a sweep or a sync may be, or for want of memory.
-    ensures refusals { (r : Why) → result ≡ Refused r → MayRefuseReclaim r }
+    // It is refused as a sweep or a sync may be, or for want of memory, or since the put that is aimed at is too large.
+    ensures refusals { (r : Why) → result ≡ Refused r → MayRefuseReclaim r ⊎ (r ≡ Refusal.TooLarge) }
+    ensures too_large { (result ≡ Refused Refusal.TooLarge) ↔ IsPutAnd aim (IsOversized (shape core.old.store.extents)) }
+    // Then nothing was done.
+    ensures untouched { result ≡ Refused Refusal.TooLarge → (core.new ≡ core.old) × (W.contents writer.new ≡ W.contents writer.old) }
+    // Where it ends well the put that is aimed at has room.
+    ensures room { (result ≡ Done) ⊎ (result ≡ Damaged) → IfPut aim (HasRoomFor core.new.store.extents) }
     // Where it ends well all is persistent, or nothing was worth it and nothing but reads was done.
     ensures kept { D.honest core.old.disk → (result ≡ Done) ⊎ (result ≡ Damaged) → IsPersistent core.new ⊎ ReadsOn D.PageDisk core.old core.new }
-    // Except in formats 1 and 2 it empties the extents that `fewest_live` tells, and prints a line for each. It ends when
-    // that chooses none, or after two for each extent. Then it prints how many extents are empty and how many were, and how
-    // many headers can't be read.
+    // Except in formats 1 and 2 it empties the extents that the rule of its aim chooses, and prints a line for each. It
+    // ends when that chooses none, or the put has room, or as many were emptied as may be. Then it prints how many
+    // extents are empty and how many were, and how many headers can't be read.
     ensures chosen { LieApart core.old → (result ≡ Done) ⊎ (result ≡ Damaged)
-        → (unreadable : ℕ) × IsLeft D.PageDisk unreadable core.new × Reclaims D.PageDisk style unreadable core.old core.new (W.contents writer.old) (W.contents writer.new) }
-    // It is refused only for want of memory, or as the sweep of the extent that is chosen next is, or the sync after it.
-    ensures stopped { LieApart core.old → (r : Why) → result ≡ Refused r → StopsReclaim D.PageDisk style core.old core.new (W.contents writer.old) (W.contents writer.new) r }
+        → (unreadable : ℕ) × IsLeft D.PageDisk unreadable core.new × Reclaims D.PageDisk aim style unreadable core.old core.new (W.contents writer.old) (W.contents writer.new) }
+    // It is refused only for want of memory, or as the sweep of the extent that is chosen next is, or the sync after
+    // it; or as the put is too large; or as the put has no room when no extent is chosen any more.
+    ensures stopped { LieApart core.old → (r : Why) → result ≡ Refused r → StopsReclaim D.PageDisk aim style core.old core.new (W.contents writer.old) (W.contents writer.new) r }
     // It is done only if the headers of all live chunks can be read then.
     ensures readable { LieApart core.old → result ≡ Done → AreReadable D.PageDisk core.new }
     // It ends as damaged only if one can't be read, or a read failed, as the extents were looked at last.
@@ -84,14 +101,15 @@ pub fn reclaim<D: PageDisk, W: Write>(
     ensures unreadable_v2 { LieTogether core.old → result ≡ Damaged → WasUnreadable D.PageDisk core.old }
     ensures map { D.honest core.old.disk → (m : Map) → HasMap core.old m → HasMap core.new m }
     ensures honest { D.honest core.old.disk ↔ D.honest core.new.disk }
-    // A crash at any moment of it leaves the map after some of the commands, none of those left out that were persistent before.
+    // A crash at any moment of it leaves the map after some of the commands, none of those left out that were
+    // persistent before.
     ensures crash { LeavesPrefixBetween D.PageDisk core.old core.new }
     // A crash after it does so for the commands and the frontier then.
     ensures left { LeavesPrefixAt D.PageDisk core.new }
 {
     // Called for its contract alone: which state of the machine the core is in.
     core.progress();
-    let ended = reclaim_and_print(alloc, core, style, writer);
+    let ended = reclaim_for(alloc, core, aim, style, writer);
     // And what a crash leaves now.
     core.progress();
     outcome_of(ended)
@@ -102,6 +120,7 @@ fn outcome_of(ended: Result<usize, Stop>) -> Outcome
     ensures done { result ≡ Done → ended ≡ Ok 0 }
     ensures damaged { result ≡ Damaged → (n : ℕ) × (ended ≡ Ok n) × (n ≢ 0) }
     ensures refused { (r : Why) → result ≡ Refused r → ended ≡ Err (StopRefused r) }
+    ensures told { (r : Why) → ended ≡ Err (StopRefused r) → result ≡ Refused r }
     ensures ends { (result ≡ Done) ⊎ (result ≡ Damaged) ⊎ ((r : Why) × (result ≡ Refused r)) ⊎ (result ≡ Failed) }
 {
     match ended {
@@ -112,68 +131,116 @@ fn outcome_of(ended: Result<usize, Stop>) -> Outcome
     }
 }
 
-/// Empties extents, prints how many are empty, and returns how many headers couldn't be read. It returns why it ended
-/// early.
-fn reclaim_and_print<D: PageDisk, W: Write>(
+/// Refuses a put that is too large, else reclaims for the aim and prints.
+fn reclaim_for<D: PageDisk, W: Write>(
     alloc: Global,
     core: &mut Core<D>,
+    aim: Aim,
     style: Style,
     writer: &mut W,
 ) -> Result<usize, Stop>
     ensures kept { D.honest core.old.disk → OnOk result (IsPersistent core.new ⊎ ReadsOn D.PageDisk core.old core.new) }
-    ensures chosen { LieApart core.old → IfOk result (λ unreadable. Reclaims D.PageDisk style unreadable core.old core.new (W.contents writer.old) (W.contents writer.new)) }
-    ensures stopped { LieApart core.old → IfErr result (λ stop. IfRefused stop (StopsReclaim D.PageDisk style core.old core.new (W.contents writer.old) (W.contents writer.new))) }
+    ensures room { OnOk result (IfPut aim (HasRoomFor core.new.store.extents)) }
+    ensures chosen { LieApart core.old → IfOk result (λ unreadable. Reclaims D.PageDisk aim style unreadable core.old core.new (W.contents writer.old) (W.contents writer.new)) }
+    ensures stopped { LieApart core.old → IfErr result (λ stop. IfRefused stop (StopsReclaim D.PageDisk aim style core.old core.new (W.contents writer.old) (W.contents writer.new))) }
+    ensures left { LieApart core.old → IfOk result (λ unreadable. IsLeft D.PageDisk unreadable core.new) }
+    ensures counted { LieTogether core.old → IfOk result (λ unreadable. WasCounted D.PageDisk unreadable core.old) }
+    ensures refusals { IfErr result (λ stop. MayStop stop ⊎ (stop ≡ StopRefused Refusal.TooLarge)) }
+    ensures too_large { (result ≡ Err (StopRefused Refusal.TooLarge)) ↔ IsPutAnd aim (IsOversized (shape core.old.store.extents)) }
+    ensures untouched { result ≡ Err (StopRefused Refusal.TooLarge) → (core.new ≡ core.old) × (W.contents writer.new ≡ W.contents writer.old) }
+    ensures tidies { Tidies D.PageDisk core.old core.new }
+{
+    if is_too_large(core.extents(), aim) {
+        return Err(Stop::Refused(Refusal::TooLarge));
+    }
+    reclaim_and_print(alloc, core, aim, style, writer)
+}
+
+/// Empties extents, prints how many are empty, and returns how many headers couldn't be read. It returns why it ended
+/// early, or that the put has no room still.
+fn reclaim_and_print<D: PageDisk, W: Write>(
+    alloc: Global,
+    core: &mut Core<D>,
+    aim: Aim,
+    style: Style,
+    writer: &mut W,
+) -> Result<usize, Stop>
+    requires { ¬ IsPutAnd aim (IsOversized (shape core.old.store.extents)) }
+    ensures kept { D.honest core.old.disk → OnOk result (IsPersistent core.new ⊎ ReadsOn D.PageDisk core.old core.new) }
+    ensures room { OnOk result (IfPut aim (HasRoomFor core.new.store.extents)) }
+    ensures chosen { LieApart core.old → IfOk result (λ unreadable. Reclaims D.PageDisk aim style unreadable core.old core.new (W.contents writer.old) (W.contents writer.new)) }
+    ensures stopped { LieApart core.old → IfErr result (λ stop. IfRefused stop
+        (λ r. StopsLater D.PageDisk aim style core.old core.new (W.contents writer.old) (W.contents writer.new) r ⊎ StopsFull D.PageDisk aim style core.old core.new (W.contents writer.old) (W.contents writer.new) r)) }
     ensures left { LieApart core.old → IfOk result (λ unreadable. IsLeft D.PageDisk unreadable core.new) }
     ensures counted { LieTogether core.old → IfOk result (λ unreadable. WasCounted D.PageDisk unreadable core.old) }
     ensures refusals { IfErr result MayStop }
     ensures tidies { Tidies D.PageDisk core.old core.new }
 {
     let before = core.extents().empty_count();
-    let unreadable = empty_by_rule(alloc, core, style, writer)?;
+    let unreadable = empty_by_rule(alloc, core, aim, style, writer)?;
     let after = core.extents().empty_count();
     printed(print_left(writer, before, after, unreadable, style))?;
+    check_room(core.extents(), aim)?;
     Ok(unreadable)
+}
+
+/// Refuses a reclaim after which the put that is aimed at has no room.
+fn check_room(extents: &Extents, aim: Aim) -> Result<(), Stop>
+    ensures room { OnOk result (IfPut aim (HasRoomFor extents.now)) }
+    ensures full { IfErr result (λ stop. (stop ≡ StopRefused Refusal.Full) × IsPutAnd aim (HasNoRoomFor extents.now)) }
+{
+    match aim {
+        Aim::Pairs => Ok(()),
+        Aim::Room(bytes) => if has_room_for(extents, bytes) {
+            Ok(())
+        } else {
+            Err(Stop::Refused(Refusal::Full))
+        },
+        Aim::Brim => Ok(()),
+    }
 }
 
 /// Empties the extents that the store's rule chooses, and returns how many headers couldn't be read.
 fn empty_by_rule<D: PageDisk, W: Write>(
     alloc: Global,
     core: &mut Core<D>,
+    aim: Aim,
     style: Style,
     writer: &mut W,
 ) -> Result<usize, Stop>
     ensures kept { D.honest core.old.disk → OnOk result (IsPersistent core.new ⊎ ReadsOn D.PageDisk core.old core.new) }
-    ensures chosen { LieApart core.old → OnOk result (EmptiesAll D.PageDisk style core.old core.new (W.contents writer.old) (W.contents writer.new)) }
-    ensures stopped { LieApart core.old → IfErr result (λ stop. IfRefused stop (StopsReclaim D.PageDisk style core.old core.new (W.contents writer.old) (W.contents writer.new))) }
+    ensures chosen { LieApart core.old → OnOk result (EmptiesAll D.PageDisk aim style core.old core.new (W.contents writer.old) (W.contents writer.new)) }
+    ensures stopped { LieApart core.old → IfErr result (λ stop. IfRefused stop (StopsLater D.PageDisk aim style core.old core.new (W.contents writer.old) (W.contents writer.new))) }
     ensures left { LieApart core.old → IfOk result (λ unreadable. IsLeft D.PageDisk unreadable core.new) }
     ensures counted { LieTogether core.old → IfOk result (λ unreadable. WasCounted D.PageDisk unreadable core.old) }
     ensures refusals { IfErr result MayStop }
     ensures tidies { Tidies D.PageDisk core.old core.new }
 {
     match SweepRule::of(core.extents()) {
-        SweepRule::FewestLive => empty_by_choice(alloc, core, style, writer),
-        SweepRule::MostGarbage => empty_by_garbage(alloc, core, style, writer),
+        SweepRule::FewestLive => empty_by_choice(alloc, core, aim, style, writer),
+        SweepRule::MostGarbage => empty_by_garbage(alloc, core, aim, style, writer),
     }
 }
 
-/// Empties the extent that is chosen, until none is chosen or two were for each extent. It returns how many headers
-/// couldn't be read then.
+/// Empties the extent that is chosen, until nothing more is to be emptied, or until as many were as may be. It returns
+/// how many headers couldn't be read then.
 fn empty_by_choice<D: PageDisk, W: Write>(
     alloc: Global,
     core: &mut Core<D>,
+    aim: Aim,
     style: Style,
     writer: &mut W,
 ) -> Result<usize, Stop>
     ensures kept { D.honest core.old.disk → OnOk result (IsPersistent core.new ⊎ ReadsOn D.PageDisk core.old core.new) }
-    ensures all { LieApart core.old → OnOk result (EmptiesAll D.PageDisk style core.old core.new (W.contents writer.old) (W.contents writer.new)) }
-    ensures stopped { LieApart core.old → IfErr result (λ stop. IfRefused stop (StopsReclaim D.PageDisk style core.old core.new (W.contents writer.old) (W.contents writer.new))) }
+    ensures all { LieApart core.old → OnOk result (EmptiesAll D.PageDisk aim style core.old core.new (W.contents writer.old) (W.contents writer.new)) }
+    ensures stopped { LieApart core.old → IfErr result (λ stop. IfRefused stop (StopsLater D.PageDisk aim style core.old core.new (W.contents writer.old) (W.contents writer.new))) }
     ensures left { IfOk result (λ unreadable. IsLeft D.PageDisk unreadable core.new) }
     ensures refusals { IfErr result MayStop }
     ensures tidies { Tidies D.PageDisk core.old core.new }
 {
-    let most = core.extents().extent_count().saturating_mul(2);
+    let most = most_emptied(core.extents(), aim);
     for _ in 0..most {
-        let sought = empty_next(alloc, core, style, writer)?;
+        let sought = empty_next(alloc, core, aim, style, writer)?;
         match sought {
             Sought::Emptied => {}
             Sought::Nothing { unreadable } => return Ok(unreadable),
@@ -203,7 +270,7 @@ fn look_again<D: PageDisk>(alloc: Global, core: &mut Core<D>) -> Result<usize, S
 enum Sought {
     /// One was chosen, and it was emptied.
     Emptied,
-    /// None is chosen. So many headers couldn't be read.
+    /// Nothing more is to be emptied. So many headers couldn't be read.
     Nothing { unreadable: usize },
 }
 
@@ -211,29 +278,30 @@ enum Sought {
 fn empty_next<D: PageDisk, W: Write>(
     alloc: Global,
     core: &mut Core<D>,
+    aim: Aim,
     style: Style,
     writer: &mut W,
 ) -> Result<Sought, Stop>
     ensures rests { D.honest core.old.disk → IfOk result (λ sought. WhetherEmptied sought (IsPersistent core.new) (ReadsOn D.PageDisk core.old core.new)) }
-    ensures chosen { LieApart core.old → IfOk result (λ sought. WhetherEmptied sought (EmptiesChosen D.PageDisk style core.old core.new (W.contents writer.old) (W.contents writer.new))
-        (ReadsOn D.PageDisk core.old core.new × Chooses D.PageDisk core.old core.new None × (W.contents writer.new ≡ W.contents writer.old))) }
-    ensures stopped { LieApart core.old → IfErr result (λ stop. IfRefused stop (λ r. StopsNext D.PageDisk core.old core.new r × (W.contents writer.new ≡ W.contents writer.old))) }
+    ensures chosen { LieApart core.old → IfOk result (λ sought. WhetherEmptied sought (EmptiesChosen D.PageDisk aim style core.old core.new (W.contents writer.old) (W.contents writer.new))
+        (ReadsOn D.PageDisk core.old core.new × IsSettled D.PageDisk aim core.old × (W.contents writer.new ≡ W.contents writer.old))) }
+    ensures stopped { LieApart core.old → IfErr result (λ stop. IfRefused stop (λ r. StopsNext D.PageDisk aim core.old core.new r × (W.contents writer.new ≡ W.contents writer.old))) }
     ensures left { (unreadable : ℕ) → result ≡ Ok (Nothing unreadable) → IsLeft D.PageDisk unreadable core.new }
     ensures refusals { IfErr result MayStop }
     ensures tidies { Tidies D.PageDisk core.old core.new }
 {
     // Called for its contract alone: what a crash leaves now.
     core.progress();
-    let Ok(survey) = look_over(alloc, core) else {
+    let Ok(next) = next_for(alloc, core, aim) else {
         return Err(Stop::Refused(Refusal::OutOfMemory));
     };
-    let Some(choice) = survey.choice else {
-        return Ok(Sought::Nothing {
-            unreadable: survey.unreadable,
-        });
-    };
-    empty_one(core, choice.extent, choice.dead, style, writer)?;
-    Ok(Sought::Emptied)
+    match next {
+        Next::Extent(choice) => {
+            empty_one(core, choice.extent, choice.dead, style, writer)?;
+            Ok(Sought::Emptied)
+        }
+        Next::Nothing { unreadable } => Ok(Sought::Nothing { unreadable }),
+    }
 }
 
 /// Sweeps an extent, makes that persistent, and prints what it freed.

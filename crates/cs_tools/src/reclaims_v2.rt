@@ -10,6 +10,7 @@ ghost use Rattle.cs_inspect.specs.Choices.{ReadsOn};
 ghost use Rattle.cs_tools.specs.Headers.{WasCounted};
 ghost use Rattle.cs_tools.specs.Reclaims.{IsPersistent, MayStop, Tidies};
 
+use crate::aims::{Aim, has_room};
 use crate::headers::count_unreadable;
 use crate::outputs::Style;
 use crate::reclaim_command::{Stop, empty_one, sync_all};
@@ -24,10 +25,12 @@ use std::alloc::Global;
 use std::io::Write;
 
 /// Empties the extents of which half or more is garbage, and prints of each what it freed. If there was one, a shard is
-/// put again. It returns how many headers couldn't be read before.
+/// put again. For a put it ends as soon as that has room, also after the shard was put again. It returns how many
+/// headers couldn't be read before.
 pub fn empty_by_garbage<D: PageDisk, W: Write>(
     alloc: Global,
     core: &mut Core<D>,
+    aim: Aim,
     style: Style,
     writer: &mut W,
 ) -> Result<usize, Stop>
@@ -44,12 +47,26 @@ pub fn empty_by_garbage<D: PageDisk, W: Write>(
     };
     let unreadable = count_unreadable(&uses);
     give_up(&mut uses, pages);
-    let count = empty_all(core, &mut uses, pages, style, writer)?;
-    if count == 0 {
-        return Ok(unreadable);
-    }
-    put_again(alloc, core)?;
+    empty_and_settle(alloc, core, aim, &mut uses, style, writer)?;
     Ok(unreadable)
+}
+
+/// Empties the extents of which half or more is garbage, or as many of them as the put needs, and then puts a shard
+/// again if one was emptied since.
+fn empty_and_settle<D: PageDisk, W: Write>(
+    alloc: Global,
+    core: &mut Core<D>,
+    aim: Aim,
+    uses: &mut [ExtentUse],
+    style: Style,
+    writer: &mut W,
+) -> Result<(), Stop>
+    ensures kept { D.honest core.old.disk → OnOk result ((core.new ≡ core.old) ⊎ IsPersistent core.new) }
+    ensures refusals { IfErr result MayStop }
+    ensures tidies { Tidies D.PageDisk core.old core.new }
+{
+    let since = empty_all(alloc, core, aim, uses, style, writer)?;
+    settle(alloc, core, since)
 }
 
 /// Counts the rest of each extent that isn't empty as given.
@@ -61,29 +78,72 @@ fn give_up(uses: &mut [ExtentUse], pages: usize) {
     }
 }
 
-/// Empties the extents of which half or more is garbage, prints of each what it freed, and gives how many there were.
+/// Empties the extents of which half or more is garbage, or as many of them as the put needs, and prints of each what
+/// it freed. It gives how many were emptied since a shard was put again, or since the start.
 fn empty_all<D: PageDisk, W: Write>(
+    alloc: Global,
     core: &mut Core<D>,
+    aim: Aim,
     uses: &mut [ExtentUse],
-    pages: usize,
     style: Style,
     writer: &mut W,
 ) -> Result<usize, Stop>
-    ensures rests { D.honest core.old.disk → IfOk result (λ count. ((count ≡ 0) × (core.new ≡ core.old)) ⊎ ((0 < count) × IsPersistent core.new)) }
+    ensures rests { D.honest core.old.disk → IfOk result (λ since. ((since ≡ 0) × (core.new ≡ core.old)) ⊎ IsPersistent core.new) }
     ensures refusals { IfErr result MayStop }
     ensures tidies { Tidies D.PageDisk core.old core.new }
 {
-    let mut count: usize = 0;
+    let pages = core.extents().extent_pages();
+    let mut since: usize = 0;
     for _ in 0..uses.len() {
+        let settled = settle_with_room(alloc, core, aim, since)?;
+        let Some(left) = settled else {
+            return Ok(0);
+        };
         let Some(extent) = worth_emptying(uses, pages) else {
-            return Ok(count);
+            return Ok(left);
         };
         let dead = uses[extent].dead();
         empty_one(core, extent, dead, style, writer)?;
         uses[extent].pointer = 0;
-        count = count.saturating_add(1);
+        since = left.saturating_add(1);
     }
-    Ok(count)
+    Ok(since)
+}
+
+/// If the put that is aimed at has room, a shard is put again if extents were emptied, so that it has room when the
+/// store is opened next. It returns how many were emptied since a shard was put again, or None if the put has room now.
+fn settle_with_room<D: PageDisk>(
+    alloc: Global,
+    core: &mut Core<D>,
+    aim: Aim,
+    since: usize,
+) -> Result<Option<usize>, Stop>
+    ensures rests { D.honest core.old.disk → (0 < since → IsPersistent core.old) → IfOk result (λ left. ((core.new ≡ core.old) × IfSome left (λ count. count ≡ since)) ⊎ IsPersistent core.new) }
+    ensures refusals { IfErr result MayStop }
+    ensures tidies { Tidies D.PageDisk core.old core.new }
+{
+    if !has_room(core.extents(), aim) {
+        return Ok(Some(since));
+    }
+    settle(alloc, core, since)?;
+    if has_room(core.extents(), aim) {
+        Ok(None)
+    } else {
+        Ok(Some(0))
+    }
+}
+
+/// Puts a shard again if extents were emptied.
+fn settle<D: PageDisk>(alloc: Global, core: &mut Core<D>, since: usize) -> Result<(), Stop>
+    ensures none { since ≡ 0 → core.new ≡ core.old }
+    ensures rests { D.honest core.old.disk → IsPersistent core.old → OnOk result (IsPersistent core.new) }
+    ensures refusals { IfErr result MayStop }
+    ensures tidies { Tidies D.PageDisk core.old core.new }
+{
+    if since == 0 {
+        return Ok(());
+    }
+    put_again(alloc, core)
 }
 
 /// The extent with most garbage, if that is half of its pages or more.

@@ -116,7 +116,7 @@ fn report<W: Write>(
 }
 
 /// How `stat` ends whose lines were written: as damaged if a header on these extents couldn't be read.
-fn outcome_of(uses: &[ExtentUse]) -> Outcome
+pub fn outcome_of(uses: &[ExtentUse]) -> Outcome
     ensures { ((result ≡ Done) × NoneIsUnreadable uses.now) ⊎ ((result ≡ Damaged) × SomeIsUnreadable uses.now) }
 {
     if count_unreadable(uses) == 0 {

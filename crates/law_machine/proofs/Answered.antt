@@ -45,7 +45,7 @@ module _ (S : Shape) (F : Formats) (shape : IsShape S) (format : IsFormat S F) w
         elim (cases_lt (S.most_chunks * S.chunk_bytes) (length bytes)) [
           | inl large ↦ (Refused TooLarge, s, (inl (inr (go, inl (large, refl))), refl))
           | inr small ↦ (let fits : S.most_chunks * S.chunk_bytes < length bytes → ⊥ = (λ lt. omega arith) in
-              let chunks = payloads_there S F id (next_command s) bytes shape.some_byte in ⊎_elim
+              let chunks = payloads_there S F id (next_command s) bytes (shape.some_piece (length bytes)) in ⊎_elim
               (λ heavy. (Refused IndexFull, s, (inl (inr (go, inr (fits, inl (heavy, refl)))), refl)))
               (λ (light : TooHeavy S F s id bytes → ⊥). ⊎_elim
               (λ (place : FitsBy S S.apart s.world.extents ForPut (page_counts (chunk_frames S F chunks.0))).

@@ -258,6 +258,9 @@ shape = let base = is_shape 6 2 1 8 Two (record {
   section = base.section;
   some_chunk = base.some_chunk;
   some_byte = base.some_byte;
+  some_piece = base.some_piece;
+  small_pieces = base.small_pieces;
+  few_pieces = base.few_pieces;
   enough_runs = base.enough_runs;
   weighs = base.weighs;
   one_fits = base.one_fits;

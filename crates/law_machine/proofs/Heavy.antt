@@ -19,25 +19,25 @@ use Rattle.law_machine.specs.Tally.{dead_weight, living_weight}
 module _ (S : Shape) (F : Formats) (shape : IsShape S) where
   pub heavy_or_not : (s : State) (id : ℕ) (bytes : List ℕ) → TooHeavy S F s id bytes ⊎ (TooHeavy S F s id bytes → ⊥)
   heavy_or_not s id bytes =
-      let chunks = chunked_there S.chunk_bytes bytes shape.some_byte in
+      let chunks = chunked_there (S.piece_bytes (length bytes)) bytes (shape.some_piece (length bytes)) in
       elim (cases_lt S.most_weight (weight_with S.weigh (index_now s) id (length chunks.0))) [
         | inl lt ↦ inl (chunks.0, chunks.1, lt)
         | inr le ↦ inr (λ heavy.
             let lt : S.most_weight < weight_with S.weigh (index_now s) id (length chunks.0) =
             subst (λ (cs : List (List ℕ)). S.most_weight < weight_with S.weigh (index_now s) id (length cs))
-            (chunked_one S.chunk_bytes bytes heavy.0 chunks.0 heavy.1 chunks.1) heavy.2 in omega arith)
+            (chunked_one (S.piece_bytes (length bytes)) bytes heavy.0 chunks.0 heavy.1 chunks.1) heavy.2 in omega arith)
       ]
 
   -- where the deletions weigh less than a quarter, and what lives with the new entry three quarters at most
   pub light_enough : (s : State) (id : ℕ) (bytes : List ℕ) (chunks : List (List ℕ)) (ls : List Locator)
-      → 4 * dead_weight S.weigh (index_now s) < S.most_weight → Chunked S.chunk_bytes bytes chunks → length ls ≡ length chunks
+      → 4 * dead_weight S.weigh (index_now s) < S.most_weight → Chunked (S.piece_bytes (length bytes)) bytes chunks → length ls ≡ length chunks
       → 4 * living_weight S.weigh (record { id = id; locators = ls } ∷ index_now s) ≤ 3 * S.most_weight → TooHeavy S F s id bytes → ⊥
   light_enough s id bytes chunks ls dead chunked same living heavy =
       let x : Entry = record { id = id; locators = ls } in
       let some : 0 < length chunks = chunked.1 in
       let over : S.most_weight < weight_with S.weigh (index_now s) id (length ls) =
       subst (λ (c : ℕ). S.most_weight < weight_with S.weigh (index_now s) id c)
-      (ap length (chunked_one S.chunk_bytes bytes heavy.0 chunks heavy.1 chunked) ∙ sym same) heavy.2 in
+      (ap length (chunked_one (S.piece_bytes (length bytes)) bytes heavy.0 chunks heavy.1 chunked) ∙ sym same) heavy.2 in
       let parts : named_weight S.weigh (x ∷ index_now s) ≡ living_weight S.weigh (x ∷ index_now s) + dead_weight S.weigh (x ∷ index_now s) =
       named_parts S.weigh (x ∷ index_now s) in
       let fewer : dead_weight S.weigh (x ∷ index_now s) ≤ dead_weight S.weigh (index_now s) =
@@ -50,7 +50,7 @@ module _ (S : Shape) (F : Formats) (shape : IsShape S) where
 
   -- so such a put isn't refused 32
   pub light_put : (s : State) (id : ℕ) (bytes : List ℕ) (chunks : List (List ℕ)) (ls : List Locator)
-      → 4 * dead_weight S.weigh (index_now s) < S.most_weight → Chunked S.chunk_bytes bytes chunks → length ls ≡ length chunks
+      → 4 * dead_weight S.weigh (index_now s) < S.most_weight → Chunked (S.piece_bytes (length bytes)) bytes chunks → length ls ≡ length chunks
       → 4 * living_weight S.weigh (record { id = id; locators = ls } ∷ index_now s) ≤ 3 * S.most_weight
       → Refuses S F s (Put id bytes) IndexFull → ⊥
   light_put s id bytes chunks ls dead chunked same living (inl (a, wrong)) = let no : IndexFull ≡ Halted = wrong in cc
@@ -89,7 +89,7 @@ module _ (S : Shape) (F : Formats) (shape : IsShape S) where
 
     names_heavy : (bytes : List ℕ) → NamesFull S F s id → TooHeavy S F s id bytes
     names_heavy bytes full =
-        let chunks = chunked_there S.chunk_bytes bytes shape.some_byte in (
+        let chunks = chunked_there (S.piece_bytes (length bytes)) bytes (shape.some_piece (length bytes)) in (
           chunks.0,
           chunks.1,
           (let all : named_weight S.weigh (index_now s) ≡ names (index_now s) = ones_weigh S.weigh ones (index_now s) in

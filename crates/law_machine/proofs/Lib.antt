@@ -25,6 +25,7 @@ pub mod Filled
 pub mod FirstChunks
 pub mod Frames
 pub mod Frozen
+pub mod GivenPages
 pub mod Gives
 pub mod Heavy
 pub mod Highest
@@ -49,6 +50,7 @@ pub mod Outcomes
 pub mod Pages
 pub mod Parts
 pub mod Payloads
+pub mod Pieces
 pub mod Places
 pub mod Quiet
 pub mod Reading

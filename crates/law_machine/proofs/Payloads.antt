@@ -38,17 +38,17 @@ module _ (S : Shape) (F : Formats) where
       (format.one_piece id number count command piece) (bodies format id (suc number) count command pieces)
 
   -- there is one list of payloads
-  pub payloads_there : (id command : ℕ) (bytes : List ℕ) → 0 < S.chunk_bytes
+  pub payloads_there : (id command : ℕ) (bytes : List ℕ) → 0 < S.piece_bytes (length bytes)
       → (cs : List (List ℕ)) × ArePayloads S F id command bytes cs
   payloads_there id command bytes some =
-      let pieces = chunked_there S.chunk_bytes bytes some in
+      let pieces = chunked_there (S.piece_bytes (length bytes)) bytes some in
       (headed F id 0 (length pieces.0) command pieces.0, (pieces.0, pieces.1, refl))
 
   pub payloads_one : (id command : ℕ) (bytes : List ℕ) (cs ds : List (List ℕ)) → ArePayloads S F id command bytes cs
       → ArePayloads S F id command bytes ds → cs ≡ ds
   payloads_one id command bytes cs ds a b =
       a.2 ∙ ap (λ (pieces : List (List ℕ)). headed F id 0 (length pieces) command pieces)
-      (chunked_one S.chunk_bytes bytes a.0 b.0 a.1 b.1) ∙ sym b.2
+      (chunked_one (S.piece_bytes (length bytes)) bytes a.0 b.0 a.1 b.1) ∙ sym b.2
 
   -- reading it gives the bytes
   pub payloads_bytes : IsFormat S F → (id command : ℕ) (bytes : List ℕ) (cs : List (List ℕ))
@@ -69,7 +69,7 @@ module _ (S : Shape) (F : Formats) where
   pub payloads_few : IsShape S → (id command : ℕ) (bytes : List ℕ) (cs : List (List ℕ))
       → ArePayloads S F id command bytes cs → length bytes ≤ S.most_chunks * S.chunk_bytes → length cs ≤ S.most_chunks
   payloads_few shape id command bytes cs a short = le_trans (le_of_eq (payloads_length id command bytes cs a))
-      (few_chunks S.chunk_bytes S.most_chunks bytes a.0 shape.some_chunk a.1.2 a.1.0 short)
+      (few_chunks (S.piece_bytes (length bytes)) S.most_chunks bytes a.0 shape.some_chunk a.1.2 a.1.0 (shape.few_pieces (length bytes) short))
 
   -- payload k has the head of chunk k
   pub payloads_heads : (id command : ℕ) (bytes : List ℕ) (cs : List (List ℕ)) (k : ℕ) (payload : List ℕ)

@@ -7,6 +7,7 @@ use Rattle.law_machine.specs.Device.{FramePage, IsShape, IsWeighing, Page, RootP
 use Rattle.law_machine.specs.Format.{Format, Four, Two}
 use Rattle.law_machine.specs.Geometry.{HasExtentsApart, IsGeometry, apart_in, by_size_in, chunk_bytes_in, fills_in, greatest_mark_in, hidden_stand_in, mark_in, most_run_extents, most_runs_in, most_weight_in, number_at, shape_of, weigh_in}
 use Rattle.law_machine.proofs.Meant.{digest_fits}
+use Rattle.law_machine.proofs.Pieces.{few_pieces, small_piece, some_piece}
 
 -- in a format in which chunks and runs lie apart hidden entries don't stand, and merges go by size
 rules_apart : (f : Format) → apart_in f ≡ true → (hidden_stand_in f ≡ false) × (by_size_in f ≡ true)
@@ -128,6 +129,9 @@ module _ (E P N Q : ℕ) (f : Format) (g : IsGeometry E P N Q) where
     marks = marks_fit f;
     apart = λ on. ((rules_apart f on).0, (rules_apart f on).1, some_run_extents E, wide on);
     some_byte = holds_some f P g.some_page;
+    some_piece = λ bytes. some_piece f P bytes (holds_some f P g.some_page);
+    small_pieces = λ bytes. small_piece f P bytes (holds_some f P g.some_page);
+    few_pieces = λ bytes short. few_pieces f P bytes (holds_some f P g.some_page) short;
     section_only = only_section;
     frame_kind = λ e i inside. at_frames (2 + (e * P + i)) (omega arith) (inside_below e i inside.0 inside.1);
     extent = λ e i inside. ap (λ (n : ℕ). n / P) (let m : 2 + (e * P + i) - 2 ≡ e * P + i = omega arith in m)

@@ -1,5 +1,5 @@
 -- The device: its pages, what lies on each, and the limits of a store.
-use Rattle.std.specs.Prelude.{◌≡◌, ◌+◌, ◌<◌, ◌≤◌, ℕ, Bool, true, false, List}
+use Rattle.std.specs.Prelude.{◌≡◌, ◌+◌, ◌*◌, ◌<◌, ◌≤◌, ℕ, Bool, true, false, List}
 use Rattle.law_machine.specs.Format.{Format}
 use Rattle.law_machine.specs.Meant.{Mark, first_mark, same_mark}
 
@@ -46,8 +46,10 @@ pub record Shape : Type 0 where
   pub address : ℕ → ℕ → ℕ
   -- the section that speaks of an extent
   pub section : ℕ → ℕ
-  -- the greatest piece of a shard in one chunk, in bytes; how many chunks a shard may have, and how many runs a root may have
+  -- the greatest piece of a shard in one chunk, in bytes; how many each piece but the last has, if a shard has so many
   pub chunk_bytes : ℕ
+  pub piece_bytes : (bytes : ℕ) → ℕ
+  -- how many chunks a shard may have, and how many runs a root may have
   pub most_chunks : ℕ
   pub most_runs : ℕ
   -- what an entry of so many chunks weighs, and what the newest entries of all identifiers may weigh together, so that one run
@@ -78,9 +80,9 @@ pub record IsWeighing (weigh : (chunks : ℕ) → ℕ) : Type 0 where
   pub some : 1 ≤ weigh 0
   pub more : (b c : ℕ) → b ≤ c → weigh b ≤ weigh c
 
--- no two things lie on one page, a shard can be put, and a root may have as many runs as Stage leaves; entries weigh by a
--- rule, and no shard's more than all may; where chunks and runs lie apart a hidden entry may name what is gone, a Stage merges by sizes, and
--- extents are left for both; only there is an extent filled up; and each page's mark can be
+-- no two things lie on one page; a shard can be put, in pieces that chunks hold, no more of them than a shard may have; a root may have
+-- as many runs as Stage leaves; entries weigh by a rule, and no shard's more than all may; where chunks and runs lie apart a hidden entry may
+-- name what is gone, a Stage merges by sizes, and extents are left for both; only there is an extent filled up; and each page's mark can be
 pub record IsShape (S : Shape) : Type 0 where
   pub root_kind : S.kind S.root_page ≡ RootPage
   pub section_kind : (j : ℕ) → j < S.sections → S.kind (S.section_page j) ≡ SectionPage j
@@ -92,6 +94,9 @@ pub record IsShape (S : Shape) : Type 0 where
   pub section : (e : ℕ) → S.section e < S.sections
   pub some_chunk : 0 < S.most_chunks
   pub some_byte : 0 < S.chunk_bytes
+  pub some_piece : (bytes : ℕ) → 0 < S.piece_bytes bytes
+  pub small_pieces : (bytes : ℕ) → S.piece_bytes bytes ≤ S.chunk_bytes
+  pub few_pieces : (bytes : ℕ) → bytes ≤ S.most_chunks * S.chunk_bytes → bytes ≤ S.most_chunks * S.piece_bytes bytes
   pub enough_runs : 4 ≤ S.most_runs
   pub weighs : IsWeighing S.weigh
   pub one_fits : S.weigh S.most_chunks ≤ S.most_weight

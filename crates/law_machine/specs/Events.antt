@@ -16,15 +16,15 @@ use Rattle.law_machine.specs.Machine.{BeginRound, EndRound, happens}
 use Rattle.law_machine.specs.Round.{IsMember, IsRound, NothingWaits}
 use Rattle.law_machine.specs.State.{Abandon, Abandoned, Absent, Accepted, Begin, BeginSweep, Begun, Delete, End, Ended, Event, Found, Get, Issue, Issued, MoveOne, Moved, NoneLive, NotYet, Nothing, Persistent, Put, Reply, Retire, Retired, Settle, Stage, Staged, State, Sweeping, Unchanged, index_now, map_now, next_command}
 
--- all but the last are as long as may be, and only the last may be shorter; the last is empty only where it is alone
-abbrev pub AllFullButLast : ℕ → List (List ℕ) → Type 0
-AllFullButLast most [] = Unit {0}
-AllFullButLast most (c ∷ []) = length c ≤ most
-AllFullButLast most (c ∷ d ∷ cs) = (length c ≡ most) × (d ≢ []) × AllFullButLast most (d ∷ cs)
+-- all but the last have one size, and only the last may be shorter; the last is empty only where it is alone
+abbrev pub AllFullButLast : (size : ℕ) → List (List ℕ) → Type 0
+AllFullButLast size [] = Unit {0}
+AllFullButLast size (c ∷ []) = length c ≤ size
+AllFullButLast size (c ∷ d ∷ cs) = (length c ≡ size) × (d ≢ []) × AllFullButLast size (d ∷ cs)
 
--- the bytes in pieces: at least one, all but the last as long as may be
-abbrev pub Chunked : (most : ℕ) → List ℕ → List (List ℕ) → Type 0
-Chunked most bytes pieces = (joined pieces ≡ bytes) × (0 < length pieces) × AllFullButLast most pieces
+-- the bytes in pieces: at least one, all but the last of this size
+abbrev pub Chunked : (size : ℕ) → List ℕ → List (List ℕ) → Type 0
+Chunked size bytes pieces = (joined pieces ≡ bytes) × (0 < length pieces) × AllFullButLast size pieces
 
 -- the payload of a chunk for each piece, numbered from this number on
 abbrev pub headed : Formats → (id number count command : ℕ) → List (List ℕ) → List (List ℕ)
@@ -37,7 +37,7 @@ module _ (S : Shape) (F : Formats) where
   -- They are numbered from 0 on
   abbrev pub ArePayloads : (id command : ℕ) → List ℕ → List (List ℕ) → Type 0
   ArePayloads id command bytes cs =
-      (pieces : List (List ℕ)) × Chunked S.chunk_bytes bytes pieces × (cs ≡ headed F id 0 (length pieces) command pieces)
+      (pieces : List (List ℕ)) × Chunked (S.piece_bytes (length bytes)) bytes pieces × (cs ≡ headed F id 0 (length pieces) command pieces)
 
   -- the persistent root includes commands 1 to n, and no more
   abbrev pub IsFrontier : State → ℕ → Type 0

@@ -3,6 +3,7 @@ use Rattle.std.specs.Prelude.{◌≡◌, ◌+◌, ◌*◌, ◌-◌, ◌/◌, ◌
 use Rattle.law_machine.specs.Device.{FramePage, Page, RootPage, SectionPage, Shape}
 use Rattle.law_machine.specs.Format.{Format, Four, Two}
 use Rattle.law_machine.specs.Meant.{Mark}
+pub use Rattle.law_machine.specs.Pieces.{chunk_bytes_in, head_bytes_in, piece_bytes_in}
 
 -- The rules that a format goes by.
 -- In format 4 a root needs all page writes. In format 2 a version of the superblock needs the page writes that it counts
@@ -54,16 +55,6 @@ twins_in (Four store device) = true
 abbrev pub store_front : Format → List ℕ
 store_front Two = []
 store_front (Four store device) = take 8 store
-
--- the bytes of a head: the identifier has 16, the chunk's number and how many there are have one each, the command's
--- number has 8, and 8 are of the store's identity
-abbrev pub head_bytes_in : Format → ℕ
-head_bytes_in Two = 0
-head_bytes_in (Four store device) = 34
-
--- the greatest piece of a shard in one chunk, whose frame takes one whole extent: its header has 41 bytes
-abbrev pub chunk_bytes_in : (format : Format) (pages : ℕ) → ℕ
-chunk_bytes_in format pages = 4096 * pages - (41 + head_bytes_in format)
 
 -- the number in so many bytes from one on, high byte first
 abbrev pub number_at : (first count : ℕ) → List ℕ → ℕ
@@ -132,6 +123,7 @@ shape_of extents pages sections per_section format = record {
   address = λ e i. 2 + (e * pages + i);
   section = λ e. if nat_lt e extents then e / per_section else 0;
   chunk_bytes = chunk_bytes_in format pages;
+  piece_bytes = piece_bytes_in format pages;
   most_chunks = 8;
   most_runs = most_runs_in format;
   weigh = weigh_in format;

@@ -45,7 +45,7 @@ module _ (S : Shape) (F : Formats) where
 
   -- with an entry of the chunks of these bytes in place of what the identifier has, the newest entries weigh more than they may
   abbrev pub TooHeavy : State → (id : ℕ) → List ℕ → Type 0
-  TooHeavy s id bytes = (pieces : List (List ℕ)) × Chunked S.chunk_bytes bytes pieces
+  TooHeavy s id bytes = (pieces : List (List ℕ)) × Chunked (S.piece_bytes (length bytes)) bytes pieces
       × (S.most_weight < weight_with S.weigh (index_now s) id (length pieces))
 
   -- the chunks of a put of these bytes don't fit

@@ -26,6 +26,7 @@ pub mod Meant
 pub mod Merges
 pub mod Numbers
 pub mod Open
+pub mod Pieces
 pub mod Recovery
 pub mod Refusal
 pub mod Round

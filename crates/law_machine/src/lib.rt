@@ -36,7 +36,7 @@ pub use machine_events::{
 };
 pub use premises::{apart_can_happen, formats_exist, geometries_are_shapes};
 pub use recovery::{
-    a_new_store_is_empty, an_image_gives_one_map, frames_tell_their_payload,
+    a_new_store_is_empty, an_image_gives_one_map, frames_tell_their_payload, given_pages_stay,
     named_pages_are_not_written, recovery_looks_at_the_pages_of_the_store,
     what_is_refused_of_a_frame, what_is_reset_is_not_named, what_was_there_at_open_stays,
 };

@@ -138,7 +138,7 @@ pub fn a_put_has_one_list_of_payloads()
     ensures one { (S : Shape) (F : Formats) (id command : ℕ) (bytes : List ℕ) (payloads others : List (List ℕ))
         → ArePayloads S F id command bytes payloads → ArePayloads S F id command bytes others → payloads ≡ others }
     ensures length { (S : Shape) (F : Formats) (id command : ℕ) (bytes : List ℕ) (payloads pieces : List (List ℕ))
-        → ArePayloads S F id command bytes payloads → Chunked S.chunk_bytes bytes pieces
+        → ArePayloads S F id command bytes payloads → Chunked (S.piece_bytes (length bytes)) bytes pieces
         → length payloads ≡ length pieces }
     ensures bytes { (S : Shape) (F : Formats) (id command : ℕ) (bytes : List ℕ) (payloads : List (List ℕ)) → IsFormat S F
         → ArePayloads S F id command bytes payloads → joined_bodies F payloads ≡ bytes }
@@ -157,7 +157,7 @@ pub fn a_stage_leaves_room_for_puts()
     ensures stage { (S : Shape) (F : Formats) (s t : State) (v : ℕ) → IsShape S → S.by_size ≡ true → s.table ≢ []
         → Does S F s Stage (Staged v) t → 4 * dead_weight S.weigh (index_now t) < S.most_weight }
     ensures put { (S : Shape) (F : Formats) (s : State) (id : ℕ) (bytes : List ℕ) (chunks : List (List ℕ)) (locators : List Locator)
-        → IsShape S → 4 * dead_weight S.weigh (index_now s) < S.most_weight → Chunked S.chunk_bytes bytes chunks
+        → IsShape S → 4 * dead_weight S.weigh (index_now s) < S.most_weight → Chunked (S.piece_bytes (length bytes)) bytes chunks
         → length locators ≡ length chunks
         → 4 * living_weight S.weigh (record { id = id; locators = locators } ∷ index_now s) ≤ 3 * S.most_weight
         → Refuses S F s (Put id bytes) IndexFull → ⊥ }

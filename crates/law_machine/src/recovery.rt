@@ -20,6 +20,7 @@ ghost use Rattle.law_machine.specs.Refusal.{BadLength, Misplaced, Refusal};
 ghost use Rattle.law_machine.specs.Round.{IsMember};
 ghost use Rattle.law_machine.specs.Sound.{Sound};
 ghost use Rattle.law_machine.specs.State.{Event, Reply, State};
+ghost use Rattle.law_machine.specs.Stays.{IsEmptied, KeepsPages};
 ghost use Rattle.law_machine.specs.Step.{Step};
 ghost use Rattle.std.specs.Prelude.{◌≡◌, ◌≢◌, ◌⊎◌, ◌-◌, Some, ◌+◌, ◌*◌, ◌<◌, ◌≤◌, ℕ, true, false, List, None, length};
 
@@ -119,4 +120,11 @@ pub fn what_is_reset_is_not_named()
     ensures opening { (S : Shape) (F : Formats) (img : ℕ → Page) (n : ℕ) (m : Map) (gives : Recovers S F img n m) (e : ℕ)
         → IsShape S → S.apart ≡ true → Grows (state_read S F img n m gives) (opened_state S F img n m gives) e
         ⊎ IsFreed (state_read S F img n m gives) (opened_state S F img n m gives) e }
+{}
+
+/// An event empties an extent, or leaves each of its given pages as it reads. So what was read of an extent is known as long as the
+/// extent has the same generation.
+pub fn given_pages_stay()
+    ensures { (S : Shape) (F : Formats) (s t : State) (event : Event) (reply : Reply) (e : ℕ) → IsShape S
+        → Step S F s event reply t → IsEmptied s t e ⊎ KeepsPages S s t e }
 {}

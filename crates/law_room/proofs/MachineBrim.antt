@@ -111,7 +111,7 @@ module _ (S : Shape) (F : Formats) (shape : IsShape S) (format : IsFormat S F) (
       let no : Full ≡ WornOut = wrong in cc
   put_not_full_in s r id bytes has none fit (inr (a, inr (b, inr (c, inr (d, inr never))))) = never.1
   put_not_full_in s r id bytes has none fits (inr (a, inr (b, inr (c, inl (nowhere, is))))) =
-      let pieces = chunked_there S.chunk_bytes bytes shape.some_byte in
+      let pieces = chunked_there (S.piece_bytes (length bytes)) bytes (shape.some_piece (length bytes)) in
       let cs : List (List ℕ) = pieces.0 in
       let payloads : List (List ℕ) = headed F id 0 (length cs) (next_command s) cs in
       let fit : FitBeside S S.run_extents (all_pages r.chunks + all_dead r S.extents) (page_counts (chunk_frames S F payloads)) =

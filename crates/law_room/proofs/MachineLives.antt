@@ -126,7 +126,7 @@ module _ (S : Shape) (F : Formats) (shape : IsShape S) (format : IsFormat S F) (
     pub life_puts : (u : State) (id n : ℕ) (bytes : List ℕ) (chunks : List (List ℕ)) → ChunksFit S F → any_swept S t ≡ false
         → S.run_extents + n + 3 ≤ S.extents → ((r : Room) → IsRoomOf S F t r
         → 2 * all_pages r.chunks < (S.extents - (S.run_extents + 1 + n)) * (S.pages + 1)) → PairsSweptIn S F n t u
-        → NoneWorn S u → Chunked S.chunk_bytes bytes chunks → length chunks ≤ n → Refuses S F u (Put id bytes) Full → ⊥
+        → NoneWorn S u → Chunked (S.piece_bytes (length bytes)) bytes chunks → length chunks ≤ n → Refuses S F u (Put id bytes) Full → ⊥
     life_puts u id n bytes chunks each idle large share swept young chunked short full =
         let room = alive.roomy.room in
         let after = pairs_room S F shape format apart n t u alive.space room swept young in

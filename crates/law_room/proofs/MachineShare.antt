@@ -1,5 +1,5 @@
 -- Where extents are left for puts, a put of the machine finds its places.
-use Rattle.std.proofs.Common.{◌≡◌, inl, inr, ⊎_elim, ℕ, zero, suc, ◌+◌, ◌<◌, ◌≤◌, ◌==◌, ◌&&◌, not, nat_lt, Bool, true, false, List, [], ◌∷◌, length, Option, Some, None, if◌then◌else◌, refl, sym, ap, ◌∙◌, subst, arith}
+use Rattle.std.proofs.Common.{◌≡◌, inl, inr, ⊎_elim, ℕ, zero, suc, ◌+◌, ◌<◌, ◌≤◌, ◌==◌, ◌&&◌, not, nat_lt, Bool, true, false, List, [], ◌∷◌, length, Option, Some, None, if◌then◌else◌, refl, sym, ap, ◌∙◌, le_trans, subst, arith}
 use Rattle.std.proofs.lemmas.Bool.{cases_Bool, cases_eq, ne_eqb, true≢false}
 use Rattle.std.proofs.lemmas.Bool.Decides.{nat_tests}
 use Rattle.law_machine.proofs.Carries.{and_left, and_right}
@@ -103,7 +103,7 @@ module _ (S : Shape) (aside : ℕ → Bool) (x : Extents) (r : Room) (of : AreEx
           let nothing : x.pointer empty.0 ≡ 0 = empty_pointer x empty.0 empty.2 in absurd (omega arith)))
           (first_below x.pointer S.extents)
 
--- each piece is as long as may be at most
+-- each piece has the size of a piece at most
 chunk_fits : (most : ℕ) (cs : List (List ℕ)) → AllFullButLast most cs → (c : List ℕ) → c ∈ cs → length c ≤ most
 chunk_fits most [] all c none = absurd none
 chunk_fits most (c ∷ []) all d (inl is) = subst (λ (x : List ℕ). length x ≤ most) (sym is) all
@@ -189,7 +189,7 @@ module _ (S : Shape) (F : Formats) (shape : IsShape S) (format : IsFormat S F) (
 module _ (S : Shape) (F : Formats) (shape : IsShape S) (format : IsFormat S F) (apart : S.apart ≡ true) where
   -- a put of n chunks isn't refused where n extents are left for puts
   pub put_not_full : (s : State) (r : Room) (id n : ℕ) (bytes : List ℕ) (cs : List (List ℕ)) → HasRoomNow S F s r → ChunksFit S F
-      → chunk_extents r S.extents + n + S.run_extents + 2 ≤ S.extents → Chunked S.chunk_bytes bytes cs → length cs ≤ n
+      → chunk_extents r S.extents + n + S.run_extents + 2 ≤ S.extents → Chunked (S.piece_bytes (length bytes)) bytes cs → length cs ≤ n
       → Refuses S F s (Put id bytes) Full → ⊥
   put_not_full s r id n bytes cs has fit few chunked short (inl (a, wrong)) = let no : Full ≡ Halted = wrong in cc
   put_not_full s r id n bytes cs has fit few chunked short (inr (a, inl (b, wrong))) = let no : Full ≡ TooLarge = wrong in cc
@@ -204,6 +204,6 @@ module _ (S : Shape) (F : Formats) (shape : IsShape S) (format : IsFormat S F) (
       let done = put_fits S F shape format (is_aside S s) s.world payloads r has.room.extents
       (swept_of S s r.sweep (has.sound.apart apart).one_sweep has.room.sweep) (λ d on. (has.sound.swept d on).1)
       has.keeps.quotas.chunks (omega (arith, few, short, many)) has.keeps.quotas.runs
-      (heads_fit S F id 0 (length cs) (next_command s) cs fit (chunk_fits S.chunk_bytes cs chunked.2)) in
+      (heads_fit S F id 0 (length cs) (next_command s) cs fit (λ piece there. le_trans (chunk_fits (S.piece_bytes (length bytes)) cs chunked.2 piece there) (shape.small_pieces (length bytes)))) in
       nowhere payloads done.0 (record s { world = done.1 }) (cs, chunked, refl)
       (subst (λ (b : Bool). AppendsChunksBy S F b s payloads done.0 (record s { world = done.1 })) (sym apart) (done.1, done.2, refl))

@@ -98,9 +98,9 @@ abbrev pub IsPut : Event → Type 0
 IsPut (Put id bytes) = Unit {0}
 IsPut event = ⊥
 
--- the bytes are at most n chunks
+-- the bytes are cut in at most n pieces
 abbrev pub AreChunksAtMost : Shape → (n : ℕ) → (bytes : List ℕ) → Type 0
-AreChunksAtMost S n bytes = (chunks : List (List ℕ)) × Chunked S.chunk_bytes bytes chunks × (length chunks ≤ n)
+AreChunksAtMost S n bytes = (chunks : List (List ℕ)) × Chunked (S.piece_bytes (length bytes)) bytes chunks × (length chunks ≤ n)
 
 -- what is told of the chunk at a locator as damaged is told so whatever pages follow those that were found
 abbrev pub Lasts : Shape → Formats → Opening → Locator → Refusal → Type 0

@@ -1,5 +1,5 @@
 -- A put of a core finds room.
-use Rattle.std.proofs.Common.{◌≡◌, inl, inr, ℕ, ◌+◌, ◌-◌, ◌*◌, ◌<◌, ◌≤◌, true, false, List, length, sym, ap, ◌∙◌, subst, arith}
+use Rattle.std.proofs.Common.{◌≡◌, inl, inr, ℕ, ◌+◌, ◌-◌, ◌*◌, ◌<◌, ◌≤◌, true, false, List, sym, ap, ◌∙◌, subst, arith}
 use Rattle.cs_refusal.specs.declared.refusals.Refusal.TheVariants.{Full as NoPlace, HistoryFull}
 use Rattle.cs_disk.specs.declared.disk.PageDisk.{Ghosts as PageDisk}
 use Rattle.cs_extent.specs.State.{extents_of, shape}
@@ -11,11 +11,11 @@ use Rattle.law_machine.specs.Apart.{any_swept, is_any_swept}
 use Rattle.law_machine.specs.Device.{IsShape, Shape}
 use Rattle.law_machine.specs.Extents.{Extents}
 use Rattle.law_machine.specs.Formats.{Formats}
+use Rattle.law_machine.specs.Grounds.{Refuses}
 use Rattle.law_machine.specs.Refusal.{Full, Refusal as Ground}
 use Rattle.law_machine.specs.State as model
 use Rattle.law_machine.specs.Step.{Step}
 use Rattle.law_refinement.proofs.Shapes.{shape_of_store}
-use Rattle.law_room.proofs.MachineShare.{put_not_full}
 use Rattle.law_room.proofs.MachineSweeps.{no_sweep}
 use Rattle.law_room.proofs.MachineSwept.{pairs_room}
 use Rattle.law_room.proofs.Sharing.{every_way}
@@ -27,12 +27,29 @@ use Rattle.cs_core.specs.Views.{Applies, IsCore, View}
 use Rattle.law_room_in_store.proofs.CoreRoom.{ground_full, state_roomy}
 use Rattle.law_room_in_store.proofs.CoreSteps.{IsAt}
 use Rattle.law_room_in_store.proofs.CoreSweeps.{chunks_counted, pairs_in, room_in, young_pairs}
-use Rattle.law_room_in_store.proofs.FewChunks.{few_chunks}
-use Rattle.law_room_in_store.proofs.HavingRoom.{chunks_of_store, format_is}
+use Rattle.law_room_in_store.proofs.HavingRoom.{fills_apart, format_is}
+use Rattle.law_room_in_store.proofs.PutsInExtents.{put_not_full}
 use Rattle.law_room_in_store.proofs.Reached.{refused_full}
 use Rattle.law_room_in_store.specs.Cores.{HasRoom, NoneWornIn}
 use Rattle.law_room_in_store.specs.Images.{HasGeometry}
+use Rattle.law_room_in_store.specs.Puts.{FillsExtents}
 use Rattle.law_room_in_store.specs.Sweeps.{AreLeftForPuts, LiveAtMost, PairsSweptBy}
+
+-- what the machine doesn't refuse so in a state, no core in it does
+pub not_refused : {D : Type 0} (disks : PageDisk D) (S : Shape) (w x : View D) (t : model.State) (id : ShardId) (bytes : List ℕ)
+    → IsAt disks S w t → (Refuses S (formats_of S) t (model.Put (id_number id) bytes) Full → ⊥)
+    → Applies disks w (Put id bytes) (Refused NoPlace) x → ⊥
+not_refused disks S w x t id bytes at never (inl full) =
+    let no : Refused NoPlace ≡ Refused HistoryFull = full.reply_is in cc
+not_refused disks S w x t id bytes at never (inr step) =
+    let d = step.step at.honest t at.is_in in
+    let went : Step (shape w.store.extents) (formats_of (shape w.store.extents)) t (model.Put (id_number id) bytes)
+    (model.Refused Full) d.1 =
+    subst (λ (m : model.Reply). Step (shape w.store.extents) (formats_of (shape w.store.extents)) t
+    (model.Put (id_number id) bytes) m d.1) (d.2.1 ∙ ap (λ (f : Ground). model.Refused f) (ground_full d.2.0 d.2.2)) d.3 in
+    let here : Step S (formats_of S) t (model.Put (id_number id) bytes) (model.Refused Full) d.1 =
+    subst (λ (T : Shape). Step T (formats_of T) t (model.Put (id_number id) bytes) (model.Refused Full) d.1) at.same went in
+    never (refused_full S (formats_of S) t d.1 (model.Put (id_number id) bytes) here)
 
 module _ {D : Type 0} (disks : PageDisk D) (v : View D) (geometry : HasGeometry v.store.extents)
     (apart : (shape v.store.extents).apart ≡ true) where
@@ -45,24 +62,13 @@ module _ {D : Type 0} (disks : PageDisk D) (v : View D) (geometry : HasGeometry 
   store_is : IsShape S
   store_is = shape_of_store v.store.extents geometry
 
-  -- a state of a core in which n extents are left doesn't refuse a put of n chunks
+  -- a core in a state in which n extents are left doesn't refuse a put so that fills at most n
   pub not_full : (w x : View D) (t : model.State) (r : Room) (id : ShardId) (bytes : List ℕ) (n : ℕ) → IsAt disks S w t → HasRoomNow S F t r
-      → chunk_extents r S.extents + n + S.run_extents + 2 ≤ S.extents → 1 ≤ n → length bytes ≤ n * S.chunk_bytes
+      → chunk_extents r S.extents + n + S.run_extents + 2 ≤ S.extents → FillsExtents S n id bytes
       → Applies disks w (Put id bytes) (Refused NoPlace) x → ⊥
-  not_full w x t r id bytes n at has left some short (inl full) =
-      let no : Refused NoPlace ≡ Refused HistoryFull = full.reply_is in cc
-  not_full w x t r id bytes n at has left some short (inr step) =
-      let cut = few_chunks S.chunk_bytes n bytes store_is.some_byte some short in
-      let d = step.step at.honest t at.is_in in
-      let went : Step (shape w.store.extents) (formats_of (shape w.store.extents)) t (model.Put (id_number id) bytes)
-      (model.Refused Full) d.1 =
-      subst (λ (m : model.Reply). Step (shape w.store.extents) (formats_of (shape w.store.extents)) t
-      (model.Put (id_number id) bytes) m d.1) (d.2.1 ∙ ap (λ (f : Ground). model.Refused f) (ground_full d.2.0 d.2.2)) d.3 in
-      let here : Step S F t (model.Put (id_number id) bytes) (model.Refused Full) d.1 =
-      subst (λ (T : Shape). Step T (formats_of T) t (model.Put (id_number id) bytes) (model.Refused Full) d.1) at.same went in
-      put_not_full S F store_is (format_is v.store.extents geometry) apart t r (id_number id) n bytes cut.0 has
-      (chunks_of_store v.store.extents geometry) left cut.1 cut.2
-      (refused_full S F t d.1 (model.Put (id_number id) bytes) here)
+  not_full w x t r id bytes n at has left fill = not_refused disks S w x t id bytes at
+      (put_not_full S F store_is (format_is v.store.extents geometry) (fills_apart v.store.extents.format apart) t r (id_number id) n
+      bytes has left fill)
 
   module _ (core : IsCore disks v) (honest : disks.honest v.disk) (has : HasRoom v) where
     abbrev s : model.State
@@ -72,21 +78,21 @@ module _ {D : Type 0} (disks : PageDisk D) (v : View D) (geometry : HasGeometry 
     at_start = record { same = λ i. S; honest = honest; is_in = (core.legal honest).1 }
 
     -- where n extents are left
-    pub left_for_put : NoneWornIn v → (x : View D) (id : ShardId) (bytes : List ℕ) (n : ℕ) → AreLeftForPuts n v → 1 ≤ n
-        → length bytes ≤ n * S.chunk_bytes → Applies disks v (Put id bytes) (Refused NoPlace) x → ⊥
-    left_for_put young x id bytes n left some short full =
+    pub left_for_put : NoneWornIn v → (x : View D) (id : ShardId) (bytes : List ℕ) (n : ℕ) → AreLeftForPuts n v
+        → FillsExtents S n id bytes → Applies disks v (Put id bytes) (Refused NoPlace) x → ⊥
+    left_for_put young x id bytes n left fill full =
         let roomy = state_roomy disks v geometry apart has young s at_start.is_in in
         not_full v x s roomy.0 id bytes n at_start roomy.1.room
         (subst (λ (k : ℕ). k + n + S.run_extents + 2 ≤ S.extents)
-        (sym (chunks_counted disks S v s roomy.0 at_start roomy.1.room.room)) left) some short full
+        (sym (chunks_counted disks S v s roomy.0 at_start roomy.1.room.room)) left) fill full
 
     -- where little lives, and n pairs were swept
     pub pairs_for_put : (w x : View D) (id : ShardId) (bytes : List ℕ) (n pages : ℕ) → NoneWornIn w
         → ((e : ℕ) → (extents_of v.store.extents).swept e ≡ false) → S.run_extents + n + 3 ≤ S.extents
         → LiveAtMost disks.state v pages → 2 * pages < (S.extents - (S.run_extents + 1 + n)) * (S.pages + 1)
-        → PairsSweptBy disks n v w → 1 ≤ n → length bytes ≤ n * S.chunk_bytes
+        → PairsSweptBy disks n v w → FillsExtents S n id bytes
         → Applies disks w (Put id bytes) (Refused NoPlace) x → ⊥
-    pairs_for_put w x id bytes n pages young idle large live share swept some short full =
+    pairs_for_put w x id bytes n pages young idle large live share swept fill full =
         let pairs = pairs_in disks S n v w s at_start swept in
         let then_young : NoneWorn S pairs.0 = subst (λ (T : Shape). NoneWorn T pairs.0) pairs.1.same
         (λ e lt. subst (λ (y : Extents). y.generation e < (shape w.store.extents).greatest_generation)
@@ -102,4 +108,4 @@ module _ {D : Type 0} (disks : PageDisk D) (v : View D) (geometry : HasGeometry 
         let few : all_pages roomy.0.chunks ≤ pages = live roomy.0 (room_in disks S v s roomy.0 at_start roomy.1.room.room) in
         not_full w x pairs.0 after.0 id bytes n pairs.1 after.2
         (every_way S S.run_extents n roomy.0 after.0 roomy.1.room.keeps (store_is.apart apart).2
-        (no_sweep S s roomy.0.sweep none roomy.1.room.room.sweep) large (omega (arith, few, share)) after.1) some short full
+        (no_sweep S s roomy.0.sweep none roomy.1.room.room.sweep) large (omega (arith, few, share)) after.1) fill full

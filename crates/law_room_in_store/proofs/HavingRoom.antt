@@ -1,5 +1,5 @@
 -- The formats have room.
-use Rattle.std.proofs.Common.{ℕ, length, arith}
+use Rattle.std.proofs.Common.{◌≡◌, ℕ, true, length, true≢false, refl, sym, arith}
 use Rattle.cs_extent.specs.State.{State as ExtentsState, shape}
 use Rattle.cs_frame.proofs.FittingLaws.{chunks_fit, runs_fit}
 use Rattle.cs_frame.proofs.FormatLaws.{is_format}
@@ -8,12 +8,17 @@ use Rattle.cs_frame.proofs.TellingLaws.{tells}
 use Rattle.cs_frame.specs.Formats.{formats_of}
 use Rattle.cs_frame.specs.Geometries.{IsGeometry, section_size}
 use Rattle.law_machine.specs.Device.{Shape}
-use Rattle.law_machine.specs.Format.{Format}
+use Rattle.law_machine.specs.Format.{Format, Four, Two}
 use Rattle.law_machine.specs.Frames.{IsFormat}
-use Rattle.law_machine.specs.Geometry.{shape_of}
+use Rattle.law_machine.specs.Geometry.{apart_in, fills_in, shape_of}
 use Rattle.law_room.specs.Lives.{IsFormatWithRoom}
 use Rattle.law_room.specs.OfMachine.{ChunksFit}
 use Rattle.law_room_in_store.specs.Images.{HasGeometry}
+
+-- where chunks and runs lie apart extents are filled up
+pub fills_apart : (format : Format) → apart_in format ≡ true → fills_in format ≡ true
+fills_apart Two wrong = absurd (true≢false (sym wrong))
+fills_apart (Four store device) apart = refl
 
 module _ (format : Format) (extents pages sections : ℕ) (geometry : IsGeometry format extents pages sections) where
   abbrev S : Shape

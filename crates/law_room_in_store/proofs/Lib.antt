@@ -8,13 +8,14 @@ pub mod CoreSweeps
 pub mod CountedPages
 pub mod CrashImages
 pub mod CrashesWithRoom
-pub mod FewChunks
+pub mod FilledExtents
 pub mod HavingRoom
 pub mod HeadSums
 pub mod KeepingRoom
 pub mod LiveTotals
 pub mod NeverFull
 pub mod Reached
+pub mod PutsInExtents
 pub mod PutsToBrim
 pub mod ReclaimChoices
 pub mod ReclaimedPuts

@@ -1,21 +1,18 @@
 -- Puts of cores and of the typed store find room up to the brim.
-use Rattle.std.proofs.Common.{◌≡◌, inl, inr, ℕ, zero, suc, ◌+◌, ◌-◌, ◌*◌, ◌<◌, ◌≤◌, true, false, List, [], ◌∷◌, None, length, le_of_eq, refl, sym, ap, ◌∙◌, subst, arith}
+use Rattle.std.proofs.Common.{◌≡◌, inl, inr, ℕ, zero, suc, ◌+◌, ◌-◌, ◌*◌, ◌<◌, ◌≤◌, true, List, [], ◌∷◌, None, refl, ap, ◌∙◌, subst, arith}
 use Rattle.std.specs.Prelude.{sum}
 use Rattle.cs_refusal.specs.declared.refusals.Refusal.TheVariants as refusal
 use Rattle.cs_disk.specs.declared.disk.PageDisk.{Ghosts as PageDisk}
-use Rattle.cs_extent.specs.State.{extents_of, shape}
+use Rattle.cs_extent.specs.State.{shape}
 use Rattle.cs_frame.specs.declared.identifiers.ShardId.{ShardId}
 use Rattle.cs_frame.specs.Formats.{formats_of}
 use Rattle.cs_index.specs.State.{id_number}
-use Rattle.law_machine.specs.Apart.{any_swept}
 use Rattle.law_machine.specs.Append.{chunk_frames, page_counts}
 use Rattle.law_machine.specs.Device.{IsShape, Shape}
 use Rattle.law_machine.specs.Events.{ArePayloads}
 use Rattle.law_machine.specs.Extents.{Extents}
 use Rattle.law_machine.specs.Formats.{Formats}
-use Rattle.law_machine.specs.Refusal.{Full, Refusal as Ground}
 use Rattle.law_machine.specs.State as model
-use Rattle.law_machine.specs.Step.{Step}
 use Rattle.law_refinement.proofs.Shapes.{shape_of_store}
 use Rattle.law_room.proofs.BrimDead.{dead_rested}
 use Rattle.law_room.proofs.MachineBrim.{put_not_full_in}
@@ -33,20 +30,19 @@ use Rattle.cs_core.specs.declared.events.Reply.TheVariants.{Refused}
 use Rattle.cs_core.specs.Views.{Applies, IsCore, View}
 use Rattle.cs_writeback.specs.Histories.{IsRefused, IsStopped, Went}
 use Rattle.cs_store.specs.Events.{DeclinesCopy}
-use Rattle.law_room_in_store.proofs.CoreRoom.{ground_full, state_roomy, young_state}
+use Rattle.law_room_in_store.proofs.CorePuts.{not_refused}
+use Rattle.law_room_in_store.proofs.CoreRoom.{state_roomy, young_state}
 use Rattle.law_room_in_store.proofs.CoreSteps.{IsAt}
 use Rattle.law_room_in_store.proofs.CoreSweeps.{room_in}
-use Rattle.law_room_in_store.proofs.HavingRoom.{format_is}
+use Rattle.law_room_in_store.proofs.HavingRoom.{fills_apart, format_is}
 use Rattle.law_room_in_store.proofs.KeepingRoom.{IsRoomyState, young_before}
-use Rattle.law_room_in_store.proofs.Reached.{refused_full}
 use Rattle.law_room_in_store.proofs.Reaching.{reaches_ready, reaches_stopped}
 use Rattle.law_room_in_store.proofs.ReclaimsGain.{none_below, still_at}
-use Rattle.law_room_in_store.proofs.ReclaimsLeave.{fills_apart}
 use Rattle.law_room_in_store.proofs.StorePuts.{of_sync}
 use Rattle.law_room_in_store.proofs.StoresFull.{ready_state, store_put}
 use Rattle.law_room_in_store.specs.Cores.{HasRoom, NoneWornIn}
 use Rattle.law_room_in_store.specs.Images.{HasGeometry}
-use Rattle.law_room_in_store.specs.Reclaims.{FitsBeside, IsIdle, NothingDeadIn, TakenAtMost}
+use Rattle.law_room_in_store.specs.Reclaims.{FitsBeside, IsIdle, TakenAtMost}
 
 -- ---- sums
 
@@ -96,18 +92,8 @@ module _ {D : Type 0} (disks : PageDisk D) (v : View D) (geometry : HasGeometry 
 
   not_full_beside : (w x : View D) (t : model.State) (r : Room) (id : ShardId) (bytes : List ℕ) → IsAt disks S w t → HasRoomNow S F t r
       → r.sweep ≡ None → Fits r id bytes → Applies disks w (Put id bytes) (Refused refusal.Full) x → ⊥
-  not_full_beside w x t r id bytes at has none fits (inl full) =
-      let no : Refused refusal.Full ≡ Refused refusal.HistoryFull = full.reply_is in cc
-  not_full_beside w x t r id bytes at has none fits (inr step) =
-      let d = step.step at.honest t at.is_in in
-      let went : Step (shape w.store.extents) (formats_of (shape w.store.extents)) t (model.Put (id_number id) bytes)
-      (model.Refused Full) d.1 =
-      subst (λ (m : model.Reply). Step (shape w.store.extents) (formats_of (shape w.store.extents)) t
-      (model.Put (id_number id) bytes) m d.1) (d.2.1 ∙ ap (λ (f : Ground). model.Refused f) (ground_full d.2.0 d.2.2)) d.3 in
-      let here : Step S F t (model.Put (id_number id) bytes) (model.Refused Full) d.1 =
-      subst (λ (T : Shape). Step T (formats_of T) t (model.Put (id_number id) bytes) (model.Refused Full) d.1) at.same went in
-      put_not_full_in S F store_is (format_is v.store.extents geometry) filled t r (id_number id) bytes has none fits
-      (refused_full S F t d.1 (model.Put (id_number id) bytes) here)
+  not_full_beside w x t r id bytes at has none fits = not_refused disks S w x t id bytes at
+      (put_not_full_in S F store_is (format_is v.store.extents geometry) filled t r (id_number id) bytes has none fits)
 
   -- no sweep goes on in a room of an idle core
   pub rests_now : (s : model.State) (r : Room) → IsAt disks S v s → IsRoomOf S F s r → IsIdle v → r.sweep ≡ None

@@ -11,7 +11,7 @@ use Rattle.law_machine.specs.Device.{Shape}
 use Rattle.law_machine.specs.Events.{ArePayloads}
 use Rattle.law_room.specs.Brim.{FitBeside, all_dead}
 use Rattle.law_room.specs.OfMachine.{HasRoomNow}
-use Rattle.law_room.specs.Rooms.{Room, all_pages}
+use Rattle.law_room.specs.Rooms.{all_pages}
 use Rattle.cs_core.specs.declared.events.Event.TheVariants.{Put}
 use Rattle.cs_core.specs.Views.{View}
 use Rattle.cs_store.specs.Events.{DeclinesCopy}

@@ -1,5 +1,5 @@
 -- What reclaims leave for puts, and what a sync leaves behind a sweep that was given up.
-use Rattle.std.proofs.Common.{◌≡◌, inl, inr, ℕ, ◌+◌, ◌-◌, ◌*◌, ◌<◌, ◌≤◌, Bool, true, false, [], ◌∷◌, None, length, le_refl, true≢false, refl, sym, ap, ◌∙◌, subst, arith}
+use Rattle.std.proofs.Common.{◌≡◌, inl, inr, ℕ, ◌+◌, ◌-◌, ◌*◌, ◌<◌, ◌≤◌, Bool, true, false, [], ◌∷◌, None, length, le_refl, refl, sym, ap, ◌∙◌, subst, arith}
 use Rattle.cs_refusal.specs.declared.refusals.Refusal.TheVariants.{HistoryFull}
 use Rattle.cs_disk.specs.declared.disk.PageDisk.{Ghosts as PageDisk}
 use Rattle.cs_extent.specs.State.{extents_of, shape}
@@ -7,9 +7,7 @@ use Rattle.cs_frame.specs.Formats.{formats_of}
 use Rattle.law_machine.specs.Apart.{any_swept}
 use Rattle.law_machine.specs.Device.{IsShape, Shape}
 use Rattle.law_machine.specs.Extents.{Extents}
-use Rattle.law_machine.specs.Format.{Format, Four, Two}
 use Rattle.law_machine.specs.Frames.{IsFormat}
-use Rattle.law_machine.specs.Geometry.{apart_in, fills_in}
 use Rattle.law_machine.specs.State as model
 use Rattle.law_machine.specs.Step.{Step}
 use Rattle.law_refinement.proofs.Shapes.{shape_of_store}
@@ -31,7 +29,7 @@ use Rattle.cs_writeback.specs.Syncs.{IsStageDone, Syncs}
 use Rattle.law_room_in_store.proofs.CoreRoom.{state_roomy}
 use Rattle.law_room_in_store.proofs.CoreSteps.{IsAt}
 use Rattle.law_room_in_store.proofs.CoreSweeps.{chunks_counted, room_in}
-use Rattle.law_room_in_store.proofs.HavingRoom.{format_is}
+use Rattle.law_room_in_store.proofs.HavingRoom.{fills_apart, format_is}
 use Rattle.law_room_in_store.proofs.KeepingRoom.{IsRoomyState, reached_state, state_of, young_before}
 use Rattle.law_room_in_store.proofs.ReclaimChoices.{chose_by, none_within}
 use Rattle.law_room_in_store.proofs.ReclaimsChoose.{none_chosen, nothing_dead}
@@ -41,11 +39,6 @@ use Rattle.law_room_in_store.specs.Cores.{NoneWornIn}
 use Rattle.law_room_in_store.specs.Reclaims.{DeadAtMost, IsIdle, IsReclaim, LiveFewFor, NoneFailed, NothingDeadIn, ReclaimsBy}
 use Rattle.law_room_in_store.specs.Roomy.{IsRoomyCore}
 use Rattle.law_room_in_store.specs.Sweeps.{AreLeftForPuts, LiveAtMost, chunk_extents_of}
-
--- where chunks and runs lie apart extents are filled up
-pub fills_apart : (format : Format) → apart_in format ≡ true → fills_in format ≡ true
-fills_apart Two wrong = absurd (true≢false (sym wrong))
-fills_apart (Four store device) apart = refl
 
 -- where no call of the disk failed as one more found nothing to sweep, none failed before that either
 pub none_parts : {D : Type 0} (disks : PageDisk D) (v w x : View D) (k : ℕ) → ReclaimsBy disks k v w → IsReclaim disks w None x → NoneFailed disks v x

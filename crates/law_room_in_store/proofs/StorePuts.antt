@@ -1,5 +1,5 @@
 -- A put of the typed store finds room.
-use Rattle.std.proofs.Common.{◌≡◌, inl, inr, ℕ, ◌+◌, ◌*◌, ◌≤◌, List, [], ◌∷◌, length, refl, sym, ap, subst, arith}
+use Rattle.std.proofs.Common.{◌≡◌, inl, inr, ℕ, ◌+◌, ◌≤◌, List, [], ◌∷◌, refl, sym, ap, subst, arith}
 use Rattle.cs_refusal.specs.declared.refusals.Refusal.TheVariants as refusal
 use Rattle.cs_disk.specs.declared.disk.PageDisk.{Ghosts as PageDisk}
 use Rattle.cs_extent.specs.State.{shape}
@@ -30,6 +30,7 @@ use Rattle.law_room_in_store.proofs.KeepingRoom.{IsRoomyState, reached_state, yo
 use Rattle.law_room_in_store.proofs.Reaching.{Anything, IsOfSync, Reaches, reaches_goes, reaches_ready, reaches_some, reaches_stays, reaches_stopped, reaches_then}
 use Rattle.law_room_in_store.proofs.StoresFull.{ready_state, store_put}
 use Rattle.law_room_in_store.specs.Cores.{NoneWornIn}
+use Rattle.law_room_in_store.specs.Puts.{FillsExtents}
 use Rattle.law_room_in_store.specs.Sweeps.{AreLeftForPuts, chunk_extents_of}
 
 pub of_sync : IsOfSync IsSyncing
@@ -65,10 +66,10 @@ module _ {D : Type 0} (disks : PageDisk D) where
       (let all : chunk_extents_of v + n + (shape v.store.extents).run_extents + 2 ≤ (shape v.store.extents).extents = left in
       omega (arith, fewer, was, now))
 
-  -- a put of n chunks at most isn't refused for want of a place where n extents are left
-  last_put : (v w : View D) (id : ShardId) (bytes : List ℕ) (n : ℕ) → IsRoomyState disks v → NoneWornIn w → AreLeftForPuts n v → 1 ≤ n
-      → length bytes ≤ n * (shape v.store.extents).chunk_bytes → Went disks v ((Put id bytes, Refused refusal.Full) ∷ []) w → ⊥
-  last_put v w id bytes n roomy young left some short (before, after, stays, goes, then_stays) =
+  -- a put that fills at most n extents isn't refused for want of a place where n are left
+  last_put : (v w : View D) (id : ShardId) (bytes : List ℕ) (n : ℕ) → IsRoomyState disks v → NoneWornIn w → AreLeftForPuts n v
+      → FillsExtents (shape v.store.extents) n id bytes → Went disks v ((Put id bytes, Refused refusal.Full) ∷ []) w → ⊥
+  last_put v w id bytes n roomy young left fill (before, after, stays, goes, then_stays) =
       let first = reached_state disks v before roomy (reaches_stays disks Anything v before stays) in
       let rest = reaches_then disks Anything before after w
       (reaches_goes disks Anything before after (Put id bytes) (Refused refusal.Full) tt goes)
@@ -81,29 +82,29 @@ module _ {D : Type 0} (disks : PageDisk D) where
       chunks_counted disks (shape before.store.extents) before first.legal.0 r.0 (at_now before first) r.1.room.room in
       not_full disks before first.geometry first.apart before after first.legal.0 r.0 id bytes n (at_now before first) r.1.room
       (subst (λ (k : ℕ). k + n + (shape before.store.extents).run_extents + 2 ≤ (shape before.store.extents).extents) (sym count) left_now)
-      some (subst (λ (u : Stored). length bytes ≤ n * (shape u.extents).chunk_bytes) (sym same) short) (inr goes.step)
+      (subst (λ (u : Stored). FillsExtents (shape u.extents) n id bytes) (sym same) fill) (inr goes.step)
 
   stopped_put : (v w : View D) (id : ShardId) (bytes : List ℕ) (n : ℕ) → IsRoomyState disks v → NoneWornIn w → AreLeftForPuts n v
-      → 1 ≤ n → length bytes ≤ n * (shape v.store.extents).chunk_bytes → IsStopped disks v [] (Put id bytes) refusal.Full w → ⊥
-  stopped_put v w id bytes n roomy young left some short stopped = go stopped.added stopped.went stopped.refused
+      → FillsExtents (shape v.store.extents) n id bytes → IsStopped disks v [] (Put id bytes) refusal.Full w → ⊥
+  stopped_put v w id bytes n roomy young left fill stopped = go stopped.added stopped.went stopped.refused
     where
       go : (added : List (Event × Reply)) → Went disks v added w → IsRefused w (Put id bytes) refusal.Full added → ⊥
-      go added went (inl is) = last_put v w id bytes n roomy young left some short
+      go added went (inl is) = last_put v w id bytes n roomy young left fill
           (subst (λ (xs : List (Event × Reply)). Went disks v xs w) is went)
       go added went (inr (none, inl why)) = let no : refusal.Full ≡ refusal.OutOfMemory = why in cc
       go added went (inr (none, inr why)) = let no : refusal.Full ≡ refusal.HistoryFull = why.0 in cc
 
   -- nor is one of the store, whatever room is made for its event
   pub store_put_left : (v w : View D) (id : ShardId) (bytes : List ℕ) (n : ℕ) → IsRoomyState disks v → NoneWornIn w
-      → AreLeftForPuts n v → 1 ≤ n → length bytes ≤ n * (shape v.store.extents).chunk_bytes
+      → AreLeftForPuts n v → FillsExtents (shape v.store.extents) n id bytes
       → DeclinesCopy disks v (Put id bytes) refusal.Full w → ⊥
-  store_put_left v w id bytes n roomy young left some short declines =
+  store_put_left v w id bytes n roomy young left fill declines =
       let d = store_put disks v w id bytes roomy young declines in
       let ready = ready_state disks v d.0 roomy d.1 in
       let reaches = reaches_ready disks IsSyncing of_sync v d.0 d.1 in
       let ready_young : NoneWornIn d.0 = young_at d.0 w id bytes ready d.2 young in
-      stopped_put d.0 w id bytes n ready young (synced_left v d.0 n roomy ready_young reaches left) some
-      (subst (λ (T : Shape). length bytes ≤ n * T.chunk_bytes) (sym reaches.same) short) d.2
+      stopped_put d.0 w id bytes n ready young (synced_left v d.0 n roomy ready_young reaches left)
+      (subst (λ (T : Shape). FillsExtents T n id bytes) (sym reaches.same) fill) d.2
     where
       young_at : (ready w : View D) (id : ShardId) (bytes : List ℕ) → IsRoomyState disks ready
           → IsStopped disks ready [] (Put id bytes) refusal.Full w → NoneWornIn w → NoneWornIn ready

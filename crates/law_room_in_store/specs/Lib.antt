@@ -1,6 +1,7 @@
 pub mod Cores
 pub mod Images
 pub mod Lives
+pub mod Puts
 pub mod Reclaims
 pub mod Roomy
 pub mod Sweeps

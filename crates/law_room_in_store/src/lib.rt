@@ -26,7 +26,7 @@ pub use drives::{
 pub use formats::formats_have_room;
 pub use lives::{each_store_has_a_geometry, no_core_is_ever_stuck};
 pub use room_by_reclaims::{no_more_lives_than_is_counted, reclaims_leave_room_for_puts};
-pub use room_for_puts::a_put_of_a_core_finds_room;
+pub use room_for_puts::{a_put_of_a_core_finds_room, how_many_extents_a_put_fills};
 pub use room_of_stores::{
     a_put_of_a_store_finds_room, calls_keep_stores_roomy,
     nothing_but_a_put_of_a_store_is_refused_full,

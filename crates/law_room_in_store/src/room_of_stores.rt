@@ -1,5 +1,5 @@
 //! The typed store keeps its room, and nothing of it but a put is refused for want of a place.
-ghost use Rattle.std.specs.Prelude.{◌≡◌, ◌≢◌, ◌⊎◌, ◌*◌, ◌≤◌, ℕ, List, [], length};
+ghost use Rattle.std.specs.Prelude.{◌≡◌, ◌≢◌, ◌⊎◌, ℕ, List, []};
 ghost use Rattle.cs_refusal.specs.declared.refusals.Refusal.TheVariants.{Full, OutOfMemory};
 ghost use Rattle.cs_extent.specs.State.{shape};
 ghost use Rattle.cs_frame.specs.declared.identifiers.ShardId.{ShardId};
@@ -21,6 +21,7 @@ ghost use Rattle.cs_inspect.specs.Choices.{ReadsOn};
 ghost use Rattle.cs_store.specs.Rooms.{IsMadeReady};
 ghost use Rattle.cs_store.specs.Sweeps.{DeclinesSweep};
 ghost use Rattle.law_room_in_store.specs.Cores.{NoneWornIn};
+ghost use Rattle.law_room_in_store.specs.Puts.{FillsExtents};
 ghost use Rattle.law_room_in_store.specs.Roomy.{IsRoomyCore};
 ghost use Rattle.law_room_in_store.specs.Sweeps.{AreLeftForPuts};
 
@@ -57,9 +58,10 @@ pub fn nothing_but_a_put_of_a_store_is_refused_full<D: PageDisk>()
         → (ready : View D) × IsMadeReady D.PageDisk v ready × IsStopped D.PageDisk ready [] (Put id bytes) Full w }
 {}
 
-/// A put of the typed store of at most n chunks is never refused 30 Full where n extents are left for puts: the sync
-/// that makes room for its event takes none of them.
+/// A put of the typed store is never refused 30 Full if n extents are left for puts and its frames fill at most n
+/// extents. The sync that makes room for its event takes none of them. `how_many_extents_a_put_fills` says how many
+/// they fill.
 pub fn a_put_of_a_store_finds_room<D: PageDisk>()
     ensures { (v w : View D) (id : ShardId) (bytes : List ℕ) (n : ℕ) → IsRoomyCore D.PageDisk v → NoneWornIn w → AreLeftForPuts n v
-        → 1 ≤ n → length bytes ≤ n * (shape v.store.extents).chunk_bytes → DeclinesCopy D.PageDisk v (Put id bytes) Full w → ⊥ }
+        → FillsExtents (shape v.store.extents) n id bytes → DeclinesCopy D.PageDisk v (Put id bytes) Full w → ⊥ }
 {}

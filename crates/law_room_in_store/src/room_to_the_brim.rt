@@ -1,12 +1,16 @@
 //! Up to the brim puts find room beside what lives.
-ghost use Rattle.std.specs.Prelude.{ℕ, List, None};
+ghost use Rattle.std.specs.Prelude.{◌+◌, ◌-◌, ◌*◌, ◌<◌, ◌≤◌, ℕ, List, None, length};
 ghost use Rattle.cs_refusal.specs.declared.refusals.Refusal.TheVariants.{Full};
+ghost use Rattle.cs_extent.specs.State.{shape};
 ghost use Rattle.cs_frame.specs.declared.identifiers.ShardId.{ShardId};
 ghost use Rattle.cs_core.specs.declared.events.Event.TheVariants.{Put};
 ghost use Rattle.cs_core.specs.declared.events.Reply.TheVariants.{Refused};
 ghost use Rattle.cs_core.specs.Views.{Applies, View};
 ghost use Rattle.cs_store.specs.Events.{DeclinesCopy};
+ghost use Rattle.law_machine.specs.Pieces.{chunk_pages};
+ghost use Rattle.law_room.specs.OfMachine.{AreChunksAtMost};
 ghost use Rattle.law_room_in_store.specs.Cores.{NoneWornIn};
+ghost use Rattle.law_room_in_store.specs.Images.{HasGeometry};
 ghost use Rattle.law_room_in_store.specs.Reclaims.{FitsBeside, IsIdle, IsReclaim, NoneFailed, NothingDeadIn, ReclaimsBy, TakenAtMost};
 ghost use Rattle.law_room_in_store.specs.Roomy.{IsRoomyCore};
 ghost use Rattle.law_room_in_store.specs.Sweeps.{LiveAtMost};
@@ -30,4 +34,9 @@ pub fn a_put_finds_room_to_the_brim<D: PageDisk>()
     ensures reclaimed { (v w x y : View D) (id : ShardId) (bytes : List ℕ) (k live : ℕ) → IsRoomyCore D.PageDisk v → NoneWornIn y → IsIdle v
         → ReclaimsBy D.PageDisk k v w → IsReclaim D.PageDisk w None x → NoneFailed D.PageDisk v x → LiveAtMost D.state v live
         → FitsBeside v live id bytes → DeclinesCopy D.PageDisk x (Put id bytes) Full y → ⊥ }
+    // The frames of at most n chunks fit beside what lives if n frames of a whole piece do.
+    ensures chunks { (v : View D) (id : ShardId) (bytes : List ℕ) (n live : ℕ) → HasGeometry v.store.extents
+        → (let S = shape v.store.extents in let most = chunk_pages S.format (S.piece_bytes (length bytes))
+        in AreChunksAtMost S n bytes → S.run_extents + 3 ≤ S.extents
+        → live + n * most < (S.extents - (S.run_extents + 2)) * (S.pages + 1 - most) + most → FitsBeside v live id bytes) }
 {}

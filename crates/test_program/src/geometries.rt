@@ -1,6 +1,6 @@
 //! The geometries that new stores get, and the sizes that ask for them.
 use cs_frame::{FormatNumber, Geometry, StoreId};
-use cs_options::{Wish, geometry_for, size_of};
+use cs_options::{Wish, geometry_for, largest_shard, size_of, sure_bytes};
 use cs_store::{NO_IDENTITY, identified, new_identity};
 use std::process::Abort;
 use std::test::{Fail, *};
@@ -40,13 +40,19 @@ const STORE: StoreId = StoreId([7; 16]);
 /// What is wished: a size, that of the largest shard, and how many shards. And how many extents of how many pages a
 /// store gets for that.
 const WISHES: &[((u64, u64, u64), (u16, u16))] = &[
-    ((67_108_864, 1_048_576, 1), (63, 256)),
-    ((10_737_418_240, 1_048_576, 1), (2_559, 1_024)),
-    ((1_099_511_627_776, 1_048_576, 1), (7_679, 34_953)),
-    ((1_048_576, 4_096, 1), (63, 4)),
+    ((67_108_864, 1_048_576, 1), (56, 292)),
+    ((10_737_418_240, 1_048_576, 1), (2_562, 1_023)),
+    ((1_099_511_627_776, 1_048_576, 1), (7_680, 34_952)),
+    ((1_048_576, 4_096, 1), (126, 2)),
+    // A million identifiers need 8,057 pages.
     ((10_737_418_240, 1_048_576, 1_000_000), (325, 8_057)),
+    // So do shards that are small: as many as have room are to have identifiers.
+    ((10_737_418_240, 4_096, 1), (252, 10_402)),
+    ((10_737_418_240, 67_108_864, 1), (160, 16_383)),
+    ((4_194_304, 1_048_576, 1), (10, 102)),
     ((2_719_744, 1_048_576, 1), (20, 33)),
     ((73_728, 1, 1), (7, 2)),
+    ((57_344, 1, 1), (5, 2)),
 ];
 
 /// The geometry of a store for this.
@@ -71,22 +77,66 @@ fn the_geometries_of_wishes(rt: HostRuntime) -> Result<(), Fail> {
     Ok(())
 }
 
+/// The least sizes of a size of shards and a number of them.
+const LEAST: &[((u64, u64), Option<u64>)] = &[
+    ((1_048_576, 1), Some(2_719_744)),
+    ((67_108_864, 1), Some(167_870_464)),
+    ((1_048_576, 100_000), Some(16_523_264)),
+    ((1, 1), Some(57_344)),
+    ((4_294_967_296, 1), None),
+];
+
 #[test]
 fn the_least_size_of_a_wish(rt: HostRuntime) -> Result<(), Fail> {
-    let wish = Wish {
-        size: 2_719_743,
-        shard_size: 1_048_576,
-        shards: 1,
-    };
-    let small = geometry_for(wish, STORE).expect_err(&rt, "too small");
-    assert_eq!(&rt; small.least, Some(2_719_744));
-    let wish = Wish {
-        size: 1_099_511_627_776,
-        shard_size: 4_294_967_296,
-        shards: 1,
-    };
-    let small = geometry_for(wish, STORE).expect_err(&rt, "too large a shard");
-    assert_eq!(&rt; small.least, None);
+    for ((shard_size, shards), wanted) in LEAST {
+        let wish = Wish {
+            size: wanted.unwrap_or(1_099_511_627_776).saturating_sub(1),
+            shard_size: *shard_size,
+            shards: *shards,
+        };
+        let small = geometry_for(wish, STORE).expect_err(&rt, "too small");
+        assert_eq!(&rt; small.least, *wanted);
+    }
+    Ok(())
+}
+
+/// How many bytes a store of so many extents of so many pages is sure to hold in shards of a size.
+const ROOMS: &[((u64, u64, u64), Option<u64>)] = &[
+    // 60 extents of 256 pages are for puts, and each has less than 33 pages left if one of eight chunks has no room:
+    // 13,440 pages are sure, and a shard has 264.
+    ((64, 256, 1_048_576), Some(52_428_800)),
+    ((56, 292, 1_048_576), Some(53_477_376)),
+    ((64, 256, 1), Some(15_360)),
+    // The index names 246 of them.
+    ((2_000, 2, 1), Some(246)),
+    ((20, 33, 1_048_576), Some(0)),
+    ((64, 256, 8_388_008), Some(0)),
+    ((64, 256, 8_388_009), None),
+];
+
+#[test]
+fn the_room_of_geometries(rt: HostRuntime) -> Result<(), Fail> {
+    for ((extents, pages, shard_size), wanted) in ROOMS {
+        let geometry = Geometry::for_file(STORE, *extents, *pages, None)?;
+        assert_eq!(&rt; sure_bytes(geometry, *shard_size), *wanted);
+    }
+    Ok(())
+}
+
+/// The longest shards that stores of so many extents of so many pages take.
+const LARGEST: &[((u64, u64), u64)] = &[
+    ((64, 256), 8_388_008),
+    ((11, 256), 8_388_008),
+    ((10, 102), 1_253_151),
+    ((5, 2), 8_117),
+];
+
+#[test]
+fn the_largest_shards_of_geometries(rt: HostRuntime) -> Result<(), Fail> {
+    for ((extents, pages), wanted) in LARGEST {
+        let geometry = Geometry::for_file(STORE, *extents, *pages, None)?;
+        assert_eq!(&rt; largest_shard(geometry), *wanted);
+    }
     Ok(())
 }
 

@@ -2,7 +2,7 @@
 use clap::ArgMatches;
 use clap::error::ErrorKind;
 use cs_frame::StoreId;
-use cs_options::{command, geometry_of, race_of};
+use cs_options::{NoReach, Reach, command, geometry_of, race_of, reach_of};
 use cs_refusal::Refusal;
 use std::alloc::Global;
 use std::process::Abort;
@@ -174,6 +174,53 @@ fn the_flags_of_damaged_stores(rt: HostRuntime) -> Result<(), Fail> {
         let (_, options) = matches.subcommand().expect(&rt, "a command");
         assert!(&rt; options.get_flag(flag));
     }
+    Ok(())
+}
+
+/// How far the words ask a reclaim to go.
+fn reach(rt: &(impl Abort + AllocGlobal), words: &[&str]) -> Result<Result<Reach, NoReach>, Fail> {
+    let matches = read(rt.alloc(), words)?.expect(rt, "read");
+    let options = matches
+        .subcommand_matches("reclaim")
+        .expect(rt, "a reclaim");
+    Ok(reach_of(options))
+}
+
+/// Words that ask a reclaim to go so far.
+const REACHES: &[(&[&str], Result<Reach, NoReach>)] = &[
+    (&["cs_cli", "reclaim", "f"], Ok(Reach::Usual)),
+    (
+        &["cs_cli", "reclaim", "f", "--for", "4M"],
+        Ok(Reach::Put(4_194_304)),
+    ),
+    (&["cs_cli", "reclaim", "--for=0", "f"], Ok(Reach::Put(0))),
+    (&["cs_cli", "reclaim", "f", "--all"], Ok(Reach::Brim)),
+    (
+        &["cs_cli", "reclaim", "f", "--all", "--for", "1"],
+        Err(NoReach::Both),
+    ),
+    (
+        &["cs_cli", "reclaim", "f", "--for", "4X"],
+        Err(NoReach::NoSize),
+    ),
+];
+
+#[test]
+fn how_far_a_reclaim_goes(rt: HostRuntime) -> Result<(), Fail> {
+    for (words, wanted) in REACHES {
+        assert_eq!(&rt; reach(&rt, words)?, *wanted);
+    }
+    Ok(())
+}
+
+#[test]
+fn what_a_person_wants_to_see(rt: HostRuntime) -> Result<(), Fail> {
+    let words = &["cs_cli", "stat", "f", "--summary", "--map-svg", "f.svg"];
+    let matches = read(rt.alloc(), words)?.expect(&rt, "read");
+    let options = matches.subcommand_matches("stat").expect(&rt, "a stat");
+    assert!(&rt; options.get_flag("summary"));
+    assert!(&rt; !options.get_flag("map"));
+    assert_eq!(&rt; options.get_str("map-svg"), Some("f.svg"));
     Ok(())
 }
 

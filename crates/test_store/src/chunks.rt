@@ -2,12 +2,14 @@
 ghost use Rattle.std.specs.Prelude.{◌<◌};
 ghost use Rattle.cs_extent.specs.State.{shape};
 
-use crate::stores::{Store, assert_large, assert_ready, id, plays};
-use crate::texts::{text_of, words_of};
-use cs_chunk::{pages_have_one_newest, put_chunks, read_chunks, read_frame, what_was_put_stays};
+use crate::stores::{STORE, Store, assert_large, assert_ready, id, new_extents, plays};
+use crate::texts::{prints, text_of, words_of};
+use cs_chunk::{
+    Cut, pages_have_one_newest, put_chunks, read_chunks, read_frame, what_was_put_stays,
+};
 use cs_disk::{DiskFault, PageDisk, refusal_of_disk};
 use cs_extent::Extents;
-use cs_frame::{FormatFault, FrameKind, Locator, Places, refusal_of_fault};
+use cs_frame::{FormatFault, FrameKind, Geometry, Locator, Places, refusal_of_fault};
 use cs_refusal::Refusal;
 use std::alloc::Global;
 use std::process::Abort;
@@ -32,7 +34,7 @@ pub fn put(
 }
 
 /// Asserts that a place lies in the extents.
-fn assert_inside(rt: &impl Abort, extents: &Extents, place: Locator)
+pub fn assert_inside(rt: &impl Abort, extents: &Extents, place: Locator)
     ensures extent { place.extent < (shape extents.now).extents }
     ensures page { place.page < (shape extents.now).pages }
 {
@@ -116,6 +118,56 @@ const FILLS: &str = "chunk zeros 8151 > Ok([Locator { extent: 0, page: 0, genera
 plains > 2
 chunk zeros 8152 > Ok([Locator { extent: 1, page: 0, generation: 0, mark: 0 }, Locator { extent: 2, page: 0, generation: 0, mark: 0 }])
 plains > 5";
+
+/// Asserts how so many bytes are cut on extents of so many pages, in format 2 and in format 4. How many chunks there
+/// are, how many bytes each piece but the last has, and the pages of its chunk and of the last one.
+fn is_cut(rt: &(impl Abort + AllocGlobal), pages: u64, bytes: usize, wanted: [&str; 2]) {
+    let second = Geometry::with_sections(7, pages, 1).expect(rt, "a geometry");
+    let fourth = Geometry::for_file(STORE, 7, pages, None).expect(rt, "a geometry");
+    let alloc = rt.alloc();
+    prints(
+        rt,
+        &cut_of(&new_extents(rt, alloc, second), bytes),
+        wanted[0],
+    );
+    prints(
+        rt,
+        &cut_of(&new_extents(rt, alloc, fourth), bytes),
+        wanted[1],
+    );
+}
+
+fn cut_of(extents: &Extents, bytes: usize) -> Option<(usize, usize, usize, usize)> {
+    match Cut::of(extents, bytes) {
+        Some(cut) => Some((cut.count, cut.size, cut.pages, cut.last)),
+        None => None,
+    }
+}
+
+/// In format 4 a shard is cut evenly, in chunks of an eighth of an extent or in eight. It has one chunk if more would
+/// take many more pages.
+#[test]
+fn pieces_of_a_shard(rt: HostRuntime) {
+    is_cut(
+        &rt,
+        256,
+        1048576,
+        ["Some((2, 1048535, 256, 1))", "Some((8, 131072, 33, 33))"],
+    );
+    is_cut(
+        &rt,
+        16,
+        65461,
+        ["Some((1, 65495, 16, 16))", "Some((1, 65461, 16, 16))"],
+    );
+    is_cut(
+        &rt,
+        16,
+        458224,
+        ["Some((7, 65495, 16, 16))", "Some((7, 65461, 16, 16))"],
+    );
+    is_cut(&rt, 2, 0, ["Some((1, 8151, 2, 1))", "Some((1, 1, 1, 1))"]);
+}
 
 #[test]
 fn too_many_bytes_leave_no_trace(rt: HostRuntime) {

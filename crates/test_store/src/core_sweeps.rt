@@ -1,5 +1,9 @@
 //! Sweeps of a core, event by event.
+use crate::chunks::assert_inside;
 use crate::machines::{disk_of_a_put, let_go, opened_failing, play, plays};
+use cs_core::Core;
+use cs_disk::PageDisk;
+use cs_frame::{FrameKind, Locator};
 use std::process::Abort;
 
 /// Two puts, which fill the first extent.
@@ -121,3 +125,27 @@ accepted > 0
 events > 1
 get 10 > Found(Bytes { block: [97] })
 put 11 98 > Accepted(1)";
+
+/// Asserts that the chunk on the first page of the first extent is a byte long.
+fn has_length<D: PageDisk>(rt: &impl Abort, core: &mut Core<D>) {
+    let place = Locator {
+        extent: 0,
+        page: 0,
+        generation: 0,
+        mark: 0,
+    };
+    assert_inside(rt, core.extents(), place);
+    let length = core.read_length(FrameKind::Chunk, place);
+    assert!(rt; matches!(length, Ok(1)));
+}
+
+/// After an opening a chunk's length is read from the device once. The fifth call reads it. The sixth one, which fails,
+/// is that of the get.
+#[test]
+fn a_length_is_read_once(rt: HostRuntime) {
+    let mut core = opened_failing(&rt, disk_of_a_put(&rt), 6, 1000);
+    has_length(&rt, &mut core);
+    has_length(&rt, &mut core);
+    play(&rt, &mut core, "get 10 > Refused(DeviceFault)");
+    let_go(core);
+}

@@ -10,12 +10,22 @@ use cs_disk::{MemoryDisk, PageDisk};
 use cs_frame::{Format, FormatNumber, FrameKind, chunk_body, decode_head};
 use std::process::Abort;
 
-/// Puts a shard of two chunks, the second of one byte.
-fn put_two_chunks<D: PageDisk>(rt: &(impl Abort + AllocGlobal), core: &mut Core<D>) {
-    let bytes = vec![in rt.alloc(); 98; 8118].expect(rt, "memory");
+/// Puts a shard of so many bytes.
+fn put_bytes<D: PageDisk>(rt: &(impl Abort + AllocGlobal), core: &mut Core<D>, count: usize) {
+    let bytes = vec![in rt.alloc(); 98; count].expect(rt, "memory");
     let bytes = Bytes::new(rt.alloc(), bytes).expect(rt, "bytes");
     let reply = answer(rt, core, &Event::Put(id(11), bytes));
     assert!(rt; matches!(reply, Reply::Accepted(2)));
+}
+
+/// The disk of a store with a shard of one byte, and one of so many bytes.
+fn disk_with(rt: &(impl Abort + AllocGlobal), count: usize) -> MemoryDisk {
+    let mut core = new_fourth(rt);
+    play(rt, &mut core, "put 10 97 > Accepted(1)");
+    put_bytes(rt, &mut core, count);
+    play(rt, &mut core, "stage > Staged(2)");
+    play(rt, &mut core, "written > 2");
+    core.into_disk()
 }
 
 /// Asserts what the chunk whose frame lies on these pages of a disk says of itself, and how many bytes of the shard it
@@ -36,18 +46,23 @@ fn says(
     assert!(rt; chunk_body(Format::four(STORE, 16), &payload).len() == bytes);
 }
 
-/// Each chunk says whose it is, its number, how many there are, and which command put it.
+/// Each chunk says whose it is, its number, how many there are, and which command put it. The first of two pieces is as
+/// long as may be: pieces of one length would take more pages.
 #[test]
 fn chunks_say_whose_they_are(rt: HostRuntime) {
-    let mut core = new_fourth(&rt);
-    play(&rt, &mut core, "put 10 97 > Accepted(1)");
-    put_two_chunks(&rt, &mut core);
-    play(&rt, &mut core, "stage > Staged(2)");
-    play(&rt, &mut core, "written > 2");
-    let mut disk = core.into_disk();
+    let mut disk = disk_with(&rt, 12100);
     says(&rt, &mut disk, &[2], FIRST, 1);
     says(&rt, &mut disk, &[4, 5], FIRST_OF_TWO, 8117);
-    says(&rt, &mut disk, &[3], SECOND_OF_TWO, 1);
+    says(&rt, &mut disk, &[3], SECOND_OF_TWO, 3983);
+}
+
+/// A byte more than a chunk may have is cut in three pieces of one length, and each chunk has a page.
+#[test]
+fn a_shard_is_cut_in_pieces_of_one_length(rt: HostRuntime) {
+    let mut disk = disk_with(&rt, 8118);
+    says(&rt, &mut disk, &[3], FIRST_OF_THREE, 2706);
+    says(&rt, &mut disk, &[4], SECOND_OF_THREE, 2706);
+    says(&rt, &mut disk, &[5], THIRD_OF_THREE, 2706);
 }
 
 const FIRST: &str =
@@ -58,6 +73,15 @@ const FIRST_OF_TWO: &str =
 
 const SECOND_OF_TWO: &str =
     "Some(FoundHead { head: ChunkHead { id: ShardId([0, 0, 0, 0, 0, 0, 0, 0, 0, 0, 0, 0, 0, 0, 0, 11]), number: 1, count: 2, command: 2 }, store: [0, 1, 2, 3, 4, 5, 6, 7] })";
+
+const FIRST_OF_THREE: &str =
+    "Some(FoundHead { head: ChunkHead { id: ShardId([0, 0, 0, 0, 0, 0, 0, 0, 0, 0, 0, 0, 0, 0, 0, 11]), number: 0, count: 3, command: 2 }, store: [0, 1, 2, 3, 4, 5, 6, 7] })";
+
+const SECOND_OF_THREE: &str =
+    "Some(FoundHead { head: ChunkHead { id: ShardId([0, 0, 0, 0, 0, 0, 0, 0, 0, 0, 0, 0, 0, 0, 0, 11]), number: 1, count: 3, command: 2 }, store: [0, 1, 2, 3, 4, 5, 6, 7] })";
+
+const THIRD_OF_THREE: &str =
+    "Some(FoundHead { head: ChunkHead { id: ShardId([0, 0, 0, 0, 0, 0, 0, 0, 0, 0, 0, 0, 0, 0, 0, 11]), number: 2, count: 3, command: 2 }, store: [0, 1, 2, 3, 4, 5, 6, 7] })";
 
 /// Two puts that are made persistent.
 const TWO: &str = "put 10 97 > Accepted(1)

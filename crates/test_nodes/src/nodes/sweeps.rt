@@ -291,14 +291,14 @@ const PASSES_OVER: &[Act] = &[
 ];
 
 /// Three calls format the store, seven are the writes of the four shards, the run and the superblock, and their flush,
-/// and two the write of the root and its flush. Two read headers to choose, and the fifteenth call reads the first
-/// chunk that is to be moved.
+/// and two the write of the root and its flush. The core knows how long the chunks are that were put, so no header is
+/// read to choose. The thirteenth call reads the first chunk that is to be moved.
 #[test]
 fn an_extent_whose_move_fails_is_passed_over(rt: HostRuntime) {
     tries(
         &rt,
         rt.alloc(),
-        Store::Apart(15),
+        Store::Apart(13),
         Task::Plays(PASSES_OVER),
         Wanted::Begun(&[0, 1]),
     );

@@ -1,4 +1,4 @@
-use Rattle.std.proofs.Common.{◌++◌, ◌∙◌, ap}
+use Rattle.std.proofs.Common.{◌∙◌, ap}
 use Rattle.std.specs.Prelude.{map}
 use Rattle.cs_chunk.specs.Cuts.{pieces}
 use Rattle.cs_chunk.proofs.Pieces.{heads_begun, heads_done, heads_pushed}

@@ -1,5 +1,6 @@
-use Rattle.std.proofs.Common.{◌*◌, ◌≤◌}
+use Rattle.std.proofs.Common.{◌≤◌}
 use Rattle.cs_extent.specs.State.{shape}
+use Rattle.cs_tools.specs.Aims.{most_emptied}
 use Rattle.cs_tools.specs.Reclaims.{EmptiesTimes, LieApart, Tidies}
 use Rattle.cs_tools.proofs.Resting.{IsAtRest}
 use Rattle.cs_tools.proofs.reclaim_command.empty_by_choice.Given as goal
@@ -8,6 +9,6 @@ abbrev pub invariant-loop : goal.invariant-loop
 invariant-loop g l = record {
   tidies : Tidies g.D.PageDisk l.fn.core l.core;
   so_far : g.D.PageDisk.honest l.fn.core.disk → IsAtRest l.fn.core l.core;
-  times : LieApart l.fn.core → EmptiesTimes g.D.PageDisk l.fn.style l.counter l.fn.core l.core (g.W.Write.contents l.fn.writer) (g.W.Write.contents l.writer);
-  few : l.counter ≤ 2 * (shape l.fn.core.store.extents).extents;
+  times : LieApart l.fn.core → EmptiesTimes g.D.PageDisk l.fn.aim l.fn.style l.counter l.fn.core l.core (g.W.Write.contents l.fn.writer) (g.W.Write.contents l.writer);
+  few : l.counter ≤ most_emptied l.fn.aim (shape l.fn.core.store.extents).extents;
 }

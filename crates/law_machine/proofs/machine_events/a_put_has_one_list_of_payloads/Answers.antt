@@ -5,10 +5,10 @@ use Rattle.law_machine.proofs.Payloads.{payloads_bytes, payloads_heads, payloads
 
 pub returns : goal.returns
 returns c = record {
-  there = λ S F id command bytes shape. payloads_there S F id command bytes shape.some_byte;
+  there = λ S F id command bytes shape. payloads_there S F id command bytes (shape.some_piece (length bytes));
   one = λ S F id command bytes payloads others a b. payloads_one S F id command bytes payloads others a b;
   length = λ S F id command bytes payloads pieces a chunked.
-      payloads_length S F id command bytes payloads a ∙ ap length (chunked_one S.chunk_bytes bytes a.0 pieces a.1 chunked);
+      payloads_length S F id command bytes payloads a ∙ ap length (chunked_one (S.piece_bytes (length bytes)) bytes a.0 pieces a.1 chunked);
   bytes = λ S F id command bytes payloads format a. payloads_bytes S F format id command bytes payloads a;
   long = λ S F id command bytes payloads format a. payloads_long S F format id command bytes payloads a;
   heads = λ S F id command bytes payloads k payload a there. payloads_heads S F id command bytes payloads k payload a there;

@@ -1,7 +1,8 @@
-use Rattle.std.proofs.Common.{◌≡◌, ℕ, ◌+◌, ◌≤◌, arith}
+use Rattle.std.proofs.Common.{◌≡◌, ◌≤◌, arith}
 use Rattle.cs_extent.specs.State.{shape}
 use Rattle.law_room.specs.Brim.{all_dead}
 use Rattle.law_room.specs.Rooms.{all_pages}
+use Rattle.law_room_in_store.proofs.FilledExtents.{fit_beside}
 use Rattle.law_room_in_store.proofs.KeepingRoom.{state_of}
 use Rattle.law_room_in_store.proofs.PutsToBrim.{core_put, none_dead_all, store_put_beside}
 use Rattle.law_room_in_store.proofs.ReclaimedPuts.{reclaimed_put}
@@ -24,3 +25,7 @@ returns-clause-taken g c = λ v live nothing most r room.
 pub returns-clause-reclaimed : goal.returns-clause-reclaimed
 returns-clause-reclaimed g c = λ v w x y id bytes k live roomy young idle by call none most fits declines.
     reclaimed_put g.D.PageDisk (λ d honest. g.met.D.PageDisk.sized d honest) v w x y roomy idle k by call none young id bytes declines live most fits
+
+pub returns-clause-chunks : goal.returns-clause-chunks
+returns-clause-chunks g c = λ v id bytes n live geometry cut enough few.
+    fit_beside v.store.extents geometry n live id bytes cut enough few

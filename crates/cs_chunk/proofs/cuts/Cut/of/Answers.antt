@@ -1,19 +1,37 @@
-use Rattle.std.proofs.Common.{◌≡◌, ◌∙◌, ◌≤◌, ℕ, ap, refl, subst, sym}
-use Rattle.std.specs.Int.{div_ceil}
-use Rattle.cs_chunk.proofs.Chunkings.{last_fits, size_some}
-use Rattle.cs_chunk.proofs.PieceCounts.{piece_count}
-use Rattle.cs_extent.specs.State.{shape}
-use Rattle.law_machine.specs.Geometry.{head_bytes_in}
+use Rattle.std.proofs.Common.{◌≡◌, ◌∙◌, ◌+◌, ◌-◌, ◌*◌, ℕ, ap, subst, sym, arith}
+use Rattle.cs_chunk.proofs.Chunkings.{last_fits}
+use Rattle.cs_chunk.proofs.PieceCounts.{all_bytes, all_needed, few_enough, full_bytes, piece_count}
+use Rattle.cs_frame.specs.Frames.{page_count}
+use Rattle.law_machine.specs.Events.{Chunked}
+use Rattle.law_machine.specs.Pieces.{head_bytes_in}
 use Rattle.cs_chunk.proofs.cuts.Cut.of.Goals as goal
 
+pub overflow_mul-count : goal.overflow_mul-count
+overflow_mul-count c = omega (arith, c.ranges.bytes.fits, full_bytes c.piece_size-size.result c.args.bytes c.div_ceil.result c.max-count.result c.piece_size-size.ensures.some c.div_ceil.ensures c.max-count.ensures)
+
+pub overflow_sub-bytes : goal.overflow_sub-bytes
+overflow_sub-bytes c = full_bytes c.piece_size-size.result c.args.bytes c.div_ceil.result c.max-count.result c.piece_size-size.ensures.some c.div_ceil.ensures c.max-count.ensures
+
+pub invariant_of-result-clause-few : goal.invariant_of-result-clause-few
+invariant_of-result-clause-few c = few_enough c.piece_size-size.result c.args.bytes c.div_ceil.result c.max-count.result c.piece_size-size.ensures.some c.div_ceil.ensures c.max-count.ensures 8 (omega arith) c.piece_size-size.ensures.few
+
 pub invariant_of-result-clause-most : goal.invariant_of-result-clause-most
-invariant_of-result-clause-most c = subst (λ n. c.frame_pages.result ≤ n) (sym c.extent_pages.ensures)
-    (last_fits c.args.extents.now.format c.args.bytes c.chunk_bytes-size.result c.max-count.result c.div_ceil.result c.args.extents.now.pages c.head_bytes.result c.frame_pages.result
-    c.chunk_bytes-size.ensures.whole.geometry.fewest_pages c.chunk_bytes-size.ensures.bytes (c.head_bytes.ensures.bytes ∙ ap head_bytes_in c.format_of.ensures) c.div_ceil.ensures c.max-count.ensures c.frame_pages.ensures)
+invariant_of-result-clause-most c =
+    last_fits c.args.bytes c.piece_size-size.result c.max-count.result c.div_ceil.result c.head_bytes-head.result c.frame_pages-2.result c.frame_pages.result c.piece_size-size.ensures.some
+    c.div_ceil.ensures c.max-count.ensures c.frame_pages-2.ensures c.frame_pages.ensures
+
+pub returns-clause-cut : goal.returns-clause-cut
+returns-clause-cut c =
+    let head : c.head_bytes-head.result ≡ head_bytes_in c.args.extents.now.format = c.head_bytes-head.ensures.bytes ∙ ap head_bytes_in c.format_of.ensures in record {
+      size = c.piece_size-size.ensures.bytes;
+      pages = c.frame_pages.ensures ∙ ap (λ (n : ℕ). page_count (n + c.piece_size-size.result)) head;
+      most = few_enough c.piece_size-size.result c.args.bytes c.div_ceil.result c.max-count.result c.piece_size-size.ensures.some c.div_ceil.ensures c.max-count.ensures 8 (omega arith) c.piece_size-size.ensures.few;
+      some = omega (arith, c.max-count.ensures);
+      enough = all_bytes c.piece_size-size.result c.args.bytes c.div_ceil.result c.max-count.result c.piece_size-size.ensures.some c.div_ceil.ensures c.max-count.ensures;
+      few = all_needed c.piece_size-size.result c.args.bytes c.div_ceil.result c.max-count.result c.piece_size-size.ensures.some c.div_ceil.ensures c.max-count.ensures;
+      last = c.frame_pages-2.ensures ∙ ap (λ (n : ℕ). page_count (n + (c.args.bytes - (c.max-count.result - 1) * c.piece_size-size.result))) head;
+    }
 
 pub returns-clause-pieces : goal.returns-clause-pieces
 returns-clause-pieces c = λ xs pieces same cut.
-    let x = c.args.extents.now in
-    piece_count (shape c.args.extents.now).chunk_bytes c.args.bytes c.div_ceil.result c.max-count.result
-    (size_some x.format (shape c.args.extents.now).chunk_bytes x.pages c.chunk_bytes-size.ensures.whole.geometry.fewest_pages refl)
-    (subst (λ (n : ℕ). c.div_ceil.result ≡ div_ceil c.args.bytes n) c.chunk_bytes-size.ensures.bytes c.div_ceil.ensures) c.max-count.ensures xs pieces same cut
+    piece_count c.piece_size-size.result c.args.bytes c.div_ceil.result c.max-count.result c.piece_size-size.ensures.some c.div_ceil.ensures c.max-count.ensures xs pieces same (subst (λ (n : ℕ). Chunked n xs pieces) (sym c.piece_size-size.ensures.bytes) cut)

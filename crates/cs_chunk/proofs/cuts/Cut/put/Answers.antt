@@ -1,7 +1,7 @@
-use Rattle.std.proofs.Common.{◌≡◌, ◌∙◌, ap, arith, refl, Err, Ok, length}
-use Rattle.std.specs.Prelude.{map, ◌↔◌}
+use Rattle.std.proofs.Common.{◌≡◌, ◌∙◌, ap, arith, inl, inr, ⊎_elim, length}
+use Rattle.std.specs.Prelude.{map}
 use Rattle.cs_refusal.specs.declared.refusals.Refusal.TheVariants.{Full, WornOut}
-use Rattle.cs_chunk.proofs.Planned.{full_iff, passed_on, worn_iff}
+use Rattle.cs_chunk.proofs.Planned.{full_iff, pages_fit, passed_on, worn_iff}
 use Rattle.cs_chunk.proofs.Prepared.{frames_made, may_put, put_chunked, put_few, put_room}
 use Rattle.cs_extent.specs.State.{shape}
 use Rattle.cs_frame.specs.FormatNumbers.{number_in}
@@ -9,6 +9,13 @@ use Rattle.cs_frame.specs.Formats.{formats_of}
 use Rattle.cs_frame.specs.Frames.{spelled_frame}
 use Rattle.cs_frame.specs.Identifiers.{id_number}
 use Rattle.cs_chunk.proofs.cuts.Cut.put.Goals as goal
+
+pub may_put-requires-clause-pages : goal.may_put-requires-clause-pages
+may_put-requires-clause-pages c =
+    pages_fit c.args.extents.now (id_number c.args.origin.id) c.args.origin.command c.args.bytes.now c.extent_count.ensures.whole c.args.self c.requires.cut
+
+pub returns-in-Err-clause-refusals : goal.returns-in-Err-clause-refusals
+returns-in-Err-clause-refusals c = ⊎_elim (λ (full : c.in-Err.refusal ≡ Full). inl full) (λ (worn : c.in-Err.refusal ≡ WornOut). inr (inl worn)) c.in-Err.ensures.refusals
 
 pub returns-in-Err-clause-full : goal.returns-in-Err-clause-full
 returns-in-Err-clause-full c =

@@ -11,16 +11,16 @@ returns-then-not-is_settled-clause-always g c = rw (← c.self.view_is) (λ runs
 
 pub returns-then-is_halted-clause-crash : goal.returns-then-is_halted-clause-crash
 returns-then-is_halted-clause-crash g c = rw (← c.self.view_is) (λ honest.
-    only_left_now g.D.PageDisk c.self.invariant c.extent_count.ensures.whole honest (g.met.D.PageDisk.sized c.self.inside.disk honest) (λ image since. g.met.D.PageDisk.only_now c.self.inside.disk image honest since))
+    only_left_now g.D.PageDisk c.self.invariant.core c.extent_count.ensures.whole honest (g.met.D.PageDisk.sized c.self.inside.disk honest) (λ image since. g.met.D.PageDisk.only_now c.self.inside.disk image honest since))
 
 pub returns-then-not-is_settled-clause-crash : goal.returns-then-not-is_settled-clause-crash
 returns-then-not-is_settled-clause-crash g c = rw (← c.self.view_is) (λ honest.
-    only_left_now g.D.PageDisk c.self.invariant c.extent_count.ensures.whole honest (g.met.D.PageDisk.sized c.self.inside.disk honest) (λ image since. g.met.D.PageDisk.only_now c.self.inside.disk image honest since))
+    only_left_now g.D.PageDisk c.self.invariant.core c.extent_count.ensures.whole honest (g.met.D.PageDisk.sized c.self.inside.disk honest) (λ image since. g.met.D.PageDisk.only_now c.self.inside.disk image honest since))
 
 pub returns-then-total-gt-LAST_NUMBER-clause-crash : goal.returns-then-total-gt-LAST_NUMBER-clause-crash
 returns-then-total-gt-LAST_NUMBER-clause-crash g c = rw (← c.self.view_is) (λ honest.
-    only_left_now g.D.PageDisk c.self.invariant c.extent_count.ensures.whole honest (g.met.D.PageDisk.sized c.self.inside.disk honest) (λ image since. g.met.D.PageDisk.only_now c.self.inside.disk image honest since))
+    only_left_now g.D.PageDisk c.self.invariant.core c.extent_count.ensures.whole honest (g.met.D.PageDisk.sized c.self.inside.disk honest) (λ image since. g.met.D.PageDisk.only_now c.self.inside.disk image honest since))
 
 pub returns-clause-crash : goal.returns-clause-crash
 returns-clause-crash g c = rw (← c.self.view_is) (λ honest.
-    only_left_now g.D.PageDisk c.self.invariant c.extent_count.ensures.whole honest (g.met.D.PageDisk.sized c.self.inside.disk honest) (λ image since. g.met.D.PageDisk.only_now c.self.inside.disk image honest since))
+    only_left_now g.D.PageDisk c.self.invariant.core c.extent_count.ensures.whole honest (g.met.D.PageDisk.sized c.self.inside.disk honest) (λ image since. g.met.D.PageDisk.only_now c.self.inside.disk image honest since))

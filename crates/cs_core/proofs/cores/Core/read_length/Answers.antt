@@ -2,8 +2,14 @@ use Rattle.cs_disk.specs.Disk.{seen}
 use Rattle.cs_core.proofs.Looking.{core_read, crash_read, newest_roomed}
 use Rattle.cs_core.proofs.cores.Core.read_length.Goals as goal
 
+pub read_length-requires-clause-known : goal.read_length-requires-clause-known
+read_length-requires-clause-known g c = c.self.invariant.known
+
 pub invariant_of-self : goal.invariant_of-self
-invariant_of-self g c = core_read g.D.PageDisk c.self.invariant c.read_length.new.disk c.read_length.ensures.disk
+invariant_of-self g c = record {
+  core = core_read g.D.PageDisk c.self.invariant.core c.read_length.new.disk c.read_length.ensures.disk;
+  known = c.read_length.ensures.known;
+}
 
 pub returns-clause-told : goal.returns-clause-told
 returns-clause-told g c = rw (← c.self.view_is) (λ honest view are.
@@ -23,4 +29,4 @@ returns-clause-fault g c = rw (← c.self.view_is) (λ honest view are.
 
 pub returns-clause-crash : goal.returns-clause-crash
 returns-clause-crash g c = rw (← c.self.view_is) (λ honest.
-    crash_read g.D.PageDisk c.self.invariant c.read_length.new.disk c.read_length.ensures.disk c.extent_count.ensures.whole honest (g.met.D.PageDisk.sized c.self.inside.disk honest) (λ image since. g.met.D.PageDisk.only_now c.self.inside.disk image honest since))
+    crash_read g.D.PageDisk c.self.invariant.core c.read_length.new.disk c.read_length.ensures.disk c.extent_count.ensures.whole honest (g.met.D.PageDisk.sized c.self.inside.disk honest) (λ image since. g.met.D.PageDisk.only_now c.self.inside.disk image honest since))

@@ -1,11 +1,13 @@
 use Rattle.std.proofs.Common.{refl}
 use Rattle.cs_disk.specs.Disk.{seen}
 use Rattle.cs_index.specs.State.{id_number}
+use Rattle.cs_core.proofs.Known.{known_read}
 use Rattle.cs_core.proofs.Looking.{core_read, crash_read, newest_roomed, size_told}
 use Rattle.cs_core.proofs.cores.Core.size_of.Goals as goal
 
 pub invariant_of-self : goal.invariant_of-self
-invariant_of-self g c = core_read g.D.PageDisk c.self.invariant c.size_of.new.disk c.size_of.ensures.disk
+invariant_of-self g c = known_read g.D.PageDisk c.self.invariant c.size_of.new.disk c.size_of.ensures.disk
+    (core_read g.D.PageDisk c.self.invariant.core c.size_of.new.disk c.size_of.ensures.disk)
 
 pub returns-clause-answer : goal.returns-clause-answer
 returns-clause-answer g c = rw (← c.self.view_is) (λ honest s is.
@@ -13,7 +15,7 @@ returns-clause-answer g c = rw (← c.self.view_is) (λ honest s is.
 
 pub returns-clause-crash : goal.returns-clause-crash
 returns-clause-crash g c = rw (← c.self.view_is) (λ honest.
-    crash_read g.D.PageDisk c.self.invariant c.size_of.new.disk c.size_of.ensures.disk c.extent_count.ensures.whole honest (g.met.D.PageDisk.sized c.self.inside.disk honest) (λ image since. g.met.D.PageDisk.only_now c.self.inside.disk image honest since))
+    crash_read g.D.PageDisk c.self.invariant.core c.size_of.new.disk c.size_of.ensures.disk c.extent_count.ensures.whole honest (g.met.D.PageDisk.sized c.self.inside.disk honest) (λ image since. g.met.D.PageDisk.only_now c.self.inside.disk image honest since))
 
 pub returns-clause-headers : goal.returns-clause-headers
 returns-clause-headers g c = rw (← c.self.view_is) (λ honest view are.

@@ -1,4 +1,4 @@
-use Rattle.std.proofs.Common.{◌≡◌, ◌∙◌, inl, inr, Bool, ◌+◌, ◌^◌, ◌≤◌, ◌<◌, Err, ap, arith, refl, sym, subst}
+use Rattle.std.proofs.Common.{◌≡◌, ◌∙◌, inl, inr, Bool, false, ◌+◌, ◌^◌, ◌≤◌, ◌<◌, Err, length, ap, arith, refl, sym, subst}
 use Rattle.std.specs.Prelude.{map}
 use Rattle.cs_refusal.specs.declared.refusals.Refusal.TheVariants as code
 use Rattle.cs_deps.specs.State.{State as GraphState}
@@ -18,30 +18,49 @@ use Rattle.cs_core.proofs.Kept.{inside_live, inside_set, kept_on, noted_on, plac
 use Rattle.cs_core.proofs.KeptApart.{kept_apart_roomed}
 use Rattle.cs_core.proofs.KeptPuts.{kept_apart_put, placed_all}
 use Rattle.cs_core.proofs.Moves.{last_root, moves_all, moves_none, moves_refused, root_all}
+use Rattle.cs_core.proofs.PutRefusals.{cut_may, cut_no_fault, cut_unlimited, worn_told}
 use Rattle.cs_core.proofs.Puts.{chunks_decline, last_declines, light_enough, light_placed, not_heavy, ok_not, put_done, set_from, test_declines, told_false, too_heavy}
 use Rattle.cs_core.proofs.PutsMeant.{set_others}
 use Rattle.cs_core.proofs.Saying.{put_means}
 use Rattle.cs_core.proofs.stores.Store.put.Goals as goal
 
 pub returns-in_default-clause-step : goal.returns-in_default-clause-step
-returns-in_default-clause-step c = rw (← c.self.view_is) (λ runs.
+returns-in_default-clause-step c = subst (λ (u : Stored). u.halted ≡ false → Declines u (Put (id_number c.args.id) c.args.bytes.now) code.TooLarge u) c.self.view_is (λ runs.
     let v : Stored = the_view c.self.inside in
     test_declines v v c.of.ensures.whole (shape v.extents).apart refl c.self.invariant.limit c.self.invariant.format runs refl (id_number c.args.id) c.args.bytes.now code.TooLarge (inl refl) (λ q. c.in_default.ensures.cut) (λ q. absurd (cc q)))
 
 pub returns-then-is_full_for-clause-step : goal.returns-then-is_full_for-clause-step
-returns-then-is_full_for-clause-step c = rw (← c.self.view_is) (λ runs.
+returns-then-is_full_for-clause-step c = subst (λ (u : Stored). u.halted ≡ false → Declines u (Put (id_number c.args.id) c.args.bytes.now) code.IndexFull u) c.self.view_is (λ runs.
     let v : Stored = the_view c.self.inside in
     let heavy = too_heavy (shape v.extents) v.index (id_number c.args.id) c.count.result c.args.bytes.now (λ pieces cut. c.in-Some.ensures.pieces c.args.bytes.now pieces refl cut ∙ sym c.count.ensures.count)
-    (store_shape v.extents c.of.ensures.whole).some_byte (c.if-is_full_for.ensures.0 refl) in
+    ((store_shape v.extents c.of.ensures.whole).some_piece (length c.args.bytes.now)) (c.if-is_full_for.ensures.0 refl) in
     test_declines v v c.of.ensures.whole (shape v.extents).apart refl c.self.invariant.limit c.self.invariant.format runs refl (id_number c.args.id) c.args.bytes.now code.IndexFull (inr refl) (λ q. absurd (cc q)) (λ q. (c.in-Some.ensures.small, heavy)))
 
 pub returns-then-is_worn-clause-step : goal.returns-then-is_worn-clause-step
-returns-then-is_worn-clause-step c = rw (← c.self.view_is) (λ runs.
+returns-then-is_worn-clause-step c = subst (λ (u : Stored). u.halted ≡ false → Declines u (Put (id_number c.args.id) c.args.bytes.now) c.why_worn.result u) c.self.view_is (λ runs.
     let v : Stored = the_view c.self.inside in
     let last : 2 ^ 63 ≤ v.base + v.accepted + 1 = subst (λ (u : Stored). 2 ^ 63 ≤ u.base + u.accepted + 1) (sym c.self.view_is) c.if-is_worn.ensures in
     last_declines v v c.of.ensures.whole (shape v.extents).apart refl c.self.invariant.limit c.self.invariant.format runs refl (id_number c.args.id) c.args.bytes.now c.why_worn.result c.in-Some.ensures.small
     (not_heavy (shape v.extents) v.index (id_number c.args.id) c.count.result c.args.bytes.now (λ pieces cut. c.in-Some.ensures.pieces c.args.bytes.now pieces refl cut ∙ sym c.count.ensures.count) (told_false c.if-is_full_for.ensures))
     last (c.why_worn.ensures c.args.bytes.now c.in-Some.ensures.cut))
+
+pub returns-then-is_worn-clause-refusals : goal.returns-then-is_worn-clause-refusals
+returns-then-is_worn-clause-refusals c = inr (worn_told (the_view c.self.inside).extents c.args.bytes.now c.why_worn.result c.args.id (c.why_worn.ensures c.args.bytes.now c.in-Some.ensures.cut)).may
+
+pub returns-then-is_worn-clause-no_fault : goal.returns-then-is_worn-clause-no_fault
+returns-then-is_worn-clause-no_fault c = (worn_told (the_view c.self.inside).extents c.args.bytes.now c.why_worn.result c.args.id (c.why_worn.ensures c.args.bytes.now c.in-Some.ensures.cut)).no_fault
+
+pub returns-then-is_worn-clause-unlimited : goal.returns-then-is_worn-clause-unlimited
+returns-then-is_worn-clause-unlimited c = (worn_told (the_view c.self.inside).extents c.args.bytes.now c.why_worn.result c.args.id (c.why_worn.ensures c.args.bytes.now c.in-Some.ensures.cut)).unlimited
+
+pub returns-in-Err-clause-refusals : goal.returns-in-Err-clause-refusals
+returns-in-Err-clause-refusals c = cut_may c.args.id c.args.bytes.now c.in-Err.refusal c.in-Err.ensures.refusals
+
+pub returns-in-Err-clause-no_fault : goal.returns-in-Err-clause-no_fault
+returns-in-Err-clause-no_fault c = cut_no_fault c.in-Err.refusal c.in-Err.ensures.refusals
+
+pub returns-in-Err-clause-unlimited : goal.returns-in-Err-clause-unlimited
+returns-in-Err-clause-unlimited c = cut_unlimited c.in-Err.refusal c.in-Err.ensures.refusals
 
 pub invariant_of-self : goal.invariant_of-self
 invariant_of-self c =
@@ -100,7 +119,7 @@ enter-requires-clause-limit c =
     c.in-Ok.places.items chunks.1 chunks.2.0 (light_enough (shape s.extents) s.index (id_number c.args.id) c.count.result c.args.bytes.now (λ pieces cut. c.in-Some.ensures.pieces c.args.bytes.now pieces refl cut ∙ sym c.count.ensures.count) (told_false c.if-is_full_for.ensures)) c.reserve.ensures.rest
 
 pub returns-in-Err-clause-step : goal.returns-in-Err-clause-step
-returns-in-Err-clause-step c = rw (← c.self.view_is) (λ runs.
+returns-in-Err-clause-step c = subst (λ (u : Stored). u.halted ≡ false → Declines u (Put (id_number c.args.id) c.args.bytes.now) c.in-Err.refusal (record (the_view c.self.inside) { extents = c.put.new.extents; graph = c.put.new.graph; index = c.reserve.new.self; out = c.put.new.graph.round })) c.self.view_is (λ runs.
     let v : Stored = the_view c.self.inside in
     let b : Bool = (shape v.extents).apart in
     let rule : (shape v.extents).apart ≡ b = refl in
@@ -115,7 +134,7 @@ returns-in-Err-clause-step c = rw (← c.self.view_is) (λ runs.
     small light d.refusals (λ q. d.full.0 (ap Err q)) (λ q. d.worn.0 (ap Err q))))
 
 pub returns-in-Ok-clause-step : goal.returns-in-Ok-clause-step
-returns-in-Ok-clause-step c = rw (← c.self.view_is) (λ runs.
+returns-in-Ok-clause-step c = subst (λ (u : Stored). u.halted ≡ false → Steps u (Put (id_number c.args.id) c.args.bytes.now) (Accepted ((the_view c.self.inside).accepted + 1)) (record (the_view c.self.inside) { graph = c.put.new.graph; extents = c.put.new.extents; index = c.enter.new.index; accepted = (the_view c.self.inside).accepted + 1; out = c.put.new.graph.round })) c.self.view_is (λ runs.
     let v : Stored = the_view c.self.inside in
     let b : Bool = (shape v.extents).apart in
     let rule : (shape v.extents).apart ≡ b = refl in

@@ -1,0 +1,5 @@
+use Rattle.std.proofs.Common.{append_assoc}
+use Rattle.cs_tools.proofs.map_pictures.draw_rect.Goals as goal
+
+pub returns : goal.returns
+returns g c = simp append_assoc c.writeln.ensures.bytes
