@@ -30,6 +30,11 @@ class Ran:
         return f"{' '.join(map(str, self.words))}: status {self.status}, printed {self.text[:400]!r}, said {self.said[:800]!r}"
 
 
+def without_reserve(words):
+    """The words of a command, where a put takes all the room that there is unless they say how much it leaves."""
+    return [*words, "--reserve", "0"] if words[:1] in (("put",), ["put"]) and "--reserve" not in words else words
+
+
 class Trial:
     """A program under trial: it is run, and what is seen of it is counted."""
 
@@ -44,7 +49,9 @@ class Trial:
         self.counts, self.wrong = {}, 0
 
     def run(self, *words, given=b"", closed=(), nobody=False, under=(), env=None, cwd=None, seconds=120):
-        """Runs the program: `given` is its input, bytes or an open file; `closed` are the descriptors that it has closed."""
+        """Runs the program: `given` is its input, bytes or an open file; `closed` are the descriptors that it has closed. A put leaves no reserve
+        unless its words ask for one."""
+        words = without_reserve(words)
         line = [self.program, *map(str, words)]
         if closed:
             line = ["sh", "-c", 'exec "$0" "$@" ' + " ".join(("0<&-", "1>&-", "2>&-")[it] for it in closed), *line]

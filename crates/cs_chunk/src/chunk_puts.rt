@@ -87,8 +87,8 @@ impl Cut {
         self.count
     }
 
-    /// The pages of all frames.
-    fn all_pages(self) -> usize
+    /// How many pages the frames of all chunks have together.
+    pub fn all_pages(self) -> usize
         ensures sum { result ≡ sum (pages_of self) }
         ensures small { result ≤ 524280 }
     {

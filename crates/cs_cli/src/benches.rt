@@ -2,16 +2,16 @@
 ghost use Rattle.std.specs.Prelude.{◌≤◌};
 
 use crate::creates::identity_made;
-use crate::files::{OverFile, new_disk};
-use crate::manners::Manner;
-use crate::openings::Shown;
-use crate::progress::Told;
 use clap::ArgMatches;
 use cs_disk::FileFault;
+use cs_files::files::{OverFile, new_disk};
+use cs_files::manners::Manner;
+use cs_files::openings::Shown;
+use cs_files::progress::Told;
+use cs_files::{Known, MountOptions, Outcome, explain};
 use cs_frame::Geometry;
-use cs_mount::MountOptions;
 use cs_options::{Measure, geometry_of, measure_of};
-use cs_tools::{Known, Load, Outcome, bench, explain};
+use cs_tools::{Load, bench};
 use std::fs::File;
 use std::random::RandomSource;
 use std::rt::Files;

@@ -2,19 +2,18 @@
 ghost use Rattle.std.specs.Prelude.{◌≤◌, IfErr};
 
 use crate::creates::{FILE, geometry_asked, hex_of, identity_made, mode_given, plural_of};
-use crate::files::{OverFile, Place, Read, Written, disk_to_open, new_disk, sync_folder};
-use crate::manners::Manner;
-use crate::openings::{Shown, Unopened, open_store};
-use crate::progress::Told;
-use crate::warnings::{explain_unopened, warn_of, warn_text};
 use clap::ArgMatches;
 use cs_disk::{FileFault, SystemFault};
+use cs_files::files::{OverFile, Place, Read, Written, disk_to_open, new_disk, sync_folder};
+use cs_files::manners::Manner;
+use cs_files::openings::{Shown, Unopened, open_store};
+use cs_files::progress::Told;
+use cs_files::warnings::{explain_unopened, warn_of, warn_text};
+use cs_files::{Known, Mounted, OpenOptions, Outcome, Remade, Store, Style, explain};
 use cs_frame::{Geometry, StoreId};
-use cs_mount::{Mounted, Remade};
 use cs_options::{Sizing, sizing_of};
 use cs_refusal::Refusal;
-use cs_tools::store::{OpenOptions, Store};
-use cs_tools::{Known, Outcome, Style, copy, explain};
+use cs_tools::copy;
 use std::fs::File;
 use std::io::Write;
 use std::os::unix::fs::MetadataExt;

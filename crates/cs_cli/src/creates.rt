@@ -1,22 +1,20 @@
 //! The command `create`, and how it and `copy` choose a geometry.
 ghost use Rattle.std.specs.Prelude.{◌≤◌, IfErr};
 
-use crate::files::{is_block_device, new_disk};
-use crate::manners::Manner;
-use crate::openings::Unopened;
-use crate::progress::{tell_ended, tell_making};
-use crate::warnings::explain_unopened;
 use clap::ArgMatches;
 use cs_disk::SystemFault;
+use cs_files::files::{is_block_device, new_disk};
+use cs_files::manners::Manner;
+use cs_files::openings::Unopened;
+use cs_files::progress::{tell_ended, tell_making};
+use cs_files::warnings::explain_unopened;
+use cs_files::{Known, MountOptions, NO_IDENTITY, Outcome, Style, explain, new_identity, warn};
 use cs_frame::{Geometry, StoreId};
-use cs_mount::MountOptions;
 use cs_options::{
     Sizing, TooSmall, USUAL_SIZE, Wish, exact_of, geometry_for, largest_shard, mode_of,
     shard_size_of, sizing_of, sure_bytes, wish_of,
 };
 use cs_refusal::Refusal;
-use cs_tools::store::{NO_IDENTITY, new_identity};
-use cs_tools::{Known, Outcome, Style, explain, warn};
 use std::fs::File;
 use std::io::Write;
 use std::random::RandomSource;

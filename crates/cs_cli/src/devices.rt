@@ -2,18 +2,17 @@
 ghost use Rattle.std.specs.Prelude.{◌≤◌, IfErr};
 
 use crate::creates::{Room, Told, geometry_asked, identity_made, mode_given, tell_made};
-use crate::files::{OverFile, Written, device_disk};
-use crate::lefts::{left_on, warn_of_left};
-use crate::manners::Manner;
-use crate::openings::Unopened;
-use crate::warnings::explain_unopened;
 use clap::ArgMatches;
 use cs_disk::{PageDisk, refusal_of_disk};
+use cs_files::files::{OverFile, Written, device_disk};
+use cs_files::lefts::{left_on, warn_of_left};
+use cs_files::manners::Manner;
+use cs_files::openings::Unopened;
+use cs_files::warnings::explain_unopened;
+use cs_files::{Known, MountOptions, Outcome, Style, explain, first_written};
 use cs_frame::Geometry;
-use cs_mount::{MountOptions, first_written};
 use cs_options::on_device;
 use cs_refusal::Refusal;
-use cs_tools::{Known, Outcome, Style, explain};
 use std::fs::File;
 use std::random::RandomSource;
 use std::rt::Files;

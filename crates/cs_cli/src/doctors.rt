@@ -1,19 +1,18 @@
 //! The command `doctor`.
 ghost use Rattle.std.specs.Prelude.{◌≤◌};
 
-use crate::files::{OverFile, Place, Read, Written, identity_on, pages_made, whole_disk};
-use crate::manners::Manner;
-use crate::openings::Unopened;
-use crate::progress::Told;
-use crate::warnings::{explain_unopened, warn_of_other};
 use cs_disk::{Access, FileFault, PageDisk, ReadOnly, SystemFault, refusal_of_disk};
-use cs_frame::StoreId;
-use cs_mount::Chosen;
-use cs_refusal::Refusal;
-use cs_tools::store::file_openers::first_pages;
-use cs_tools::{
-    Depth, FileDiagnosis, Known, Outcome, Style, diagnose, explain, first_geometry, report,
+use cs_files::files::{OverFile, Place, Read, Written, identity_on, pages_made, whole_disk};
+use cs_files::manners::Manner;
+use cs_files::openings::Unopened;
+use cs_files::progress::Told;
+use cs_files::warnings::{explain_unopened, warn_of_other};
+use cs_files::{
+    Chosen, Depth, FileDiagnosis, Known, Outcome, Style, diagnose, explain, first_geometry,
+    first_pages, report,
 };
+use cs_frame::StoreId;
+use cs_refusal::Refusal;
 use std::alloc::AllocError;
 use std::fs::File;
 use std::io::BufWriter;

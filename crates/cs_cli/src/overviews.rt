@@ -3,8 +3,8 @@ ghost use Rattle.std.specs.Prelude.{◌≤◌, IfErr};
 
 use clap::ArgMatches;
 use cs_disk::PageDisk;
-use cs_mount::the_core::Core;
-use cs_tools::{Outcome, Overview, show_store};
+use cs_files::{Core, Outcome};
+use cs_tools::{Overview, show_store};
 use std::fs::File;
 use std::io::{BufWriter, ErrorKind, Write};
 use std::os::unix::fs::OpenOptionsExt;

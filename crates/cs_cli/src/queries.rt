@@ -1,24 +1,20 @@
 //! The commands over the whole of a store in a file: `list`, `stat`, `scrub`, `reclaim`, `export`.
 ghost use Rattle.std.specs.Prelude.{◌≤◌, IfErr};
 
-use crate::fences::open_to_write;
-use crate::files::{OverFile, Place, Read, Written, disk_to_open};
-use crate::manners::{End, Manner};
-use crate::openings::{Opened, Shown, Unopened, open_store};
 use crate::overviews::{Wanted, show, wanted_of};
-use crate::progress::Told;
-use crate::seals::end_written;
-use crate::warnings::{explain_unopened, warn_of, warn_of_older};
 use clap::ArgMatches;
 use cs_disk::PageDisk;
+use cs_files::fences::open_to_write;
+use cs_files::files::{OverFile, Place, Read, Written, disk_to_open};
+use cs_files::manners::{End, Manner};
+use cs_files::openings::{Opened, Shown, Unopened, open_store};
+use cs_files::progress::Told;
+use cs_files::seals::end_written;
+use cs_files::warnings::{explain_unopened, warn_of, warn_of_older};
+use cs_files::{AsOf, Core, Known, Mounted, Outcome, Progress, Remade, Store, Style, explain};
 use cs_frame::ShardId;
-use cs_mount::the_core::Core;
-use cs_mount::{AsOf, Mounted, Remade};
 use cs_options::{Listing, from_of, listing_of};
-use cs_tools::store::Store;
-use cs_tools::{
-    Aim, FoundPages, Known, Outcome, Progress, Style, explain, export, list, reclaim, scrub, stat,
-};
+use cs_tools::{Aim, FoundPages, export, list, reclaim, scrub, stat};
 use std::alloc::Global;
 use std::fs::File;
 use std::io;

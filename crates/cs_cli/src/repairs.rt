@@ -1,17 +1,15 @@
 //! The command `scrub --repair`.
 ghost use Rattle.std.specs.Prelude.{◌≤◌};
 
-use crate::fences::{Whole, open_as_it_lies, open_kept, open_with_sections};
-use crate::files::{OverFile, Place, Written};
-use crate::manners::Manner;
-use crate::openings::{Opened, Shown, Unopened};
-use crate::progress::Told;
-use crate::warnings::{explain_unopened, warn_of};
-use cs_mount::the_core::Core;
-use cs_mount::{Finding, LIMITS, Mounted, mend};
+use cs_files::fences::{Whole, open_as_it_lies, open_kept, open_with_sections};
+use cs_files::files::{OverFile, Place, Written};
+use cs_files::manners::Manner;
+use cs_files::openings::{Opened, Shown, Unopened};
+use cs_files::progress::Told;
+use cs_files::warnings::{explain_unopened, warn_of};
+use cs_files::{Core, Finding, Known, LIMITS, Loss, Mounted, Outcome, explain, may_be_lost, mend};
 use cs_refusal::Refusal;
-use cs_tools::store::Loss;
-use cs_tools::{FoundPages, Known, Outcome, explain, may_be_lost, scrub, stop_repair};
+use cs_tools::{FoundPages, scrub, stop_repair};
 use std::fs::File;
 use std::io;
 use std::io::BufWriter;

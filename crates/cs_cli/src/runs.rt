@@ -2,23 +2,23 @@
 ghost use Rattle.std.specs.Prelude.{◌≤◌};
 
 use crate::creates::NO_RANDOM;
-use crate::fences::open_to_write;
-use crate::files::{Place, Written, disk_to_write, emptied_disk, loss_of};
-use crate::lefts::{Left, left_in, tell_left};
-use crate::manners::Manner;
-use crate::openings::{Opened, Shown, Unopened, open_store};
-use crate::progress::{tell_ended, tell_making};
-use crate::warnings::{tell_unopened, warn_of, warn_of_older};
 use crate::watchers::Reporter;
 use clap::ArgMatches;
 use cs_disk::{Access, CrashDisk, SystemFault};
-use cs_mount::the_core::Core;
-use cs_mount::{AsOf, MountOptions, Mounted};
+use cs_files::fences::open_to_write;
+use cs_files::files::{Place, Written, disk_to_write, emptied_disk, loss_of};
+use cs_files::lefts::{Left, left_in, tell_left};
+use cs_files::manners::Manner;
+use cs_files::openings::{Opened, Shown, Unopened, open_store};
+use cs_files::progress::{tell_ended, tell_making};
+use cs_files::warnings::{tell_unopened, warn_of, warn_of_older};
+use cs_files::{
+    AsOf, Core, Known, MountOptions, Mounted, NO_IDENTITY, Outcome, Store, Style, new_identity,
+    tell, warn,
+};
 use cs_options::script::{Onward, print_no_store, run_over_watched};
 use cs_options::{device_pages_of, geometry_of, skipped_of, wait_of};
 use cs_refusal::Refusal;
-use cs_tools::store::{NO_IDENTITY, Store, new_identity};
-use cs_tools::{Known, Outcome, Style, tell, warn};
 use std::fs::File;
 use std::io;
 use std::io::{BufWriter, Write};

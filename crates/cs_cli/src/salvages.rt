@@ -1,21 +1,23 @@
 //! The commands over what can be read of a store in a file that is damaged.
 ghost use Rattle.std.specs.Prelude.{◌≤◌};
 
-use crate::files::{OverFile, Place, Read, disk_to_open, disk_to_salvage, disk_to_scan};
-use crate::heads::scan;
-use crate::manners::Manner;
-use crate::openings::{Opened, Remaking, Shown, Unopened};
-use crate::progress::{Scanning, Told};
-use crate::sections::{Section, made_for, pages_of};
-use crate::warnings::{explain_unopened, warn_of, warn_of_rescue, warn_of_salvage};
+use crate::salvage_warnings::{warn_of_rescue, warn_of_salvage};
+use cs_files::files::{OverFile, Place, Read, disk_to_open, disk_to_salvage, disk_to_scan};
+use cs_files::heads::scan;
+use cs_files::manners::Manner;
+use cs_files::openings::{Opened, Remaking, Shown, Unopened};
+use cs_files::progress::{Scanning, Told};
+use cs_files::sections::{Section, made_for, pages_of};
+use cs_files::warnings::{explain_unopened, warn_of};
+use cs_files::{
+    Known, Mounted, Outcome, Remade, Rescue, Scanned, Skipping, Sought, Whose, explain, may_be_lost,
+};
 use cs_frame::{Geometry, ShardId};
-use cs_mount::{Mounted, Remade};
 use cs_options::Listing;
 use cs_refusal::Refusal;
-use cs_tools::rescue::{Rescue, Sought, Whose};
 use cs_tools::{
-    Known, Named, Outcome, Salvaged, Scanned, Skipping, explain, explain_got, export_salvaged,
-    geometry_of_one, get_rescued, list_rescued, look_up, may_be_lost, open_rescue, salvage,
+    Named, Salvaged, explain_got, export_salvaged, geometry_of_one, get_rescued, list_rescued,
+    look_up, open_rescue, salvage,
 };
 use std::alloc::Global;
 use std::fs::File;

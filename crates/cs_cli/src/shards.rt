@@ -1,18 +1,17 @@
 //! The commands over one shard of a store in a file: `get`, `put`, `del`.
 ghost use Rattle.std.specs.Prelude.{◌≤◌, IfErr};
 
-use crate::fences::open_to_write;
-use crate::files::{OverFile, Place, Read, Written, disk_to_open};
 use crate::inputs::bytes_left;
-use crate::manners::{End, Manner};
-use crate::openings::{Opened, Shown, Unopened, open_store};
-use crate::seals::end_written;
-use crate::warnings::{explain_unopened, warn_of, warn_of_older};
+use cs_files::fences::open_to_write;
+use cs_files::files::{OverFile, Place, Read, Written, disk_to_open};
+use cs_files::manners::{End, Manner};
+use cs_files::openings::{Opened, Shown, Unopened, open_store};
+use cs_files::seals::end_written;
+use cs_files::warnings::{explain_unopened, warn_of, warn_of_older};
+use cs_files::{AsOf, Known, Mounted, Outcome, Remade, Reserve, Store, explain};
 use cs_frame::ShardId;
-use cs_mount::{AsOf, Mounted, Remade};
 use cs_refusal::Refusal;
-use cs_tools::store::Store;
-use cs_tools::{Known, Outcome, delete, explain, get, most_bytes, put};
+use cs_tools::{delete, get, most_bytes, put};
 use std::fs::File;
 use std::io;
 use std::io::BufWriter;
@@ -108,11 +107,12 @@ fn explain_over<E: Shown + Drop, R: Eprint>(
     explain(rt, outcome, &known, manner.style)
 }
 
-/// Puts standard input as a shard of the store in a file, and gives the exit status.
+/// Puts standard input as a shard of the store in a file, by this reserve, and gives the exit status.
 pub fn put_into_file<R: AllocGlobal + Clock + Files<File = File> + Input + Eprint>(
     rt: &R,
     place: Place,
     id: ShardId,
+    reserve: Reserve,
     end: End,
     manner: Manner,
 ) -> u8
@@ -124,6 +124,7 @@ where
         Ok(store) => store,
         Err(status) => return status,
     };
+    store.set_reserve(reserve);
     let outcome = if is_too_long(rt, most_bytes(&store)) {
         Outcome::Refused(Refusal::TooLarge)
     } else {

@@ -6,8 +6,6 @@ use crate::copies::copy_file;
 use crate::creates::create_in_file;
 use crate::devices::create_on_device;
 use crate::doctors::doctor_file;
-use crate::files::{Place, is_special, loss_of};
-use crate::manners::{End, Manner};
 use crate::overs::create_over_file;
 use crate::overviews::wanted_of;
 use crate::queries::{ask_file, query_of, reclaim_file};
@@ -16,14 +14,15 @@ use crate::salvages::{Asked, export_frames, get_rest, list_rest};
 use crate::shards::{delete_from_file, get_from_file, put_into_file};
 use clap::ArgMatches;
 use cs_disk::Access;
+use cs_files::files::{Place, is_special, loss_of};
+use cs_files::manners::{End, Manner};
+use cs_files::{Depth, Known, Loss, Outcome, Reserve, Whose, explain};
 use cs_frame::{ShardId, StoreId};
 use cs_options::{
     NoFile, NoGeometry, NoReach, Reach, device_pages_of, file_of, from_page_of, id_of, identity_of,
-    listing_of, lost_geometry_of, reach_of, skipped_of, wait_of,
+    listing_of, lost_geometry_of, reach_of, reserve_of, skipped_of, wait_of,
 };
-use cs_tools::rescue::Whose;
-use cs_tools::store::Loss;
-use cs_tools::{Aim, Depth, Known, Outcome, explain, graph};
+use cs_tools::{Aim, graph};
 use std::fs::File;
 use std::io;
 use std::io::BufWriter;
@@ -184,6 +183,14 @@ fn tell_no_id<R: Eprint>(rt: &R) -> u8
     cs_words::COMMAND_LINE
 }
 
+/// The room that a put leaves free.
+fn reserve_given(options: &ArgMatches) -> Reserve {
+    match reserve_of(options) {
+        0 => Reserve::None,
+        percent => Reserve::Percent(percent.min(100) as u8),
+    }
+}
+
 /// Does the command of this name with one shard.
 fn run_on_shard<R: AllocGlobal + Clock + Files<File = File> + Input + Print + Eprint>(
     rt: &R,
@@ -204,6 +211,7 @@ where
             rt,
             place_to_write(path, options),
             id,
+            reserve_given(options),
             End::of(options),
             manner,
         ),

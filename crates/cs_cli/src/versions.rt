@@ -4,4 +4,4 @@
 pub const VERSION: &str = "0.62.0";
 
 /// The sum of the sources that it is made of, in hex; zeros where none was written here.
-pub const SOURCES: &str = "46890e5d7e9bbde0c9be88c3f75001836af6426eb69173f53e1b4ac32e2e24c4";
+pub const SOURCES: &str = "8c437963a2034987f096ae05d93ff72fa9c42acc9d3206c9639df12aa2dc0595";

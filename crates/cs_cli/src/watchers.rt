@@ -2,9 +2,9 @@
 ghost use Rattle.std.specs.Prelude.{◌≡◌};
 
 use cs_disk::SystemFault;
+use cs_files::{Known, Todo, advice};
 use cs_options::script::{BadLine, LineFault, Onward, Watcher, first_word};
 use cs_refusal::Refusal;
-use cs_tools::{Known, Todo, advice};
 use std::str;
 
 /// Prints each such line's number and what is wrong with it, and goes on, or ends the script. If the device failed it

@@ -398,6 +398,7 @@ pub fn start_store<D: PageDisk>(
     ensures pages { D.page_count disk.new ≡ D.page_count disk.old }
     ensures refusals { IfErr result (λ r. (r ≡ Refusal.DeviceFault) ⊎ (r ≡ Refusal.OutOfMemory)) }
     ensures cause { IfErr result (λ r. r ≡ Refusal.DeviceFault → Rises (D.failure_count disk.old) (D.failure_count disk.new)) }
+    ensures later { D.failure_count disk.old ≤ D.failure_count disk.new }
     ensures taken { D.honest disk.old → D.sound disk.old → TakesNew D.PageDisk geometry.format geometry.extents geometry.pages geometry.sections 0 disk.old → D.refusal_count disk.new ≡ D.refusal_count disk.old }
 {
     let sections = new_sections(alloc, geometry)?;

@@ -114,6 +114,8 @@ impl<D: PageDisk> Core<D> {
         ensures sized { OnOk result (D.page_count disk ≡ device_pages geometry.format geometry.extents geometry.pages geometry.sections) }
         ensures refusals { IfErr result (λ refused. (refused.0 ≡ Refusal.NotAStore) ⊎ (refused.0 ≡ Refusal.DeviceFault) ⊎ (refused.0 ≡ Refusal.OutOfMemory)) }
         ensures cause { IfErr result (λ refused. refused.0 ≡ Refusal.DeviceFault → Rises (D.failure_count disk) (D.failure_count refused.1)) }
+        // The disk's count of failures doesn't fall, whether the store is made or not.
+        ensures later { MatchResult result (λ core. D.failure_count disk ≤ D.failure_count core.disk) (λ refused. D.failure_count disk ≤ D.failure_count refused.1) }
         // A disk that takes what is written of a new store refuses none of it itself.
         ensures taken { D.honest disk → D.sound disk → TakesNew D.PageDisk geometry.format geometry.extents geometry.pages geometry.sections 0 disk → MatchResult result (λ core. D.refusal_count core.disk ≡ D.refusal_count disk) (λ refused. D.refusal_count refused.1 ≡ D.refusal_count disk) }
     {
@@ -176,6 +178,8 @@ impl<D: PageDisk> Core<D> {
         ensures honest { MatchResult result (λ core. D.honest disk ↔ D.honest core.disk) (λ refused. D.honest disk ↔ D.honest refused.1) }
         ensures pages { MatchResult result (λ core. D.page_count core.disk ≡ D.page_count disk) (λ refused. D.page_count refused.1 ≡ D.page_count disk) }
         ensures cause { IfErr result (λ refused. refused.0 ≡ Refusal.DeviceFault → Rises (D.failure_count disk) (D.failure_count refused.1)) }
+        // The disk's count of failures doesn't fall, whether the store is opened or not.
+        ensures later { MatchResult result (λ core. D.failure_count disk ≤ D.failure_count core.disk) (λ refused. D.failure_count disk ≤ D.failure_count refused.1) }
         ensures sound { MatchResult result (λ core. StaysSound D.sound D.refusal_count disk core.disk) (λ refused. StaysSound D.sound D.refusal_count disk refused.1) }
     {
         if disk.pages() < 10 {

@@ -4,6 +4,7 @@ pub mod Crashing
 pub mod Hiding
 pub mod InsideScrubs
 pub mod Naming
+pub mod Passing
 pub mod Scrubbing
 pub mod Telling
 pub mod Choosing

@@ -6,6 +6,7 @@ pub mod Failures
 pub mod Fewest
 pub mod Kinds
 pub mod Listings
+pub mod Past
 pub mod Stats
 pub mod Uses
 pub use Rattle.cs_core.specs as cs_core

@@ -73,7 +73,7 @@ pub fn choose_sweep<D: PageDisk>(
 }
 
 /// The extent that is to be swept next, of so many pages, where no chunk has more pages than the greatest.
-fn choose_next(
+pub fn choose_next(
     uses: &[ExtentUse],
     last: Option<usize>,
     pages: usize,

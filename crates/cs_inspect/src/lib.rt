@@ -3,6 +3,7 @@
 #![tactic(auto)]
 
 mod choices;
+mod choices_past;
 mod choices_v2;
 mod figures;
 mod listings;
@@ -10,6 +11,7 @@ mod scrubs;
 mod surveys;
 
 pub use choices::{Choice, SweepRule, choose_sweep, fewest_live, next_to_sweep};
+pub use choices_past::{choose_past, is_of_chunk, nothing_passed_over_is_no_change, pass_all};
 pub use choices_v2::most_garbage;
 pub use cs_core as the_core;
 pub use figures::{Quota, RunUse, Stats};

@@ -1,5 +1,5 @@
 //! Stores whose damaged pages are fenced.
-ghost use Rattle.std.specs.Prelude.{◌<◌, ◌↔◌, ◌≡◌, ◌≢◌, ◌⊎◌, IfErr, IfOk, MatchResult, None, Some, [], ℕ};
+ghost use Rattle.std.specs.Prelude.{◌<◌, ◌↔◌, ◌≡◌, ◌≢◌, ◌≤◌, ◌⊎◌, IfErr, IfOk, MatchResult, None, Some, [], ℕ};
 ghost use Rattle.std.specs.List.{AllByRecursion};
 ghost use Rattle.cs_disk.specs.Disk.{LeavesOnly, MayLeave, Rises, page, seen};
 ghost use Rattle.cs_twin.specs.Fences.{AreFenced};
@@ -43,6 +43,8 @@ pub fn fence<D: PageDisk + Drop>(
     ensures refusals { IfErr result (λ refused. (refused.0 ≡ Refusal.DeviceFault) ⊎ (refused.0 ≡ Refusal.OutOfMemory)) }
     // 1 is counted; and by a disk in pairs where no write to a pair was in doubt it is an answer of the disk below.
     ensures cause { IfErr result (λ refused. refused.0 ≡ Refusal.DeviceFault → Rises (failures_of core.disk) (failures_of refused.1)) }
+    // The count of failures doesn't fall.
+    ensures later { MatchResult result (λ disk. failures_of core.disk ≤ failures_of disk) (λ refused. failures_of core.disk ≤ failures_of refused.1) }
     ensures unrefused { IsSound core.disk → MatchResult result (λ disk. refusals_of disk ≡ refusals_of core.disk) (λ refused. refusals_of refused.1 ≡ refusals_of core.disk) }
     // It stays sound, so it goes on reading and writing pairs.
     ensures sound { IsSound core.disk → IfOk result (λ disk. IsSound disk) }

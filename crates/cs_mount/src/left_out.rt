@@ -83,8 +83,10 @@ pub fn leave_out<D: PageDisk + Drop>(
     ensures pages { MatchResult result (λ disk. D.page_count (disk_below disk) ≡ D.page_count (disk_below core.disk)) (λ refused. D.page_count (disk_below refused.1) ≡ D.page_count (disk_below core.disk)) }
     // Whatever the disk answers.
     ensures number { IfErr result (λ refused. IsOpeningRefusal refused.0 ⊎ (refused.0 ≡ Refusal.WornOut) ⊎ (refused.0 ≡ Refusal.NotSweepable) ⊎ (refused.0 ≡ Refusal.Unsettled)) }
-    // After 1 the disk has counted a call that failed.
-    ensures counted { IfErr result (λ refused. refused.0 ≡ Refusal.DeviceFault → 0 < failures_of refused.1) }
+    // After 1 the disk has counted a call that failed during this one.
+    ensures cause { IfErr result (λ refused. refused.0 ≡ Refusal.DeviceFault → Rises (failures_of core.disk) (failures_of refused.1)) }
+    // The count of failures doesn't fall.
+    ensures later { MatchResult result (λ disk. failures_of core.disk ≤ failures_of disk) (λ refused. failures_of core.disk ≤ failures_of refused.1) }
 {
     // Called for its contract alone: what every core keeps.
     core.progress();
@@ -133,6 +135,7 @@ fn find_living<D: PageDisk + Drop>(
     ensures honest { MatchResult result (λ living. D.honest disk ↔ D.honest living.1) (λ refused. D.honest disk ↔ D.honest refused.1) }
     ensures pages { MatchResult result (λ living. D.page_count living.1 ≡ D.page_count disk) (λ refused. D.page_count refused.1 ≡ D.page_count disk) }
     ensures cause { IfErr result (λ refused. refused.0 ≡ Refusal.DeviceFault → Rises (D.failure_count disk) (D.failure_count refused.1)) }
+    ensures later { MatchResult result (λ living. D.failure_count disk ≤ D.failure_count living.1) (λ refused. D.failure_count disk ≤ D.failure_count refused.1) }
 {
     match Core::open(alloc, disk, Limits { history: 0 }) {
         Ok(core) => {

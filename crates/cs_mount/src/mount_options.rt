@@ -102,6 +102,8 @@ impl MountOptions {
         ensures small { D.page_count disk < 10 → result ≡ Err (Refusal.NotAStore, disk) }
         // 1 is an answer of the device.
         ensures cause { IfErr result (λ refused. refused.0 ≡ Refusal.DeviceFault → Rises (D.failure_count disk) (D.failure_count refused.1)) }
+        // If it is opened, the device's count of failures hasn't fallen.
+        ensures later { IfOk result (λ opened. D.failure_count disk ≤ D.failure_count (disk_below opened.0.disk)) }
         // The disk in pairs refused no call itself yet, and will refuse no read and no flush.
         ensures sound { IfOk result (λ opened. IsSound opened.0.disk × (refusals_of opened.0.disk ≡ 0)) }
         // Nothing is written, whether it is opened or not: the device holds what it held, or that made durable.
@@ -119,6 +121,8 @@ impl MountOptions {
         ensures pages { MatchResult result (λ opened. D.page_count (disk_below opened.0.disk) ≡ D.page_count disk) (λ refused. D.page_count refused.1 ≡ D.page_count disk) }
     {
         let MountOptions { alloc, limits } = self;
+        // Called for its contract alone: that the count isn't above 2^64 - 1.
+        disk.failures();
         if disk.pages() < 10 {
             return Err((Refusal::NotAStore, disk));
         }

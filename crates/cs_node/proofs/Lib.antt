@@ -5,7 +5,6 @@ pub mod Given
 pub mod Going
 pub mod Laws
 pub mod LogSteps
-pub mod Passing
 pub mod Resting
 pub mod Steps
 pub mod StoreChoices

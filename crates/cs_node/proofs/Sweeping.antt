@@ -11,7 +11,8 @@ use Rattle.cs_core.specs.Views.{View}
 use Rattle.cs_extent.specs.State.{shape}
 use Rattle.cs_node.specs.Locks.{WhileLocked}
 use Rattle.cs_node.specs.Starts.{Start}
-use Rattle.cs_node.specs.Sweeps.{BeginsNone, IsSweepTurn, Reclaiming, after_event, after_refusal, given_up, is_of_chunk, moved, most_passed_over, with_passed, with_refused}
+use Rattle.cs_inspect.specs.Past.{is_of_chunk}
+use Rattle.cs_node.specs.Sweeps.{BeginsNone, IsSweepTurn, Reclaiming, after_event, after_refusal, given_up, moved, most_passed_over, with_passed, with_refused}
 use Rattle.cs_node.specs.Told.{is_unrecorded}
 use Rattle.cs_node.specs.declared.gates.Step.{Step}
 use Rattle.cs_node.specs.declared.reclaimers.Next.TheVariants.{Begin}

@@ -1,7 +1,7 @@
 -- What a reclaimer does, and what each event of a sweep leaves it to do.
 use Rattle.std.specs.Prelude.{◌≡◌, ◌⊎◌, ◌<◌, ◌≤◌, ◌+◌, ◌-◌, ◌++◌, ◌∷◌, ◌&&◌, Bool, true, false, ℕ, zero, suc, List, [], None, Option, Result, Some, MatchResult, if◌then◌else◌, length, nat_lt}
 use Rattle.cs_refusal.specs.declared.refusals.Refusal.{Refusal}
-use Rattle.cs_refusal.specs.declared.refusals.Refusal.TheVariants.{BadDigest, BadLength, BadMagic, BadPadding, BadVersion, DeviceFault, Misplaced, OutOfMemory}
+use Rattle.cs_refusal.specs.declared.refusals.Refusal.TheVariants.{OutOfMemory}
 use Rattle.cs_disk.specs.declared.disk.PageDisk.{Ghosts as PageDisk}
 use Rattle.cs_core.specs.declared.events.Event.{Event}
 use Rattle.cs_core.specs.declared.events.Event.TheVariants as asked
@@ -13,6 +13,7 @@ use Rattle.cs_core.specs.Views.{IsStep, View}
 use Rattle.cs_extent.specs.State.{shape as shape_of}
 use Rattle.cs_inspect.specs.Choices.{ReadsOn}
 use Rattle.cs_inspect.specs.Kinds.{LieApart, LieTogether}
+use Rattle.cs_inspect.specs.Past.{is_of_chunk}
 use Rattle.cs_node.specs.Choices.{ChoosesPast}
 use Rattle.cs_node.specs.Dues.{step_of}
 use Rattle.cs_node.specs.Locks.{IsDone, IsRefused, WhileLocked}
@@ -94,17 +95,6 @@ after_event w (asked.MoveOne e) reply = moved w e reply
 after_event w (asked.Retire e) reply = record w { passed = []; next = Begin }
 after_event w (asked.Abandon e) reply = record w { next = Begin }
 after_event w event reply = w
-
--- the refusals of a move that tell of its chunk: the device didn't read it, or it is damaged
-abbrev pub is_of_chunk : Refusal → Bool
-is_of_chunk DeviceFault = true
-is_of_chunk BadMagic = true
-is_of_chunk BadDigest = true
-is_of_chunk BadLength = true
-is_of_chunk BadPadding = true
-is_of_chunk BadVersion = true
-is_of_chunk Misplaced = true
-is_of_chunk r = false
 
 -- how many extents a reclaimer passes over at most
 abbrev pub most_passed_over : ℕ

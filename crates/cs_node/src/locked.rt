@@ -19,7 +19,7 @@ ghost use Rattle.cs_node.specs.Starts.{start_of};
 ghost use Rattle.cs_node.specs.Told.{empty};
 
 use crate::boards::{NamedBoard, Naming, Reader};
-use crate::choices::choose_past;
+use crate::choices::choose_extent;
 use crate::gates::{Gate, step_of};
 use crate::judges::is_full;
 use crate::numbers::Numbers;
@@ -197,13 +197,13 @@ impl<D: PageDisk, K: Naming> Engine<D, K> {
         self.core.checkpoint()
     }
 
-    /// Chooses the extent to sweep next in format 4, or None, as `choose_past`. It only reads: no event is done.
+    /// Chooses the extent to sweep next in format 4, or None, as `choose_extent`. It only reads: no event is done.
     pub fn choose(&mut self, passed: &[usize]) -> Result<Option<usize>, AllocError>
         ensures chosen { IfOk result (λ found. ChoosesPast D.PageDisk passed.now self.old.core self.new.core found) }
         ensures reads { ReadsOn D.PageDisk self.old.core self.new.core }
         ensures fresh { self.new.fresh ≡ self.old.fresh }
     {
-        choose_past(self.alloc, &mut self.core, passed)
+        choose_extent(self.alloc, &mut self.core, passed)
     }
 
     /// The core, which was opened on what K names.

@@ -1,7 +1,7 @@
 //! Who sweeps extents.
 ghost use Rattle.std.specs.Prelude.{ℕ, ◌≡◌, ◌⊎◌, ◌↔◌, ◌^◌, ◌-◌, ◌<◌, ◌≤◌, IfErr, IfOk, IfSome, IsTrue, MatchOption, OnErr, Some, not, true};
 ghost use Rattle.cs_node.specs.Locks.{WhileLocked};
-ghost use Rattle.cs_node.specs.Sweeps.{Finds, GoesOn, HasSwept, IsAfterTurns, IsApart, IsLeastFrom, IsNextAfter, IsSweepRefused, IsSweepTurn, LacksMemory, MayBegin, NoneFrom, Picks, Reclaiming, after_event, after_refusal, given_up, is_of_chunk, only_of, unbegun, with_passed, with_refused};
+ghost use Rattle.cs_node.specs.Sweeps.{Finds, GoesOn, HasSwept, IsAfterTurns, IsApart, IsLeastFrom, IsNextAfter, IsSweepRefused, IsSweepTurn, LacksMemory, MayBegin, NoneFrom, Picks, Reclaiming, after_event, after_refusal, given_up, only_of, unbegun, with_passed, with_refused};
 ghost use Rattle.cs_node.specs.Told.{is_unrecorded};
 
 use crate::boards::{NamedBoard, Naming};
@@ -11,6 +11,7 @@ use crate::nodes::Node;
 use arrayvec::ArrayVec;
 use cs_core::{Core, Event, Reply};
 use cs_disk::PageDisk;
+use cs_inspect::is_of_chunk;
 use cs_refusal::Refusal;
 use std::alloc::AllocError;
 use std::marker::{Model, PhantomData};
@@ -347,22 +348,6 @@ impl<D: PageDisk, K: Naming> Engine<D, K> {
             }
         }
     }
-}
-
-/// Whether the refusal of a move tells of its chunk: the device didn't read it, or it is damaged.
-fn is_of_chunk(refusal: Refusal) -> bool
-    ensures { result ≡ is_of_chunk refusal }
-{
-    matches!(
-        refusal,
-        Refusal::DeviceFault
-            | Refusal::BadMagic
-            | Refusal::BadDigest
-            | Refusal::BadLength
-            | Refusal::BadPadding
-            | Refusal::BadVersion
-            | Refusal::Misplaced
-    )
 }
 
 /// Whether a history records an event with this refusal.

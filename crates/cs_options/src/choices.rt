@@ -149,6 +149,13 @@ pub const SKIP_EXTENT: Choice = Choice {
     help: "First leaves this extent out, for good: what lives there is moved away, and nothing is written there again",
 };
 
+/// The option for the room that a put leaves free.
+pub const RESERVE: Choice = Choice {
+    name: "reserve",
+    takes: Takes::NumberOrNone,
+    help: "Leaves so many hundredths of the room for shards free: a put of a new identifier beyond them is refused 36 [default: 15]",
+};
+
 /// The option for a diagnosis by all pages.
 pub const DEEP: Choice = Choice {
     name: "deep",

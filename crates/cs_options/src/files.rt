@@ -70,6 +70,13 @@ pub fn skipped_of(options: &ArgMatches) -> Option<u64>
     number_given(options, "skip-extent")
 }
 
+/// How many hundredths of the room for shards a put leaves free. Default: 15.
+pub fn reserve_of(options: &ArgMatches) -> u64
+    ensures { result ≡ unwrap_or (number_at options.now (codes "reserve")) 15 }
+{
+    number_given(options, "reserve").unwrap_or(15)
+}
+
 /// How many seconds to wait at most for a file that is in use. Default: 0.
 pub fn wait_of(options: &ArgMatches) -> u64
     ensures { result ≡ unwrap_or (number_at options.now (codes "wait")) 0 }

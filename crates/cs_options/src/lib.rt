@@ -21,7 +21,8 @@ pub use commands::command;
 pub use cs_script as script;
 pub use devices::on_device;
 pub use files::{
-    NoFile, NoIdentity, device_pages_of, file_of, identity_of, mode_of, skipped_of, wait_of,
+    NoFile, NoIdentity, device_pages_of, file_of, identity_of, mode_of, reserve_of, skipped_of,
+    wait_of,
 };
 pub use geometry_options::{TooSmall, Wish, geometry_for};
 pub use options::{Listing, Measure, from_of, geometry_of, id_of, listing_of, measure_of, race_of};

@@ -1,7 +1,7 @@
 -- The number and the name of each refusal.
 use Rattle.std.specs.Prelude.{ℕ, List, codes}
 use Rattle.cs_refusal.specs.declared.refusals.Refusal.{Refusal}
-use Rattle.cs_refusal.specs.declared.refusals.Refusal.TheVariants.{DeviceFault, UnknownNeed, OwnFamily, NotStaged, InFlight, OddLength, BadGeometry, OutOfMemory, BadDocument, NotNested, Uncovered, TooEarly, ChainBroken, ChainShort, BadMagic, BadDigest, BadLength, BadPadding, BadVersion, OutOfOrder, Misplaced, RootLost, Unreadable, Full, TooLarge, IndexFull, NotSweepable, StillLive, WornOut, Halted, HistoryFull, NoRound, NotAStore, Unsettled, Occupied, NotEmpty}
+use Rattle.cs_refusal.specs.declared.refusals.Refusal.TheVariants.{DeviceFault, UnknownNeed, OwnFamily, NotStaged, InFlight, OddLength, BadGeometry, OutOfMemory, BadDocument, NotNested, Uncovered, TooEarly, ChainBroken, ChainShort, BadMagic, BadDigest, BadLength, BadPadding, BadVersion, OutOfOrder, Misplaced, RootLost, Unreadable, Full, TooLarge, IndexFull, NotSweepable, StillLive, WornOut, Reserved, Halted, HistoryFull, NoRound, NotAStore, Unsettled, Occupied, NotEmpty}
 
 -- the number that operators see
 abbrev pub number_of : Refusal → ℕ
@@ -34,6 +34,7 @@ number_of IndexFull = 32
 number_of NotSweepable = 33
 number_of StillLive = 34
 number_of WornOut = 35
+number_of Reserved = 36
 number_of Halted = 40
 number_of HistoryFull = 41
 number_of NoRound = 42
@@ -73,6 +74,7 @@ name_of IndexFull = codes "IndexFull"
 name_of NotSweepable = codes "NotSweepable"
 name_of StillLive = codes "StillLive"
 name_of WornOut = codes "WornOut"
+name_of Reserved = codes "Reserved"
 name_of Halted = codes "Halted"
 name_of HistoryFull = codes "HistoryFull"
 name_of NoRound = codes "NoRound"

@@ -96,6 +96,9 @@ pub enum Refusal {
     /// 35: a number would pass its greatest value.
     #[error("a number is worn out")]
     WornOut,
+    /// 36: more would live than the reserve of this opening leaves.
+    #[error("the reserve would be used")]
+    Reserved,
     /// 40: the store halted after a failed write or flush.
     #[error("the store is halted")]
     Halted,
@@ -154,6 +157,7 @@ impl Refusal {
             Refusal::NotSweepable => 33,
             Refusal::StillLive => 34,
             Refusal::WornOut => 35,
+            Refusal::Reserved => 36,
             Refusal::Halted => 40,
             Refusal::HistoryFull => 41,
             Refusal::NoRound => 42,
@@ -198,6 +202,7 @@ impl Refusal {
             Refusal::NotSweepable => "NotSweepable",
             Refusal::StillLive => "StillLive",
             Refusal::WornOut => "WornOut",
+            Refusal::Reserved => "Reserved",
             Refusal::Halted => "Halted",
             Refusal::HistoryFull => "HistoryFull",
             Refusal::NoRound => "NoRound",

@@ -32,6 +32,10 @@ abbrev pub AreTaken : Whose → (own front : List ℕ) → Type 0
 AreTaken OfStore own front = front ≡ own
 AreTaken OfAny own front = Unit {0}
 
+-- the chunks of the store of these dimensions are sought, and no others
+abbrev pub of_store : Dimensions → Sought
+of_store g = record { geometry = g; whose = OfStore }
+
 -- chunks are sought of a store whose identity begins with these eight bytes
 abbrev pub IsSought : Sought → (front : List ℕ) → Type 0
 IsSought sought front = AreTaken sought.whose (store_front sought.geometry.format) front

@@ -12,6 +12,7 @@ pub mod Listing
 pub mod LeavingOut
 pub mod Maps
 pub mod Reclaiming
+pub mod Reserving
 pub mod Refusing
 pub mod Running
 pub mod Sizing

@@ -1,5 +1,5 @@
 -- Disks that are readied to be opened for writing: what of their pairs can't be read is given up, or refuses the opening.
-use Rattle.std.proofs.Common.{◌≡◌, ◌≢◌, inl, inr, ◌∙◌, ◌<◌, ◌≤◌, ◌+◌, ◌-◌, ◌^◌, ◌∷◌, [], ℕ, List, Result, Ok, Err, length, min, ap, arith, refl, subst, sym}
+use Rattle.std.proofs.Common.{◌≡◌, ◌≢◌, inl, inr, ◌∙◌, ◌≤◌, ◌+◌, ◌-◌, ◌^◌, ◌∷◌, [], ℕ, List, Result, Ok, Err, length, min, ap, arith, refl, subst, sym}
 use Rattle.cs_chunk.specs.Reads.{IsNoAnswer}
 use Rattle.cs_disk.proofs.Crashes.{seen_MayLeave}
 use Rattle.cs_disk.specs.Disk.{Rises, State, flushed, seen}
@@ -29,13 +29,9 @@ pub rises_by_some : (pages : List ℕ) (before now : ℕ) → pages ≢ [] → R
 rises_by_some [] before now some risen = absurd (some refl)
 rises_by_some (p ∷ pages) before now some risen = grind arith
 
--- a count that rose isn't 0
-pub rises_some : (before now : ℕ) → Rises before now → 0 < now
-rises_some before now risen = grind arith
-
--- a disk in pairs that refused nothing itself counts what the disk below counted
-pub rises_below : (before below refused : ℕ) → refused ≡ 0 → Rises before (min (below + refused) (2 ^ 64 - 1)) → 0 < below
-rises_below before below refused none risen = grind arith
+-- a disk in pairs that refused nothing itself, before and now, counts what the disk below counted
+pub rises_below : (before now refused later : ℕ) → refused ≡ 0 → later ≡ 0 → Rises (min (before + refused) (2 ^ 64 - 1)) (min (now + later) (2 ^ 64 - 1)) → Rises before now
+rises_below before now refused later none still risen = grind arith
 
 -- a count that rose since later on rose since
 pub rises_from : (first before now : ℕ) → first ≤ before → Rises before now → Rises first now

@@ -1,5 +1,5 @@
 -- Which refusals a call may have, of those that its parts may have.
-use Rattle.std.proofs.Common.{◌⊎◌, ◌≤◌, ℕ, List, inl, inr, subst, sym, arith}
+use Rattle.std.proofs.Common.{◌≡◌, ◌≢◌, ◌⊎◌, ◌≤◌, ℕ, List, inl, inr, subst, sym, arith}
 use Rattle.cs_chunk.specs.Reads.{IsReadRefusal}
 use Rattle.cs_refusal.specs.declared.refusals.Refusal.{Refusal}
 use Rattle.cs_refusal.specs.declared.refusals.Refusal.TheVariants as refusal
@@ -52,6 +52,39 @@ put_by_event id bytes other may = absurd may
 pub put_is : (id : ShardId) (bytes : List ℕ) (r : Refusal) → IsDeleteRefusal r ⊎ MayRefuse (Put id bytes) r → IsPutRefusal r
 put_is id bytes r (inl room) = put_by_room r room
 put_is id bytes r (inr event) = put_by_event id bytes r event
+
+-- the same of a copy of the bytes
+pub same_bytes : (id : ShardId) (copy bytes : List ℕ) → copy ≡ bytes → (r : Refusal) → IsDeleteRefusal r ⊎ MayRefuse (Put id copy) r → IsDeleteRefusal r ⊎ MayRefuse (Put id bytes) r
+same_bytes id copy bytes same r may = subst (λ (b : List ℕ). IsDeleteRefusal r ⊎ MayRefuse (Put id b) r) same may
+
+-- neither of them is refused by a reserve
+room_unreserved : (r : Refusal) → IsDeleteRefusal r → r ≢ refusal.Reserved
+room_unreserved refusal.DeviceFault may is = cc
+room_unreserved refusal.OutOfMemory may is = cc
+room_unreserved refusal.Full may is = cc
+room_unreserved refusal.WornOut may is = cc
+room_unreserved refusal.Halted may is = cc
+room_unreserved refusal.HistoryFull may is = cc
+room_unreserved other may is = absurd may
+
+event_unreserved : (id : ShardId) (bytes : List ℕ) (r : Refusal) → MayRefuse (Put id bytes) r → r ≢ refusal.Reserved
+event_unreserved id bytes refusal.TooLarge may is = cc
+event_unreserved id bytes refusal.IndexFull may is = cc
+event_unreserved id bytes refusal.Full may is = cc
+event_unreserved id bytes refusal.WornOut may is = cc
+event_unreserved id bytes refusal.Halted may is = cc
+event_unreserved id bytes refusal.HistoryFull may is = cc
+event_unreserved id bytes other may is = absurd may
+
+pub put_unreserved : (id : ShardId) (bytes : List ℕ) (r : Refusal) → IsDeleteRefusal r ⊎ MayRefuse (Put id bytes) r → r ≢ refusal.Reserved
+put_unreserved id bytes r (inl room) = room_unreserved r room
+put_unreserved id bytes r (inr event) = event_unreserved id bytes r event
+
+-- a look, before the put
+pub look_is : (T : Type 0) (r : Refusal) → (r ≡ refusal.OutOfMemory) ⊎ ((r ≡ refusal.TooLarge) × T) ⊎ (r ≡ refusal.Reserved) → IsPutRefusal r
+look_is T r (inl memory) = subst IsPutRefusal (sym memory) tt
+look_is T r (inr (inl (large, t))) = subst IsPutRefusal (sym large) tt
+look_is T r (inr (inr reserved)) = subst IsPutRefusal (sym reserved) tt
 
 -- room for a delete, and the delete itself
 delete_by_event : (id : ShardId) (r : Refusal) → MayRefuse (Delete id) r → IsDeleteRefusal r

@@ -22,6 +22,7 @@ put_refusal put.Full = refusal.Full
 put_refusal put.TooLarge = refusal.TooLarge
 put_refusal put.IndexFull = refusal.IndexFull
 put_refusal put.WornOut = refusal.WornOut
+put_refusal put.Reserved = refusal.Reserved
 put_refusal put.Halted = refusal.Halted
 put_refusal put.HistoryFull = refusal.HistoryFull
 
@@ -88,7 +89,7 @@ open_refusal opening.NotAStore = refusal.NotAStore
 open_refusal opening.Occupied = refusal.Occupied
 open_refusal opening.NotEmpty = refusal.NotEmpty
 
--- the refusals that a put may have: 1, 9, 30, 31, 32, 35, 40 and 41
+-- the refusals that a put may have: 1, 9, 30, 31, 32, 35, 36, 40 and 41
 abbrev pub IsPutRefusal : Refusal → Type 0
 IsPutRefusal refusal.DeviceFault = Unit {0}
 IsPutRefusal refusal.OutOfMemory = Unit {0}
@@ -96,6 +97,7 @@ IsPutRefusal refusal.Full = Unit {0}
 IsPutRefusal refusal.TooLarge = Unit {0}
 IsPutRefusal refusal.IndexFull = Unit {0}
 IsPutRefusal refusal.WornOut = Unit {0}
+IsPutRefusal refusal.Reserved = Unit {0}
 IsPutRefusal refusal.Halted = Unit {0}
 IsPutRefusal refusal.HistoryFull = Unit {0}
 IsPutRefusal other = ⊥

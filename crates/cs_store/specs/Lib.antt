@@ -8,6 +8,7 @@ pub mod Opening
 pub mod LeftOut
 pub mod LostSections
 pub mod Reclaims
+pub mod Reserves
 pub mod Rooms
 pub mod Sizes
 pub mod Sweeps

@@ -12,15 +12,18 @@ use Rattle.cs_reader.specs.Openings.{IsWhyNotOpened}
 use Rattle.cs_refusal.specs.declared.refusals.Refusal.{Refusal}
 use Rattle.cs_refusal.specs.declared.refusals.Refusal.TheVariants.{NotAStore}
 use Rattle.cs_store.specs.declared.options.Loss.{Loss}
+use Rattle.cs_store.specs.declared.reserves.Reserve.{Reserve}
 use Rattle.cs_twin.specs.declared.findings.Finding.{Finding}
 use Rattle.cs_twin.specs.Findings.{passed_over}
 use Rattle.cs_twin.specs.Pairs.{fence}
 
--- how many events the store may keep, the geometry of one that is made, and what is done about a page that can't be read
+-- how many events the store may keep, the geometry of one that is made, what is done about a page that can't be read, and
+-- what puts leave free
 pub record Opening : Type 0 where
   pub limits : Limits
   pub geometry : Dimensions
   pub loss : Loss
+  pub reserve : Reserve
 
 -- a disk of which these pages were given up: each is filled with a fence, and all that the disk holds is durable
 abbrev pub given_up : List ℕ → State → State

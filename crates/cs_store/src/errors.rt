@@ -42,6 +42,8 @@ pub enum PutError {
     IndexFull,
     /// 35 WornOut: a number would pass its greatest value.
     WornOut,
+    /// 36 Reserved: nothing is under the identifier, and more pages would live than the reserve leaves.
+    Reserved,
     /// 40 Halted: a write or a flush failed earlier.
     Halted,
     /// 41 HistoryFull: as many events are kept as may be, and an extent is being swept still, so that no checkpoint can
@@ -55,7 +57,8 @@ impl PutError {
         ensures { result ≡ put_refusal self }
     {
         same_name!(self, PutError => Refusal;
-            DeviceFault, OutOfMemory, Full, TooLarge, IndexFull, WornOut, Halted, HistoryFull)
+            DeviceFault, OutOfMemory, Full, TooLarge, IndexFull, WornOut, Reserved, Halted,
+            HistoryFull)
     }
 
     /// The error that a refusal of a put is.
@@ -64,7 +67,8 @@ impl PutError {
         ensures { put_refusal result ≡ refusal }
     {
         same_name!(refusal, Refusal => PutError;
-            DeviceFault, OutOfMemory, Full, TooLarge, IndexFull, WornOut, Halted, HistoryFull; no other)
+            DeviceFault, OutOfMemory, Full, TooLarge, IndexFull, WornOut, Reserved, Halted,
+            HistoryFull; no other)
     }
 }
 

@@ -20,9 +20,10 @@ ghost use Rattle.cs_twin.specs.Paired.{IsSound, disk_below, left_as_shown, momen
 ghost use Rattle.cs_twin.specs.Pairs.{fence};
 
 use crate::options::{Loss, OpenOptions};
+use crate::reserves::Held;
 use crate::stores::Store;
-use cs_core::{Core, Limits};
 use cs_disk::{DiskFault, PageDisk};
+use cs_mount::the_core::{Core, Limits};
 use cs_mount::{Finding, MountOptions, Mounted, fence, fence_pages, unreadable_halves};
 use cs_refusal::Refusal;
 use std::alloc::Global;
@@ -64,8 +65,8 @@ fn open_fenced<D: PageDisk + Drop>(
         → state_shown core.disk ≡ record { durable = shown_on (D.page_count (disk_below core.disk)) image; volatile = [] } → shown_on (D.page_count (disk_below core.disk)) (seen (D.state refused.1)) ≡ shown_on (D.page_count (disk_below core.disk)) image) }
     ensures refusals { D.honest (disk_below core.disk) → IfErr result (λ refused. IsNoAnswer refused.0 ⊎ IsWhyNotOpened (D.page_count (disk_below core.disk)) (page (seen (state_shown core.disk))) refused.0) }
     ensures number { IfErr result (λ refused. IsOpeningRefusal refused.0) }
-    // If the disk in pairs refused no call itself before, the disk below has counted a call that failed, after 1.
-    ensures counted { IsSound core.disk → refusals_of core.disk ≡ 0 → IfErr result (λ refused. refused.0 ≡ Refusal.DeviceFault → 0 < D.failure_count refused.1) }
+    // If the disk in pairs refused no call itself before, 1 is an answer of the disk below.
+    ensures cause { IsSound core.disk → refusals_of core.disk ≡ 0 → IfErr result (λ refused. refused.0 ≡ Refusal.DeviceFault → Rises (D.failure_count (disk_below core.disk)) (D.failure_count refused.1)) }
     ensures crash { D.honest (disk_below core.disk) → IfOk result (λ again. LeavesOnly moment_of left_as_shown core.disk again.disk (MayLeave (state_shown core.disk))) }
     // So it does if it is refused, and a store of format 4 shows.
     ensures crash_refused { D.honest (disk_below core.disk) → IfErr result (λ refused. (image : Image) → length image ≡ D.page_count (disk_below core.disk) → dimensions_on (D.page_count (disk_below core.disk)) image ≢ None
@@ -202,10 +203,9 @@ impl OpenOptions {
         // Whatever the disk answers.
         ensures number { IfErr result (λ refused. IsOpeningRefusal refused.0) }
         ensures small { D.page_count disk < 10 → result ≡ Err (Refusal.NotAStore, disk) }
-        // After 1 the device has counted a call that failed. If no page was passed over, that was one of this opening.
-        ensures counted { IfErr result (λ refused. refused.0 ≡ Refusal.DeviceFault → 0 < D.failure_count refused.1) }
-        ensures cause { D.honest disk → NoneIsPassedOver (findings_on (D.page_count disk) (seen (D.state disk))) → IfErr result (λ refused. refused.0 ≡ Refusal.DeviceFault → Rises (D.failure_count disk) (D.failure_count refused.1)) }
-        // Nothing is written then: the device holds what it held, or that made durable.
+        // 1 is an answer of the device.
+        ensures cause { IfErr result (λ refused. refused.0 ≡ Refusal.DeviceFault → Rises (D.failure_count disk) (D.failure_count refused.1)) }
+        // If no page was passed over, nothing is written: the device holds what it held, or that made durable.
         ensures unwritten { D.honest disk → NoneIsPassedOver (findings_on (D.page_count disk) (seen (D.state disk))) → MatchResult result (λ opened. D.state (disk_below opened.0.disk) ≡ flushed (D.state disk)) (λ refused. (D.state refused.1 ≡ D.state disk) ⊎ (D.state refused.1 ≡ flushed (D.state disk))) }
         // A crash meanwhile leaves what shows as what one before it might have left.
         ensures crash { D.honest disk → IfOk result (λ opened. (left : Image) → left_as_shown opened.0.disk (D.moment disk) left → ShowsOn (D.page_count disk) (seen (D.state disk)) (MayLeave (D.state disk)) left) }
@@ -215,7 +215,12 @@ impl OpenOptions {
         ensures honest { MatchResult result (λ opened. D.honest disk ↔ D.honest (disk_below opened.0.disk)) (λ refused. D.honest disk ↔ D.honest refused.1) }
         ensures pages { MatchResult result (λ opened. D.page_count (disk_below opened.0.disk) ≡ D.page_count disk) (λ refused. D.page_count refused.1 ≡ D.page_count disk) }
     {
-        let OpenOptions { alloc, limits, .. } = self;
+        let OpenOptions {
+            alloc,
+            limits,
+            reserve,
+            ..
+        } = self;
         let options = MountOptions::new(alloc).limits(limits);
         match options.open(disk) {
             Ok((core, findings)) => {
@@ -223,6 +228,7 @@ impl OpenOptions {
                     let store = Store {
                         alloc,
                         core,
+                        held: Held::by(reserve),
                         findings: Vec::new(alloc),
                         made: Vec::new(alloc),
                     };
@@ -233,6 +239,7 @@ impl OpenOptions {
                         let store = Store {
                             alloc,
                             core,
+                            held: Held::by(reserve),
                             findings: Vec::new(alloc),
                             made: Vec::new(alloc),
                         };
@@ -305,10 +312,10 @@ impl OpenOptions {
         // 29 is an answer of the device, which holds what it held; and no loss is accepted.
         ensures unreadable { IfErr result (λ refused. refused.0 ≡ Refusal.Unreadable → (self.loss ≡ Loss.Refused) × Rises (D.failure_count disk) (D.failure_count refused.1)) }
         ensures kept { D.honest disk → IfErr result (λ refused. refused.0 ≡ Refusal.Unreadable → D.state refused.1 ≡ D.state disk) }
-        // After 1 the device has counted a call that failed. If no page was passed over, that was one of this opening.
-        ensures counted { IfErr result (λ refused. refused.0 ≡ Refusal.DeviceFault → 0 < D.failure_count refused.1) }
-        ensures cause { D.honest disk → self.loss ≡ Loss.Refused → NoneIsPassedOver (findings_on (D.page_count disk) (seen (D.state disk))) → IfErr result (λ refused. refused.0 ≡ Refusal.DeviceFault → Rises (D.failure_count disk) (D.failure_count refused.1)) }
-        // Nothing is written then: the device holds what it held, or that made durable.
+        // 1 is an answer of the device, to a call of this opening.
+        ensures cause { IfErr result (λ refused. refused.0 ≡ Refusal.DeviceFault → Rises (D.failure_count disk) (D.failure_count refused.1)) }
+        // If no loss is accepted and no page was passed over, nothing is written: the device holds what it held, or that
+        // made durable.
         ensures unwritten { D.honest disk → self.loss ≡ Loss.Refused → NoneIsPassedOver (findings_on (D.page_count disk) (seen (D.state disk)))
             → MatchResult result (λ opened. D.state (disk_below opened.0.disk) ≡ flushed (D.state disk)) (λ refused. (D.state refused.1 ≡ D.state disk) ⊎ (D.state refused.1 ≡ flushed (D.state disk))) }
         // A crash meanwhile leaves what shows as what one before it might have left.

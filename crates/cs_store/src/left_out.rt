@@ -1,6 +1,6 @@
 //! Stores of which an extent is left out, since its pages can't be written.
 ghost use Rattle.std.specs.Prelude.{◌<◌, ◌↔◌, ◌≡◌, ◌≤◌, ◌⊎◌, Err, IfErr, IfOk, MatchResult, [], false, true, ℕ};
-ghost use Rattle.cs_disk.specs.Disk.{LeavesOnly, page, seen};
+ghost use Rattle.cs_disk.specs.Disk.{LeavesOnly, Rises, page, seen};
 ghost use Rattle.cs_extent.specs.State.{shape};
 ghost use Rattle.cs_frame.specs.Formats.{formats_of};
 ghost use Rattle.cs_mount.specs.LeftOut.{IsAtRest, IsLeftOut, IsRowWorn, LeavesTheMap, NoneDamagedOn};
@@ -13,8 +13,8 @@ ghost use Rattle.law_machine.specs.Geometry.{twins_in};
 ghost use Rattle.law_machine.specs.Recovery.{Recovers};
 
 use crate::stores::Store;
-use cs_core::{Core, Limits};
 use cs_disk::PageDisk;
+use cs_mount::the_core::{Core, Limits};
 use cs_mount::{Mounted, leave_out};
 use cs_refusal::Refusal;
 use std::alloc::Global;
@@ -43,7 +43,7 @@ fn open_without<D: PageDisk + Drop>(
     ensures worn { D.honest (disk_below core.disk) → (n : ℕ) (m : Map) → Recovers (shape core.store.extents) (formats_of (shape core.store.extents)) (page (seen (state_shown core.disk))) n m
         → IfErr result (λ refused. refused.0 ≡ Refusal.WornOut → IsRowWorn (dimensions_in (shape core.store.extents)) extent (seen (state_shown core.disk))) }
     ensures number { IfErr result (λ refused. IsOpeningRefusal refused.0 ⊎ (refused.0 ≡ Refusal.WornOut) ⊎ (refused.0 ≡ Refusal.NotSweepable) ⊎ (refused.0 ≡ Refusal.Unsettled)) }
-    ensures counted { IfErr result (λ refused. refused.0 ≡ Refusal.DeviceFault → 0 < failures_of refused.1) }
+    ensures cause { IfErr result (λ refused. refused.0 ≡ Refusal.DeviceFault → Rises (failures_of core.disk) (failures_of refused.1)) }
     ensures honest { MatchResult result (λ left. D.honest (disk_below core.disk) ↔ D.honest (disk_below left.disk)) (λ refused. D.honest (disk_below core.disk) ↔ D.honest (disk_below refused.1)) }
     ensures pages { MatchResult result (λ left. D.page_count (disk_below left.disk) ≡ D.page_count (disk_below core.disk)) (λ refused. D.page_count (disk_below refused.1) ≡ D.page_count (disk_below core.disk)) }
 {
@@ -102,8 +102,8 @@ impl<D: PageDisk + Drop> Store<Mounted<D>> {
             → IfErr result (λ refused. refused.0 ≡ Refusal.WornOut → IsRowWorn (dimensions_in (shape self.store.extents)) extent (seen (state_shown self.disk))) }
         // Whatever the disk answers.
         ensures number { IfErr result (λ refused. IsOpeningRefusal refused.0 ⊎ (refused.0 ≡ Refusal.WornOut) ⊎ (refused.0 ≡ Refusal.NotSweepable) ⊎ (refused.0 ≡ Refusal.Unsettled)) }
-        // After 1 the disk has counted a call that failed.
-        ensures counted { IfErr result (λ refused. refused.0 ≡ Refusal.DeviceFault → 0 < failures_of refused.1) }
+        // After 1 the disk has counted a call that failed during this one.
+        ensures cause { IfErr result (λ refused. refused.0 ≡ Refusal.DeviceFault → Rises (failures_of self.disk) (failures_of refused.1)) }
         ensures honest { MatchResult result (λ left. D.honest (disk_below self.disk) ↔ D.honest (disk_below left.disk)) (λ refused. D.honest (disk_below self.disk) ↔ D.honest (disk_below refused.1)) }
         ensures pages { MatchResult result (λ left. D.page_count (disk_below left.disk) ≡ D.page_count (disk_below self.disk)) (λ refused. D.page_count (disk_below refused.1) ≡ D.page_count (disk_below self.disk)) }
     {
@@ -117,10 +117,12 @@ impl<D: PageDisk + Drop> Store<Mounted<D>> {
             return Err((Refusal::NotSweepable, missing));
         }
         let alloc = self.alloc;
+        let held = self.held;
         match open_without(alloc, self.into_core(), extent) {
             Ok(core) => Ok(Store {
                 alloc,
                 core,
+                held,
                 findings: Vec::new(alloc),
                 made: Vec::new(alloc),
             }),

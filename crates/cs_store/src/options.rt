@@ -10,8 +10,6 @@ ghost use Rattle.cs_frame.specs.Geometries.{file_format};
 ghost use Rattle.cs_mount.specs.Identities.{AreOfTwo, IsOfOne};
 ghost use Rattle.cs_mount.specs.Looks.{IsTaken};
 ghost use Rattle.cs_mount.specs.Makings.{HoldsBoth, LeavesLaying};
-ghost use Rattle.cs_mount.specs.Older.{ShowsOlderOn, older_on};
-ghost use Rattle.cs_mount.specs.OlderDisks.{left_lowered, shown_below, state_lowered};
 ghost use Rattle.cs_mount.specs.Showing.{ShowsOn, findings_on, shown_by, shown_on};
 ghost use Rattle.cs_mount.specs.StorePairs.{blank_disk, dimensions_on, pages_of, store_pairs, store_version};
 ghost use Rattle.cs_reader.specs.Counts.{HasCount};
@@ -25,11 +23,12 @@ ghost use Rattle.law_machine.specs.Geometry.{twins_in};
 use crate::errors::OpenError;
 use crate::file_openers::{create_store_file, open_store_file};
 use crate::identities::{NO_IDENTITY, geometry_in_file};
+use crate::reserves::{DEFAULT_RESERVE, Held, Reserve};
 use crate::stores::Store;
-use cs_core::Limits;
 use cs_disk::{FileDisk, MemoryDisk, PageDisk};
 use cs_frame::Geometry;
-use cs_mount::{AsOf, Finding, LIMITS, MountOptions, Mounted};
+use cs_mount::the_core::Limits;
+use cs_mount::{Finding, LIMITS, MountOptions, Mounted};
 use cs_refusal::Refusal;
 use std::alloc::Global;
 use std::fs::File;
@@ -49,7 +48,7 @@ pub enum Loss {
 }
 
 /// Options for making or opening a store, and the calls that do it: the one way to a store. Contracts see the limits,
-/// the geometry, and whether a loss is accepted.
+/// the geometry, whether a loss is accepted, and the reserve.
 ///
 /// `create`, `create_in_memory` and `create_file` make a new store of the options' geometry. `open` and `open_file`
 /// open one that is there, `open_older` and `open_older_file` as of an older root; they take the geometry from the
@@ -60,6 +59,7 @@ pub struct OpenOptions {
     pub(crate) limits: Limits,
     pub(crate) geometry: Geometry,
     pub(crate) loss: Loss,
+    pub(crate) reserve: Reserve,
 }
 
 impl Model for OpenOptions {
@@ -67,7 +67,7 @@ impl Model for OpenOptions {
 
     ghost Value = { Opening };
 
-    ghost view = { λ o. record { limits = o.limits; geometry = o.geometry; loss = o.loss } };
+    ghost view = { λ o. record { limits = o.limits; geometry = o.geometry; loss = o.loss; reserve = o.reserve } };
 }
 
 /// The default geometry, of a store with an identity of zeros.
@@ -81,13 +81,15 @@ fn default_geometry() -> Geometry
 }
 
 impl OpenOptions {
-    /// The default options: `LIMITS`, and a geometry with 64 extents of 256 pages and an identity of zeros.
+    /// The default options: `LIMITS`, `DEFAULT_RESERVE`, and a geometry with 64 extents of 256 pages and an identity of
+    /// zeros.
     ///
     /// Such a store takes 64 MiB of memory or of a file. It has room for 31,773 identifiers if their shards have one
     /// chunk each, for shards of 8,388,008 bytes at most, and for some 30 MiB of shards in all.
     pub fn new(alloc: Global) -> Self
         ensures limits { result.limits.history ≡ 65536 }
         ensures loss { result.loss ≡ Loss.Refused }
+        ensures reserve { result.reserve ≡ Reserve.Percent 15 }
         ensures geometry { result.geometry ≡ record { format = file_format no_identity 64 256 1; extents = 64; pages = 256; sections = 1 } }
     {
         OpenOptions {
@@ -95,6 +97,7 @@ impl OpenOptions {
             limits: LIMITS,
             geometry: default_geometry(),
             loss: Loss::Refused,
+            reserve: DEFAULT_RESERVE,
         }
     }
 
@@ -103,13 +106,11 @@ impl OpenOptions {
         ensures limits { result.limits ≡ limits }
         ensures geometry { result.geometry ≡ self.geometry }
         ensures loss { result.loss ≡ self.loss }
+        ensures reserve { result.reserve ≡ self.reserve }
     {
-        OpenOptions {
-            alloc: self.alloc,
-            limits,
-            geometry: self.geometry,
-            loss: self.loss,
-        }
+        let mut options = self;
+        options.limits = limits;
+        options
     }
 
     /// These options with another geometry for a new store (`Geometry::for_file`). It has the identity of the store,
@@ -123,13 +124,11 @@ impl OpenOptions {
         ensures limits { result.limits ≡ self.limits }
         ensures geometry { result.geometry ≡ geometry }
         ensures loss { result.loss ≡ self.loss }
+        ensures reserve { result.reserve ≡ self.reserve }
     {
-        OpenOptions {
-            alloc: self.alloc,
-            limits: self.limits,
-            geometry,
-            loss: self.loss,
-        }
+        let mut options = self;
+        options.geometry = geometry;
+        options
     }
 
     /// These options, by which an opening for writing does this about a page that can't be read (default:
@@ -138,13 +137,24 @@ impl OpenOptions {
         ensures limits { result.limits ≡ self.limits }
         ensures geometry { result.geometry ≡ self.geometry }
         ensures loss { result.loss ≡ loss }
+        ensures reserve { result.reserve ≡ self.reserve }
     {
-        OpenOptions {
-            alloc: self.alloc,
-            limits: self.limits,
-            geometry: self.geometry,
-            loss,
-        }
+        let mut options = self;
+        options.loss = loss;
+        options
+    }
+
+    /// These options with another reserve (default: `DEFAULT_RESERVE`). It is no part of the store: each opening has its
+    /// own.
+    pub fn reserve(self, reserve: Reserve) -> Self
+        ensures limits { result.limits ≡ self.limits }
+        ensures geometry { result.geometry ≡ self.geometry }
+        ensures loss { result.loss ≡ self.loss }
+        ensures reserve { result.reserve ≡ reserve }
+    {
+        let mut options = self;
+        options.reserve = reserve;
+        options
     }
 
     /// Makes a new store of the options' geometry on a disk, with nothing in it. It writes both pages of the root and
@@ -187,6 +197,7 @@ impl OpenOptions {
             alloc,
             limits,
             geometry,
+            reserve,
             ..
         } = self;
         let options = MountOptions::new(alloc).limits(limits);
@@ -194,6 +205,7 @@ impl OpenOptions {
             Ok(core) => Ok(Store {
                 alloc,
                 core,
+                held: Held::by(reserve),
                 findings: Vec::new(alloc),
                 made: Vec::new(alloc),
             }),
@@ -232,6 +244,7 @@ impl OpenOptions {
             alloc,
             limits,
             geometry,
+            reserve,
             ..
         } = self;
         let options = MountOptions::new(alloc).limits(limits);
@@ -239,6 +252,7 @@ impl OpenOptions {
             Ok(core) => Ok(Store {
                 alloc,
                 core,
+                held: Held::by(reserve),
                 findings: Vec::new(alloc),
                 made: Vec::new(alloc),
             }),
@@ -291,13 +305,19 @@ impl OpenOptions {
         ensures honest { MatchResult result (λ opened. D.honest disk ↔ D.honest (disk_below opened.0.disk)) (λ refused. D.honest disk ↔ D.honest refused.1) }
         ensures pages { MatchResult result (λ opened. D.page_count (disk_below opened.0.disk) ≡ D.page_count disk) (λ refused. D.page_count refused.1 ≡ D.page_count disk) }
     {
-        let OpenOptions { alloc, limits, .. } = self;
+        let OpenOptions {
+            alloc,
+            limits,
+            reserve,
+            ..
+        } = self;
         let options = MountOptions::new(alloc).limits(limits);
         match options.open(disk) {
             Ok((core, findings)) => {
                 let store = Store {
                     alloc,
                     core,
+                    held: Held::by(reserve),
                     findings: Vec::new(alloc),
                     made: Vec::new(alloc),
                 };
@@ -399,6 +419,7 @@ impl OpenOptions {
             alloc,
             limits,
             geometry,
+            reserve,
             ..
         } = self;
         let options = MountOptions::new(alloc).limits(limits);
@@ -406,84 +427,11 @@ impl OpenOptions {
             Ok(core) => Ok(Store {
                 alloc,
                 core,
+                held: Held::by(reserve),
                 findings: Vec::new(alloc),
                 made: Vec::new(alloc),
             }),
             Err(_) => Err(OpenError::OutOfMemory),
-        }
-    }
-
-    /// Opens the store on a disk as of the newest root that is whole, though a newer one was persistent, so that `open`
-    /// refuses it 27 RootLost. What was put and acknowledged since is lost, and what was there before may
-    /// be written over. Nothing is written: a sync is refused 1 DeviceFault, after which the store is halted. It also
-    /// returns what the pages hold of which the store has two, as `open` does.
-    ///
-    /// If the call is refused, it returns the disk. 43 NotAStore: there is no store of format 4, or page 0 and the
-    /// last page are of different stores. The other refusals are those of `open`, but for 27 RootLost.
-    pub fn open_older<D: PageDisk + Drop>(
-        self,
-        disk: D,
-    ) -> Result<(Store<AsOf<Mounted<D>>>, Vec<Finding>), (Refusal, D)>
-        ensures new { IfOk result (λ opened. (opened.0.history ≡ []) × (opened.0.base ≡ 0) × (opened.0.limit ≡ self.limits.history)) }
-        // What it shows, by which it is opened: no section of it records a later root than the newest that is whole.
-        ensures image { D.honest disk → IfOk result (λ opened. (opened.0.opened ≡ older_on (D.page_count disk) (seen (D.state disk))) × (state_lowered opened.0.disk ≡ record { durable = older_on (D.page_count disk) (seen (D.state disk)); volatile = [] })) }
-        ensures store { IfOk result (λ opened. IsOpened (D.honest disk) opened.0.opened opened.0.found opened.0.store) }
-        ensures there { D.honest disk → OnOk result (dimensions_on (D.page_count disk) (seen (D.state disk)) ≢ None) }
-        ensures findings { D.honest disk → IfOk result (λ opened. opened.1.items ≡ findings_on (D.page_count disk) (seen (D.state disk))) }
-        // No store of format 4 is there, or what it shows is refused by the first test that fails.
-        ensures refusals { D.honest disk → IfErr result (λ refused. IsNoAnswer refused.0 ⊎ ((refused.0 ≡ Refusal.NotAStore) × (dimensions_on (D.page_count disk) (seen (D.state disk)) ≡ None)) ⊎ IsWhyNotOpened (D.page_count disk) (page (older_on (D.page_count disk) (seen (D.state disk)))) refused.0) }
-        ensures number { IfErr result (λ refused. IsOpeningRefusal refused.0) }
-        ensures small { D.page_count disk < 10 → result ≡ Err (Refusal.NotAStore, disk) }
-        // 1 is an answer of the device.
-        ensures cause { IfErr result (λ refused. refused.0 ≡ Refusal.DeviceFault → Rises (D.failure_count disk) (D.failure_count refused.1)) }
-        // Nothing is written, whether it is opened or not: the device holds what it held, or that made durable.
-        ensures unwritten { D.honest disk → MatchResult result (λ opened. D.state (disk_below (shown_below opened.0.disk)) ≡ flushed (D.state disk)) (λ refused. (D.state refused.1 ≡ D.state disk) ⊎ (D.state refused.1 ≡ flushed (D.state disk))) }
-        // A crash meanwhile leaves what shows so as what one before it might have left.
-        ensures crash { D.honest disk → IfOk result (λ opened. (left : Image) → left_lowered opened.0.disk (D.moment disk) left → ShowsOlderOn (D.page_count disk) (seen (D.state disk)) (MayLeave (D.state disk)) left) }
-        // Two flushes, and no write; if it is refused, two at most.
-        ensures calls { D.honest disk → MatchResult result (λ opened. D.moment (disk_below (shown_below opened.0.disk)) ≡ D.moment disk + 2) (λ refused. D.moment refused.1 ≤ D.moment disk + 2) }
-        ensures honest { MatchResult result (λ opened. D.honest disk ↔ D.honest (disk_below (shown_below opened.0.disk))) (λ refused. D.honest disk ↔ D.honest refused.1) }
-        ensures pages { MatchResult result (λ opened. D.page_count (disk_below (shown_below opened.0.disk)) ≡ D.page_count disk) (λ refused. D.page_count refused.1 ≡ D.page_count disk) }
-    {
-        let OpenOptions { alloc, limits, .. } = self;
-        let options = MountOptions::new(alloc).limits(limits);
-        match options.open_older(disk) {
-            Ok((core, findings)) => {
-                let older = Store {
-                    alloc,
-                    core,
-                    findings: Vec::new(alloc),
-                    made: Vec::new(alloc),
-                };
-                Ok((older, findings))
-            }
-            Err(refused) => Err(refused),
-        }
-    }
-
-    /// Opens the store that is in a file as `open_older` does. The file is locked as long as the store lives.
-    ///
-    /// The refusals are those of `open_file`, but for 27 RootLost and 29 Unreadable. 43 NotAStore also means that the
-    /// store is of format 2. As at `open_file`, no clause can say what the operating system answers.
-    pub fn open_older_file<R: Files<File = File>>(
-        self,
-        rt: &R,
-        path: &str,
-    ) -> Result<Store<AsOf<Mounted<FileDisk>>>, OpenError>
-        ensures new { IfOk result (λ opened. (opened.history ≡ []) × (opened.base ≡ 0) × (opened.limit ≡ self.limits.history)) }
-        ensures store { IfOk result (λ opened. IsOpened ⊥ opened.opened opened.found opened.store) }
-        ensures refusals { IfErr result (λ error. (error ≢ OpenError.Occupied) × (error ≢ OpenError.NotEmpty) × (error ≢ OpenError.Unreadable)) }
-    {
-        let disk = match open_store_file(rt, self.alloc, path) {
-            Ok(disk) => disk,
-            Err(error) => return Err(error),
-        };
-        match self.open_older(disk) {
-            Ok((mut store, findings)) => {
-                store.findings = findings;
-                Ok(store)
-            }
-            Err((refusal, _)) => Err(OpenError::of(refusal)),
         }
     }
 }

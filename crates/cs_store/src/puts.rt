@@ -1,5 +1,5 @@
 //! Puts and deletes, and the room for further events that they make.
-ghost use Rattle.std.specs.Prelude.{◌↔◌, ◌∷◌, ◌≡◌, ◌≤◌, ◌⊎◌, Err, IfErr, IfOk, IfSome, MatchOption, MatchResult, None, OnOk, Some, [], suc, true};
+ghost use Rattle.std.specs.Prelude.{◌↔◌, ◌∷◌, ◌≡◌, ◌≤◌, ◌⊎◌, Err, IfErr, IfOk, IfSome, MatchOption, MatchResult, None, OnOk, Some, [], length, suc, true};
 ghost use Rattle.cs_core.specs.Meanings.{command_said};
 ghost use Rattle.cs_core.specs.Prefixes.{IsPrefixBetween, IsPrefixOf};
 ghost use Rattle.cs_core.specs.Replies.{MayAnswer, MayRefuse};
@@ -7,9 +7,11 @@ ghost use Rattle.cs_core.specs.declared.events.Event.TheVariants.{Delete, Put};
 ghost use Rattle.cs_core.specs.declared.events.Reply.TheVariants.{Absent, Accepted};
 ghost use Rattle.cs_disk.specs.Disk.{Leaves, LeavesOnly};
 ghost use Rattle.cs_index.specs.State.{id_number};
-ghost use Rattle.cs_store.specs.Errors.{IsDeleteRefusal, delete_refusal, put_refusal};
+ghost use Rattle.cs_inspect.specs.Choices.{ReadsOn};
+ghost use Rattle.cs_store.specs.Errors.{IsDeleteRefusal, IsPutRefusal, delete_refusal, put_refusal};
 ghost use Rattle.cs_store.specs.Events.{Declines, DeclinesCopy, Does, DoesFrom, IsHalted};
 ghost use Rattle.cs_store.specs.Maps.{Accepts, HasMap};
+ghost use Rattle.cs_store.specs.Reserves.{IsReserved, PutsAfterReads, PutsWithin, RefusesPut};
 ghost use Rattle.cs_store.specs.Rooms.{Empties, HasNoRoom, IsMadeReady, IsNoRoom, IsSweeping, StaysFull, room_refusal};
 ghost use Rattle.cs_writeback.specs.Histories.{IsNoRefusal};
 ghost use Rattle.cs_writeback.specs.Runs.{Ran};
@@ -17,10 +19,11 @@ ghost use Rattle.law_machine.specs.Element.{Map};
 ghost use Rattle.law_machine.specs.State.{changed};
 
 use crate::errors::{DeleteError, PutError};
+use crate::reserves::{Reserve, heed};
 use crate::stores::Store;
-use cs_core::{Bytes, Core, Event, Reply};
 use cs_disk::PageDisk;
 use cs_frame::ShardId;
+use cs_mount::the_core::{Bytes, Core, Event, Reply};
 use cs_refusal::Refusal;
 use cs_writeback::{ask, make_room, sync};
 use std::alloc::{AllocError, Global};
@@ -38,15 +41,73 @@ impl<D: PageDisk> Store<D> {
     /// the commands accepted since the store was opened. It is persistent once `sync` answers that number or a greater
     /// one, and a crash before may lose it.
     ///
-    /// The bytes are copied once, and staged in memory; the disk is asked for nothing, but where as many events are
-    /// kept as may be, when all that was accepted is made persistent first, as by `sync`.
+    /// The bytes are copied once, and staged in memory. Most puts ask the disk for nothing. If as many events are kept
+    /// as may be, all that was accepted is made persistent first, as by `sync`.
     ///
-    /// Refused 31 TooLarge, 32 IndexFull, 30 Full, 35 WornOut, 40 Halted, 9 OutOfMemory; 1 DeviceFault from that sync;
-    /// and 41 HistoryFull where as many events are kept as may be and an extent is being swept still. The map is as it
-    /// was then.
+    /// It goes by the reserve of the store (`reserve`). If more pages may live with a new identifier than the reserve
+    /// leaves, as far as is known without a look, it looks as `put_within` does. That is rare: the store counts what it
+    /// puts.
+    ///
+    /// Refused 31 TooLarge, 36 Reserved, 32 IndexFull, 30 Full, 35 WornOut, 40 Halted, 9 OutOfMemory; 1 DeviceFault from
+    /// that sync; and 41 HistoryFull where as many events are kept as may be and an extent is being swept still. The map
+    /// is as it was then.
     pub fn put(&mut self, id: ShardId, bytes: &[u8]) -> Result<u64, PutError>
-        ensures done { IfOk result (λ n. Does D.PageDisk self.old (Put id bytes.now) (Accepted n) self.new) }
-        ensures refused { IfErr result (λ error. DeclinesCopy D.PageDisk self.old (Put id bytes.now) (put_refusal error) self.new) }
+        // It is done after reads at most.
+        ensures done { IfOk result (λ n. PutsAfterReads D.PageDisk self.old id bytes.now n self.new) }
+        ensures refused { IfErr result (λ error. RefusesPut D.PageDisk self.old id bytes.now (put_refusal error) self.new) }
+        // It is refused 36 only by a reserve, and never if something is under the identifier.
+        ensures reserved { IfErr result (λ error. error ≡ PutError.Reserved → (held : Reserve) × IsReserved D.PageDisk held id (length bytes.now) self.old self.new) }
+        // So nothing but reads was done then.
+        ensures kept { IfErr result (λ error. error ≡ PutError.Reserved → ReadsOn D.PageDisk self.old self.new) }
+        // A halted store refuses it, and nothing is asked of the core: no event more is kept.
+        ensures halted { self.old.store.halted ≡ true → (result ≡ Err PutError.Halted) × (self.new ≡ self.old) }
+        // It is refused 41 only where no event may be kept at all, or an extent is being swept.
+        ensures full { D.honest self.old.disk → IfErr result (λ error. error ≡ PutError.HistoryFull → HasNoRoom self.new) }
+        ensures number { D.honest self.old.disk → IfOk result (λ n. n ≡ suc self.old.store.accepted) }
+        ensures accepted { IfOk result (λ n. self.new.store.accepted ≡ n) }
+        // It alone was accepted where it is done, and nothing where it is refused.
+        ensures accepts { MatchResult result (λ _. Accepts D.PageDisk ((id_number id, Some bytes.now) ∷ []) self.old self.new) (λ _. Accepts D.PageDisk [] self.old self.new) }
+        ensures map { (m : Map) → HasMap self.old m → MatchResult result (λ _. HasMap self.new (changed m (id_number id, Some bytes.now))) (λ _. HasMap self.new m) }
+        // It is made of calls of the core, one after another.
+        ensures ran { Ran D.PageDisk self.old self.new }
+        ensures rises { self.old.store.frontier ≤ self.new.store.frontier }
+        // A crash at any moment of it leaves the map after some of the commands, none of those left out that were
+        // persistent before.
+        ensures crash { D.honest self.old.disk → LeavesOnly D.moment D.left_since self.old.disk self.new.disk (IsPrefixBetween self.old self.new) }
+        // A crash after it does so for the commands and the frontier then.
+        ensures left { D.honest self.new.disk → Leaves (D.state self.new.disk) (IsPrefixOf self.new) }
+        ensures honest { D.honest self.old.disk ↔ D.honest self.new.disk }
+    {
+        let reserve = self.held.reserve_for(self.core.extents(), bytes.len());
+        self.put_within(reserve, id, bytes)
+    }
+
+    /// Keeps these bytes under an identifier, as `put` does, by this reserve in place of the store's.
+    ///
+    /// If the reserve holds something back and nothing is under the identifier, it looks first: it reads the first page
+    /// of each live chunk of which the store doesn't know the length, and takes memory for a list of all chunks. A chunk
+    /// whose header can't be read doesn't count as live.
+    ///
+    /// Refused 40 Halted before anything is read. A shard that has too many bytes is refused 31 TooLarge and not 36. The
+    /// other refusals are those of `put`. Memory that the look is refused is 9 OutOfMemory too, with nothing but reads
+    /// done.
+    pub fn put_within(
+        &mut self,
+        reserve: Reserve,
+        id: ShardId,
+        bytes: &[u8],
+    ) -> Result<u64, PutError>
+        // It is done after reads at most.
+        ensures done { IfOk result (λ n. PutsAfterReads D.PageDisk self.old id bytes.now n self.new) }
+        // By these reads no more pages live with it than the reserve leaves. Or nothing is held back, or something was
+        // under the identifier, and nothing was read.
+        ensures within { IfOk result (λ n. PutsWithin D.PageDisk reserve self.old id bytes.now n self.new) }
+        ensures refused { IfErr result (λ error. RefusesPut D.PageDisk self.old id bytes.now (put_refusal error) self.new) }
+        // It is refused 36 only if more pages would live than the reserve leaves, and never if something is under the
+        // identifier.
+        ensures reserved { IfErr result (λ error. error ≡ PutError.Reserved → IsReserved D.PageDisk reserve id (length bytes.now) self.old self.new) }
+        // So nothing but reads was done then.
+        ensures kept { IfErr result (λ error. error ≡ PutError.Reserved → ReadsOn D.PageDisk self.old self.new) }
         // A halted store refuses it, and nothing is asked of the core: no event more is kept.
         ensures halted { self.old.store.halted ≡ true → (result ≡ Err PutError.Halted) × (self.new ≡ self.old) }
         // It is refused 41 only where no event may be kept at all, or an extent is being swept.
@@ -71,12 +132,14 @@ impl<D: PageDisk> Store<D> {
         if self.core.is_halted() {
             return Err(PutError::Halted);
         }
-        let Ok(copy) = copy_of(self.alloc, bytes) else {
-            return Err(PutError::OutOfMemory);
-        };
-        match ask_ready(&mut self.core, &Event::Put(id, copy)) {
-            Ok(Reply::Accepted(number)) => Ok(number),
-            Ok(_) => unreachable!(),
+        let put = put_by(self.alloc, &mut self.core, reserve, id, bytes);
+        // Called for its contract alone: what a crash leaves now.
+        self.core.progress();
+        match put {
+            Ok((number, live)) => {
+                self.held.count(self.core.extents(), live, bytes.len());
+                Ok(number)
+            }
             Err(refusal) => Err(PutError::of(refusal)),
         }
     }
@@ -127,6 +190,64 @@ impl<D: PageDisk> Store<D> {
             Ok(_) => unreachable!(),
             Err(refusal) => Err(DeleteError::of(refusal)),
         }
+    }
+}
+
+/// Looks whether a shard is within a reserve, and then keeps these bytes. Returns the number of the put, and how many
+/// pages lived before, if that was counted.
+fn put_by<D: PageDisk>(
+    alloc: Global,
+    core: &mut Core<D>,
+    reserve: Reserve,
+    id: ShardId,
+    bytes: &[u8],
+) -> Result<(u64, Option<usize>), Refusal>
+    ensures within { IfOk result (λ put. PutsWithin D.PageDisk reserve core.old id bytes.now put.0 core.new) }
+    ensures refused { IfErr result (λ refusal. RefusesPut D.PageDisk core.old id bytes.now refusal core.new) }
+    ensures reserved { IfErr result (λ refusal. refusal ≡ Refusal.Reserved → IsReserved D.PageDisk reserve id (length bytes.now) core.old core.new × ReadsOn D.PageDisk core.old core.new) }
+    ensures refusals { IfErr result IsPutRefusal }
+    ensures full { D.honest core.old.disk → IfErr result (λ refusal. refusal ≡ Refusal.HistoryFull → HasNoRoom core.new) }
+    ensures number { D.honest core.old.disk → IfOk result (λ put. put.0 ≡ suc core.old.store.accepted) }
+    ensures accepted { IfOk result (λ put. core.new.store.accepted ≡ put.0) }
+    ensures accepts { MatchResult result (λ _. Accepts D.PageDisk ((id_number id, Some bytes.now) ∷ []) core.old core.new) (λ _. Accepts D.PageDisk [] core.old core.new) }
+    ensures ran { Ran D.PageDisk core.old core.new }
+{
+    // Called for its contract alone: what a crash leaves now.
+    core.progress();
+    match heed(alloc, core, reserve, id, bytes.len()) {
+        Ok(live) => match put_ready(alloc, core, id, bytes) {
+            Ok(number) => Ok((number, live)),
+            Err(refusal) => Err(refusal),
+        },
+        Err(refusal) => Err(refusal),
+    }
+}
+
+/// Copies the bytes, makes room for the put and has the core do it.
+fn put_ready<D: PageDisk>(
+    alloc: Global,
+    core: &mut Core<D>,
+    id: ShardId,
+    bytes: &[u8],
+) -> Result<u64, Refusal>
+    ensures done { IfOk result (λ n. Does D.PageDisk core.old (Put id bytes.now) (Accepted n) core.new) }
+    ensures refused { IfErr result (λ refusal. DeclinesCopy D.PageDisk core.old (Put id bytes.now) refusal core.new) }
+    ensures refusals { IfErr result (λ refusal. IsDeleteRefusal refusal ⊎ MayRefuse (Put id bytes.now) refusal) }
+    ensures full { D.honest core.old.disk → IfErr result (λ refusal. refusal ≡ Refusal.HistoryFull → HasNoRoom core.new) }
+    ensures number { D.honest core.old.disk → IfOk result (λ n. n ≡ suc core.old.store.accepted) }
+    ensures accepted { IfOk result (λ n. core.new.store.accepted ≡ n) }
+    ensures accepts { MatchResult result (λ _. Accepts D.PageDisk ((id_number id, Some bytes.now) ∷ []) core.old core.new) (λ _. Accepts D.PageDisk [] core.old core.new) }
+    ensures ran { Ran D.PageDisk core.old core.new }
+{
+    // Called for its contract alone: which state of the machine the core is in.
+    core.progress();
+    let Ok(copy) = copy_of(alloc, bytes) else {
+        return Err(Refusal::OutOfMemory);
+    };
+    match ask_ready(core, &Event::Put(id, copy)) {
+        Ok(Reply::Accepted(number)) => Ok(number),
+        Ok(_) => unreachable!(),
+        Err(refusal) => Err(refusal),
     }
 }
 

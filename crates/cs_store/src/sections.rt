@@ -200,6 +200,7 @@ impl OpenOptions {
             limits: self.limits,
             geometry: self.geometry,
             loss: self.loss,
+            reserve: self.reserve,
         };
         let unmade = Vec::new(self.alloc);
         match self.open_to_write(disk) {

@@ -10,9 +10,10 @@ ghost use Rattle.cs_writeback.specs.Syncs.{StopsSync, Syncs};
 ghost use Rattle.law_machine.specs.Element.{Map};
 
 use crate::errors::SyncError;
-use cs_core::Core;
+use crate::reserves::{Held, Reserve};
 use cs_disk::PageDisk;
 use cs_mount::Finding;
+use cs_mount::the_core::Core;
 use cs_writeback::sync;
 use std::alloc::Global;
 use std::marker::Model;
@@ -22,6 +23,8 @@ use std::marker::Model;
 pub struct Store<D: PageDisk> {
     pub(crate) alloc: Global,
     pub(crate) core: Core<D>,
+    /// What it holds back.
+    pub(crate) held: Held,
     /// What the pages held of which it has two, as it was opened from a file; else empty.
     pub(crate) findings: Vec<Finding>,
     /// The pages of sections that were made, as it was opened from a file; else empty.
@@ -55,6 +58,19 @@ impl<D: PageDisk> Store<D> {
         &self.made
     }
 
+    /// The reserve by which `put` goes, as the options said that made or opened the store (`OpenOptions::reserve`), or as
+    /// was set since (`set_reserve`). The value of a store is its core's, so no clause speaks of the reserve.
+    pub fn reserve(&self) -> Reserve {
+        self.held.reserve
+    }
+
+    /// Goes by another reserve from now on, and nothing else changes.
+    pub fn set_reserve(&mut self, reserve: Reserve)
+        ensures { self.new ≡ self.old }
+    {
+        self.held.reserve = reserve;
+    }
+
     /// The store, with what an opening found beside it.
     pub(crate) fn noted(self, findings: Vec<Finding>, made: Vec<u64>) -> Self
         ensures { result ≡ self }
@@ -72,6 +88,7 @@ impl<D: PageDisk> Store<D> {
         let Store {
             alloc: _,
             core,
+            held: _,
             findings: _,
             made: _,
         } = self;
@@ -85,6 +102,7 @@ impl<D: PageDisk> Store<D> {
         let Store {
             alloc: _,
             core,
+            held: _,
             findings: _,
             made: _,
         } = self;

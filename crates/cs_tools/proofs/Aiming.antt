@@ -18,10 +18,10 @@ use Rattle.law_machine.specs.Device.{Shape}
 use Rattle.law_machine.specs.Format.{Format, Four, Two}
 use Rattle.cs_tools.specs.Aims.{HasNoRoomFor, HasRoomFor, IfPut, IsFullFor, IsNextFor, IsPutAnd, IsSettled, most_emptied}
 use Rattle.cs_tools.specs.Headers.{IsLeft}
-use Rattle.cs_tools.specs.Reclaims.{EmptiesAll, EmptiesInVain, MayRefuseReclaim, MayStop}
+use Rattle.cs_tools.specs.Reclaims.{EmptiesAll, EmptiesInVain, MayRefuseReclaim, MayStop, Step}
 use Rattle.cs_tools.specs.declared.aims.Aim.{Aim}
 use Rattle.cs_tools.specs.declared.aims.Aim.TheVariants.{Brim, Pairs, Room}
-use Rattle.cs_tools.specs.declared.outputs.Style.{Style}
+use Rattle.cs_advice.specs.declared.outputs.Style.{Style}
 use Rattle.cs_tools.specs.declared.reclaim_command.Stop.{Stop}
 use Rattle.cs_tools.specs.declared.reclaim_command.Stop.TheVariants.{Refused}
 use Rattle.cs_tools.specs.declared.seeks.Next.{Next}
@@ -118,24 +118,25 @@ module _ {D : Type 0} (disks : PageDisk D) where
       subst (λ (n : ℕ). IsLeft disks n new) (sym same) it.2
 
   -- if nothing more is emptied, that is what is next
-  pub next_settled : (aim : Aim) (old new : View D) (next : Next) → IsSettled disks aim old → (n : ℕ) × (next ≡ Nothing n) × IsLeft disks n new → IsNextFor disks aim old new next
-  next_settled aim old new next settled it = subst (λ (x : Next). IsNextFor disks aim old new x) (sym it.1) settled
+  pub next_settled : (aim : Aim) (passed : List ℕ) (old new : View D) (next : Next) → IsSettled disks aim passed old → (n : ℕ) × (next ≡ Nothing n) × IsLeft disks n new → IsNextFor disks aim passed old new next
+  next_settled aim passed old new next settled it = subst (λ (x : Next). IsNextFor disks aim passed old new x) (sym it.1) settled
 
   pub reads_then : (a b c : View D) → ReadsOn disks a b → ReadsOn disks b c → ReadsOn disks a c
   reads_then a b c p q = (same_on a b c p.0 q.0, reads_on disks a.disk b.disk c.disk p.1 q.1)
 
   -- what is next up to the brim is next for a put, too
-  pub brim_for_put : (bytes : ℕ) (old new : View D) (next : Next) → IsNextFor disks Brim old new next → IsNextFor disks (Room bytes) old new next
-  brim_for_put bytes old new (Extent choice) is = is
-  brim_for_put bytes old new (Nothing unreadable) (inl none) = inl none
-  brim_for_put bytes old new (Nothing unreadable) (inr room) = absurd room
+  pub brim_for_put : (bytes : ℕ) (passed : List ℕ) (old new : View D) (next : Next) → IsNextFor disks Brim passed old new next → IsNextFor disks (Room bytes) passed old new next
+  brim_for_put bytes passed old new (Extent choice) is = is
+  brim_for_put bytes passed old new (Nothing unreadable) (inl none) = inl none
+  brim_for_put bytes passed old new (Nothing unreadable) (inr room) = absurd room
 
-  -- if the put is full at the end, none is chosen any more, or as many were emptied as may be
-  pub in_vain : (aim : Aim) (style : Style) (old new : View D) (a b : Option (List ℕ)) → EmptiesAll disks aim style old new a b → IsPutAnd aim (IsFullFor new.store.extents) → EmptiesInVain disks aim style old new a b
-  in_vain aim style old new a b (n, le, last, times, reads, inl (inl none)) full = (n, le, last, times, reads, inl none, full)
-  in_vain aim style old new a b (n, le, last, times, reads, inl (inr room)) full =
+  -- if the put is full at the end, none is chosen any more, or as many steps were done as may be
+  pub in_vain : (aim : Aim) (style : Style) (steps : List Step) (old new : View D) (a b : Option (List ℕ)) → EmptiesAll disks aim style steps old new a b → IsPutAnd aim (IsFullFor new.store.extents)
+      → EmptiesInVain disks aim style steps old new a b
+  in_vain aim style steps old new a b (le, last, does, reads, inl (inl none)) full = (le, last, does, reads, inl none, full)
+  in_vain aim style steps old new a b (le, last, does, reads, inl (inr room)) full =
       absurd (never_both aim new.store.extents (subst (λ (s : Stored). IsPutAnd aim (HasRoomFor s.extents)) (sym (store_read last new reads.0)) room) full)
-  in_vain aim style old new a b (n, le, last, times, reads, inr many) full = (n, le, last, times, reads, inr many, full)
+  in_vain aim style steps old new a b (le, last, does, reads, inr many) full = (le, last, does, reads, inr many, full)
 
 -- ---- what ended it
 

@@ -1,7 +1,7 @@
 -- What a change of the map and a commit behind it do.
 use Rattle.std.proofs.Common.{◌≡◌, ◌∙◌, ◌⊎◌, ℕ, suc, ◌≤◌, List, [], ◌∷◌, Some, None, refl, sym, subst, inl, inr, ⊎_elim, arith}
 use Rattle.std.specs.Prelude.{◌↔◌, IfSome, MatchOption, Option}
-use Rattle.cs_core.specs.declared.events.Event.TheVariants.{Delete, Put}
+use Rattle.cs_core.specs.declared.events.Event.TheVariants.{Delete}
 use Rattle.cs_core.specs.declared.events.Reply.TheVariants as reply
 use Rattle.cs_core.specs.Meanings.{commands_said}
 use Rattle.cs_core.specs.Views.{View}
@@ -19,11 +19,12 @@ use Rattle.cs_core.proofs.law_refinement.CrashesLeft.{prefix_wider}
 use Rattle.cs_core.specs.law_refinement.Crashes.{IsPrefix}
 use Rattle.cs_store.specs.Events.{Declines, Does, IsHalted}
 use Rattle.cs_store.specs.Maps.{Accepts, HasMap}
+use Rattle.cs_store.specs.Reserves.{PutsAfterReads}
 use Rattle.cs_store.proofs.Accepting.{accepts_none, does_accepts, sync_quiet, sync_stopped_quiet}
 use Rattle.cs_store.proofs.Running.{Left}
 use Rattle.cs_tools.specs.Changes.{Commits, DeclinesDelete, Deletes, DeletesFrom, Puts, PutsInto}
-use Rattle.cs_tools.specs.declared.outcomes.Outcome.{Outcome}
-use Rattle.cs_tools.specs.declared.outcomes.Outcome.TheVariants.{Absent, Damaged, Done, Failed, MayBeLost, NoStore, Refused, Unopened, Unread}
+use Rattle.cs_advice.specs.declared.outcomes.Outcome.{Outcome}
+use Rattle.cs_advice.specs.declared.outcomes.Outcome.TheVariants.{Absent, Damaged, Done, Failed, MayBeLost, NoStore, Refused, Unopened, Unread}
 
 module _ {D : Type 0} (disks : PageDisk D) where
   -- ---- the events
@@ -68,7 +69,7 @@ module _ {D : Type 0} (disks : PageDisk D) where
   deletes id n old mid new (Unopened f) does commits = absurd commits
   deletes id n old mid new MayBeLost does commits = absurd commits
 
-  pub puts : (id : ShardId) (text : List ℕ) (n : ℕ) (old mid new : View D) (o : Outcome) → Does disks old (Put id text) (reply.Accepted n) mid → Commits disks mid new o → Puts disks id text old new o
+  pub puts : (id : ShardId) (text : List ℕ) (n : ℕ) (old mid new : View D) (o : Outcome) → PutsAfterReads disks old id text n mid → Commits disks mid new o → Puts disks id text old new o
   puts id text n old mid new Done does commits = (mid, n, does, commits)
   puts id text n old mid new (Refused r) does commits = inr (mid, n, does, commits)
   puts id text n old mid new Absent does commits = absurd commits
@@ -98,7 +99,7 @@ module _ {D : Type 0} (disks : PageDisk D) where
         go (Unopened f) is c = absurd c
         go MayBeLost is c = absurd c
 
-    pub puts_into : (text : List ℕ) → HasMap mid (changed m (id_number id, Some text)) → Does disks old (Put id text) (reply.Accepted n) mid → Commits disks mid new o → PutsInto disks m id text old new o
+    pub puts_into : (text : List ℕ) → HasMap mid (changed m (id_number id, Some text)) → PutsAfterReads disks old id text n mid → Commits disks mid new o → PutsInto disks m id text old new o
     puts_into text map does commits = go o refl commits
       where
         go : (p : Outcome) → o ≡ p → Commits disks mid new p → PutsInto disks m id text old new p
@@ -158,8 +159,8 @@ module _ {D : Type 0} (disks : PageDisk D) where
       leaves_both old mid new ((id_number id, None) ∷ []) (does_accepts disks old (Delete id) (reply.Accepted n) mid does) (commits_quiet mid new o commits) rises same
 
   -- of a put
-  pub crash_of_put : (id : ShardId) (text : List ℕ) (n : ℕ) (old mid new : View D) (o : Outcome) → Does disks old (Put id text) (reply.Accepted n) mid → Commits disks mid new o
+  pub crash_of_put : (id : ShardId) (text : List ℕ) (old mid new : View D) (o : Outcome) → Accepts disks ((id_number id, Some text) ∷ []) old mid → Commits disks mid new o
       → old.store.frontier ≤ mid.store.frontier → new.store.accepted ≡ mid.store.accepted → LeavesOnly disks.moment disks.left_since old.disk mid.disk (Left old mid)
       → LeavesOnly disks.moment disks.left_since mid.disk new.disk (Left mid new) → LeavesOnly disks.moment disks.left_since old.disk new.disk (Left old new)
-  crash_of_put id text n old mid new o does commits rises same =
-      leaves_both old mid new ((id_number id, Some text) ∷ []) (does_accepts disks old (Put id text) (reply.Accepted n) mid does) (commits_quiet mid new o commits) rises same
+  crash_of_put id text old mid new o adds commits rises same =
+      leaves_both old mid new ((id_number id, Some text) ∷ []) adds (commits_quiet mid new o commits) rises same

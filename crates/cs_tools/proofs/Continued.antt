@@ -3,10 +3,11 @@ use Rattle.std.proofs.Common.{◌≡◌, ◌∙◌, ℕ, List, [], ◌++◌, ap,
 use Rattle.std.proofs.lemmas.List.{append-nil}
 use Rattle.std.specs.Prelude.{Option}
 use Rattle.std.specs.Io.KnownBytes.{Appends, Keeps}
-use Rattle.cs_tools.specs.Stats.{BeginsWith, GoesOn, dimensions_text}
-use Rattle.cs_tools.specs.Tellings.{GrowsWith}
-use Rattle.cs_tools.specs.declared.outputs.Style.{Style}
-use Rattle.cs_tools.proofs.Appended.{appends_kept, appends_same, appends_then}
+use Rattle.cs_advice.specs.Members.{BeginsWith, GoesOn}
+use Rattle.cs_tools.specs.Stats.{dimensions_text}
+use Rattle.cs_advice.specs.Tellings.{GrowsWith}
+use Rattle.cs_advice.specs.declared.outputs.Style.{Style}
+use Rattle.cs_advice.proofs.Appended.{appends_kept, appends_same, appends_then}
 
 pub goes_then : (a b c : Option (List ℕ)) → GoesOn a b → GoesOn b c → GoesOn a c
 goes_then a b c (xs, h) (ys, k) = (xs ++ ys, appends_then a b c xs ys h k)

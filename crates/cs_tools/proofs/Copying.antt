@@ -223,6 +223,7 @@ put_may put.Full = tt
 put_may put.TooLarge = tt
 put_may put.IndexFull = tt
 put_may put.WornOut = tt
+put_may put.Reserved = tt
 put_may put.Halted = tt
 put_may put.HistoryFull = tt
 

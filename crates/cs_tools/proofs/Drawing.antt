@@ -4,8 +4,8 @@ use Rattle.cs_check.specs.Faults.{Blames, refusal_of}
 use Rattle.cs_check.specs.declared.faults.CheckFault.{CheckFault}
 use Rattle.cs_refusal.specs.declared.refusals.Refusal.{Refusal}
 use Rattle.cs_refusal.specs.declared.refusals.Refusal.TheVariants.{BadDocument, OutOfMemory}
-use Rattle.cs_tools.specs.declared.outcomes.Outcome.{Outcome}
-use Rattle.cs_tools.specs.declared.outcomes.Outcome.TheVariants.{Done, Failed, Refused}
+use Rattle.cs_advice.specs.declared.outcomes.Outcome.{Outcome}
+use Rattle.cs_advice.specs.declared.outcomes.Outcome.TheVariants.{Done, Failed, Refused}
 
 same_refused : (r s : Refusal) → Refused r ≡ Refused s → r ≡ s
 same_refused r s e = cc

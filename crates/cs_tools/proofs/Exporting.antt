@@ -9,7 +9,7 @@ use Rattle.std.proofs.lemmas.Slice.Zip.{AllZip-long}
 use Rattle.std.specs.Io.KnownBytes.{Appends, Keeps}
 use Rattle.std.specs.List.{AllByRecursion, AllZip, list_all}
 use Rattle.cs_tools.specs.Exports.{ArePieces, IsScript, Shard, is_whole, piece_lines, shard_line, sync_line}
-use Rattle.cs_tools.proofs.Appended.{appends_kept, appends_none, appends_then}
+use Rattle.cs_advice.proofs.Appended.{appends_kept, appends_none, appends_then}
 
 -- ---- what holds of each
 

@@ -11,8 +11,8 @@ use Rattle.cs_store.specs.Errors.{get_refusal}
 use Rattle.cs_core.specs.Lookups.{AreMeantBytes}
 use Rattle.cs_core.specs.Stored.{Stored}
 use Rattle.cs_tools.specs.Gets.{Gets, MeansGet}
-use Rattle.cs_tools.specs.declared.outcomes.Outcome.{Outcome}
-use Rattle.cs_tools.specs.declared.outcomes.Outcome.TheVariants.{Absent, Done, Failed, Unread}
+use Rattle.cs_advice.specs.declared.outcomes.Outcome.{Outcome}
+use Rattle.cs_advice.specs.declared.outcomes.Outcome.TheVariants.{Absent, Done, Failed, Unread}
 
 -- its bytes were written, or the writer failed
 pub got_out : (content : Option Content) (bytes : List ℕ) (before after : Option (List ℕ)) (o : Outcome) → content ≡ Some (Bytes bytes) → ((o ≡ Done) × Appends before after bytes) ⊎ (o ≡ Failed) → Gets content before after o

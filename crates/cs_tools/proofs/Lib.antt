@@ -1,6 +1,4 @@
-pub mod Advising
 pub mod Aiming
-pub mod Appended
 pub mod Changing
 pub mod Continued
 pub mod Counting
@@ -10,11 +8,8 @@ pub mod Exported
 pub mod Exporting
 pub mod Figuring
 pub mod Getting
-pub mod Hexes
-pub mod Knowing
 pub mod Outlines
 pub mod Overviewing
-pub mod Payloads
 pub mod Putting
 pub mod Quiet
 pub mod Readable
@@ -26,13 +21,6 @@ pub mod Rows
 pub mod Salvaging
 pub mod Scrubbing
 pub mod Still
-pub mod Telling
 pub mod Tidying
 pub mod Copying
 pub mod Meant
-pub mod Doctoring
-pub mod DoctorCounting
-pub mod DoctorOpening
-pub mod DoctorSections
-pub mod DoctorWriting
-pub mod Stepping

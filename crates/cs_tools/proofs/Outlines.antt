@@ -4,7 +4,7 @@ use Rattle.std.proofs.lemmas.List.FromFn.{get_or-enumerate_from, length-enumerat
 use Rattle.std.specs.List.{enumerate_from}
 use Rattle.std.specs.Prelude.{Option, flat_map}
 use Rattle.std.specs.Io.KnownBytes.{Appends}
-use Rattle.cs_tools.proofs.Appended.{appends_same, appends_then, one_more}
+use Rattle.cs_advice.proofs.Appended.{appends_same, appends_then, one_more}
 use Rattle.cs_tools.proofs.Rows.{four_then}
 
 -- one element more, with its number

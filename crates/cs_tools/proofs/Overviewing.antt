@@ -11,8 +11,8 @@ use Rattle.cs_inspect.specs.declared.surveys.ExtentUse.{ExtentUse}
 use Rattle.cs_inspect.proofs.Tallied.{bounded_then, counted_then}
 use Rattle.law_machine.specs.Format.{Format, Four, Two}
 use Rattle.cs_tools.specs.Overviews.{live_pages}
-use Rattle.cs_tools.specs.declared.outcomes.Outcome.{Outcome}
-use Rattle.cs_tools.specs.declared.outcomes.Outcome.TheVariants.{Damaged, Done}
+use Rattle.cs_advice.specs.declared.outcomes.Outcome.{Outcome}
+use Rattle.cs_advice.specs.declared.outcomes.Outcome.TheVariants.{Damaged, Done}
 use Rattle.cs_tools.proofs.Aiming.{few_extents}
 
 -- ---- pages that live

@@ -2,7 +2,6 @@
 use Rattle.std.proofs.Common.{◌≡◌, ◌∙◌, ◌⊎◌, ℕ, ◌+◌, ◌<◌, ◌≤◌, List, length, take, ap, refl, sym, subst, arith, inl, inr, take_all}
 use Rattle.std.proofs.lemmas.Bool.{cases_lt}
 use Rattle.std.proofs.lemmas.List.{length-take}
-use Rattle.cs_core.specs.declared.events.Event.TheVariants.{Put}
 use Rattle.cs_core.specs.Views.{View}
 use Rattle.cs_refusal.specs.declared.refusals.Refusal.{Refusal}
 use Rattle.cs_refusal.specs.declared.refusals.Refusal.TheVariants.{TooLarge}
@@ -10,11 +9,11 @@ use Rattle.cs_disk.specs.declared.disk.PageDisk.{Ghosts as PageDisk}
 use Rattle.cs_extent.specs.State.{shape}
 use Rattle.cs_frame.specs.declared.identifiers.ShardId.{ShardId}
 use Rattle.law_machine.specs.Element.{Map}
-use Rattle.cs_store.specs.Events.{DeclinesCopy}
 use Rattle.cs_store.specs.Maps.{HasMap}
+use Rattle.cs_store.specs.Reserves.{RefusesPut}
 use Rattle.cs_tools.specs.Changes.{DeclinesPut, Puts, PutsInto, most_bytes}
-use Rattle.cs_tools.specs.declared.outcomes.Outcome.{Outcome}
-use Rattle.cs_tools.specs.declared.outcomes.Outcome.TheVariants.{Failed, Refused}
+use Rattle.cs_advice.specs.declared.outcomes.Outcome.{Outcome}
+use Rattle.cs_advice.specs.declared.outcomes.Outcome.TheVariants.{Failed, Refused}
 
 -- what was read of a text, one byte more than a store takes at most, is all of it unless it is longer
 read_whole : (most : ℕ) (text bytes : List ℕ) → bytes ≡ take (most + 1) text → length bytes ≤ most → bytes ≡ text
@@ -24,8 +23,8 @@ read_whole most text bytes is small =
 
 module _ {D : Type 0} (disks : PageDisk D) (id : ShardId) where
   -- the store refuses it itself
-  pub refused_put : (text : List ℕ) (old new : View D) (r told : Refusal) → told ≡ r → DeclinesCopy disks old (Put id text) r new → DeclinesPut disks id text old told new
-  refused_put text old new r told is declines = inr (subst (λ (x : Refusal). DeclinesCopy disks old (Put id text) x new) (sym is) declines)
+  pub refused_put : (text : List ℕ) (old new : View D) (r told : Refusal) → told ≡ r → RefusesPut disks old id text r new → DeclinesPut disks id text old told new
+  refused_put text old new r told is refuses = inr (subst (λ (x : Refusal). RefusesPut disks old id text x new) (sym is) refuses)
 
   -- of a longer text nothing is put
   module _ (text bytes : List ℕ) (old new : View D) (o : Outcome) (is : bytes ≡ take (most_bytes (shape old.store.extents) + 1) text)

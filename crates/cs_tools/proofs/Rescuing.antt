@@ -11,8 +11,8 @@ use Rattle.cs_salvage.specs.Rescued.{IsOfNewest, IsRescued}
 use Rattle.cs_salvage.specs.Runs.{IsEndOf}
 use Rattle.cs_salvage.specs.declared.rescued_runs.DamagedRun.{DamagedRun}
 use Rattle.cs_tools.specs.Rescues.{MeansGot}
-use Rattle.cs_tools.specs.declared.outcomes.Outcome.{Outcome}
-use Rattle.cs_tools.specs.declared.outcomes.Outcome.TheVariants.{Done, Failed}
+use Rattle.cs_advice.specs.declared.outcomes.Outcome.{Outcome}
+use Rattle.cs_advice.specs.declared.outcomes.Outcome.TheVariants.{Done, Failed}
 use Rattle.cs_tools.specs.declared.rescues.Got.TheVariants.{Ended}
 
 -- ---- why it is refused: by the rescue, or before that by the disk in pairs, as no answer or as of two stores

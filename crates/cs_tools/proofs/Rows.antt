@@ -5,7 +5,7 @@ use Rattle.std.specs.Prelude.{Option}
 use Rattle.std.specs.Io.KnownBytes.{Appends}
 use Rattle.cs_inspect.specs.declared.surveys.ExtentUse.{ExtentUse}
 use Rattle.cs_tools.specs.ExtentMaps.{line_text, row_in, rows_before}
-use Rattle.cs_tools.proofs.Appended.{appends_then}
+use Rattle.cs_advice.proofs.Appended.{appends_then}
 
 -- a row has 64 extents, or what is left of them
 pub row_taken : (uses : List ExtentUse) (start end : ℕ) → end ≡ min (start + 64) (length uses) → take (end - start) (drop start uses) ≡ take 64 (drop start uses)

@@ -36,8 +36,8 @@ use Rattle.cs_salvage.specs.declared.searches.Sought.{Sought}
 use Rattle.cs_salvage.specs.declared.whole_shards.WholeShard.{WholeShard}
 use Rattle.cs_tools.specs.Exports.{IsScript, Shard, is_whole, piece_lines, shard_line}
 use Rattle.cs_tools.specs.Salvages.{AreToldOf, IsMeantBy, IsInDoubt, IsMeantSalvage, IsSalvaged, IsSure, IsToldOf, IsWholeScan, IsWrittenOut, MeansSalvage, SaysFirst, Salvages, Stands, dimensions_in}
-use Rattle.cs_tools.specs.declared.outcomes.Outcome.{Outcome}
-use Rattle.cs_tools.specs.declared.outcomes.Outcome.TheVariants.{Damaged, Done}
+use Rattle.cs_advice.specs.declared.outcomes.Outcome.{Outcome}
+use Rattle.cs_advice.specs.declared.outcomes.Outcome.TheVariants.{Damaged, Done}
 use Rattle.cs_tools.specs.declared.salvages.Named.{Named}
 use Rattle.cs_tools.specs.declared.salvages.Salvaged.{Salvaged}
 use Rattle.cs_tools.proofs.Retelling.{rises_around}

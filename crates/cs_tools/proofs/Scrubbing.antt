@@ -7,9 +7,9 @@ use Rattle.cs_inspect.specs.declared.scrubs.Scrubbed.{Scrubbed}
 use Rattle.cs_inspect.specs.Failures.{RisesBy}
 use Rattle.cs_tools.specs.Pages.{AreLeftWhole}
 use Rattle.cs_tools.specs.Scrubs.{Scrubs, damage_line, found_text, read_line, scrub_text}
-use Rattle.cs_tools.specs.declared.outcomes.Outcome.{Outcome}
-use Rattle.cs_tools.specs.declared.outcomes.Outcome.TheVariants.{Damaged, Done, Failed}
-use Rattle.cs_tools.specs.declared.outputs.Style.{Style}
+use Rattle.cs_advice.specs.declared.outcomes.Outcome.{Outcome}
+use Rattle.cs_advice.specs.declared.outcomes.Outcome.TheVariants.{Damaged, Done, Failed}
+use Rattle.cs_advice.specs.declared.outputs.Style.{Style}
 use Rattle.cs_tools.specs.declared.pages.FoundPages.{FoundPages}
 
 -- counted up to the end or not, the same number is printed

@@ -5,7 +5,8 @@ use Rattle.cs_chunk.specs.Puts.{IsPutFull, PutFits}
 use Rattle.cs_core.specs.Views.{View}
 use Rattle.cs_disk.specs.declared.disk.PageDisk.{Ghosts as PageDisk}
 use Rattle.cs_extent.specs.State.{State as Extents, shape}
-use Rattle.cs_inspect.specs.Choices.{Chooses, ChoosesSweep, ReadsOn}
+use Rattle.cs_inspect.specs.Choices.{ReadsOn}
+use Rattle.cs_inspect.specs.Past.{ChoosesPairPast, ChoosesPast, IsNoneOf}
 use Rattle.cs_tools.specs.declared.aims.Aim.{Aim}
 use Rattle.cs_tools.specs.declared.aims.Aim.TheVariants.{Brim, Pairs, Room}
 use Rattle.cs_tools.specs.declared.seeks.Next.{Next}
@@ -36,29 +37,33 @@ IsPutAnd Pairs Holds = ⊥
 IsPutAnd (Room bytes) Holds = Holds bytes
 IsPutAnd Brim Holds = ⊥
 
--- so many extents are emptied at most: two for each, or up to the brim three for each and one
+-- so many extents are emptied or passed over at most: two for each, or up to the brim three for each and one
 abbrev pub most_emptied : Aim → (extents : ℕ) → ℕ
 most_emptied Pairs extents = 2 * extents
 most_emptied (Room bytes) extents = 3 * extents + 1
 most_emptied Brim extents = 3 * extents + 1
 
 module _ {D : Type 0} (disks : PageDisk D) where
-  -- An extent is chosen, or none, by the headers as they were read: one of two that fit on one (`Chooses`), or by the
-  -- rule up to the brim (`ChoosesSweep`).
-  abbrev pub ChoosesFor : Aim → (old new : View D) → Option (ℕ × ℕ) → Type 0
-  ChoosesFor Pairs old new chosen = Chooses disks old new chosen
-  ChoosesFor (Room bytes) old new chosen = ChoosesSweep disks old new chosen
-  ChoosesFor Brim old new chosen = ChoosesSweep disks old new chosen
+  -- An extent is chosen, or none, by the headers as they were read, and these extents are passed over: one of two that
+  -- fit on one (`ChoosesPairPast`), or by the rule up to the brim (`ChoosesPast`).
+  abbrev pub ChoosesFor : Aim → (passed : List ℕ) → (old new : View D) → Option (ℕ × ℕ) → Type 0
+  ChoosesFor Pairs passed old new chosen = ChoosesPairPast disks passed old new chosen
+  ChoosesFor (Room bytes) passed old new chosen = ChoosesPast disks passed old new chosen
+  ChoosesFor Brim passed old new chosen = ChoosesPast disks passed old new chosen
+
+  -- this extent is chosen, with so many dead pages, and it is none of those that are passed over
+  abbrev pub Picks : Aim → (passed : List ℕ) → (old new : View D) → (extent dead : ℕ) → Type 0
+  Picks aim passed old new extent dead = ChoosesFor aim passed old new (Some (extent, dead)) × IsNoneOf passed extent
 
   -- none is chosen by what was read
-  abbrev pub NoneIsChosen : Aim → View D → Type 0
-  NoneIsChosen aim old = (read : View D) × ReadsOn disks old read × ChoosesFor aim old read None
+  abbrev pub NoneIsChosen : Aim → (passed : List ℕ) → View D → Type 0
+  NoneIsChosen aim passed old = (read : View D) × ReadsOn disks old read × ChoosesFor aim passed old read None
 
   -- nothing more is to be emptied: none is chosen, or the put that is aimed at has room
-  abbrev pub IsSettled : Aim → View D → Type 0
-  IsSettled aim old = NoneIsChosen aim old ⊎ IsPutAnd aim (HasRoomFor old.store.extents)
+  abbrev pub IsSettled : Aim → (passed : List ℕ) → View D → Type 0
+  IsSettled aim passed old = NoneIsChosen aim passed old ⊎ IsPutAnd aim (HasRoomFor old.store.extents)
 
   -- this extent is chosen to be emptied next, or nothing more is to be emptied
-  abbrev pub IsNextFor : Aim → (old new : View D) → Next → Type 0
-  IsNextFor aim old new (Extent choice) = ChoosesFor aim old new (Some (choice.extent, choice.dead))
-  IsNextFor aim old new (Nothing unreadable) = IsSettled aim old
+  abbrev pub IsNextFor : Aim → (passed : List ℕ) → (old new : View D) → Next → Type 0
+  IsNextFor aim passed old new (Extent choice) = Picks aim passed old new choice.extent choice.dead
+  IsNextFor aim passed old new (Nothing unreadable) = IsSettled aim passed old

@@ -1,7 +1,7 @@
 -- What the commands `put` and `del` do, and what a crash leaves of them and of `reclaim`.
 use Rattle.std.specs.Prelude.{◌≡◌, ◌≢◌, ◌⊎◌, ◌*◌, ◌<◌, ℕ, suc, List, None, Some, length}
 use Rattle.cs_core.specs.declared.events.Event.{Event}
-use Rattle.cs_core.specs.declared.events.Event.TheVariants.{Delete, Put}
+use Rattle.cs_core.specs.declared.events.Event.TheVariants.{Delete}
 use Rattle.cs_core.specs.declared.events.Reply.TheVariants as reply
 use Rattle.cs_core.specs.Meanings.{commands_said}
 use Rattle.cs_core.specs.Views.{View}
@@ -17,10 +17,11 @@ use Rattle.law_machine.specs.Device.{Shape}
 use Rattle.law_machine.specs.Element.{Map}
 use Rattle.law_machine.specs.State.{changed}
 use Rattle.cs_core.specs.law_refinement.Crashes.{IsPrefix}
-use Rattle.cs_store.specs.Events.{Declines, DeclinesCopy, Does, IsHalted}
+use Rattle.cs_store.specs.Events.{Declines, Does, IsHalted}
 use Rattle.cs_store.specs.Maps.{HasMap}
-use Rattle.cs_tools.specs.declared.outcomes.Outcome.{Outcome}
-use Rattle.cs_tools.specs.declared.outcomes.Outcome.TheVariants.{Absent, Damaged, Done, Failed, MayBeLost, NoStore, Refused, Unopened, Unread}
+use Rattle.cs_store.specs.Reserves.{PutsAfterReads, RefusesPut}
+use Rattle.cs_advice.specs.declared.outcomes.Outcome.{Outcome}
+use Rattle.cs_advice.specs.declared.outcomes.Outcome.TheVariants.{Absent, Damaged, Done, Failed, MayBeLost, NoStore, Refused, Unopened, Unread}
 
 -- one command more was accepted, and all of them are persistent
 abbrev pub IsOneMore : {D : Type 0} → (old new : View D) → Type 0
@@ -65,9 +66,13 @@ module _ {D : Type 0} (disks : PageDisk D) where
   abbrev pub DeclinesDelete : ShardId → (old : View D) → Refusal → (new : View D) → Type 0
   DeclinesDelete id old r new = IsHalted old r new ⊎ Declines disks old (Delete id) r new
 
-  -- the store refuses a put itself, or isn't asked for it
+  -- the store accepts a put of this text, after reads at most, and the commit behind it ends so
+  abbrev pub PutsAndCommits : ShardId → (text : List ℕ) → (old new : View D) → Outcome → Type 0
+  PutsAndCommits id text old new outcome = (mid : View D) × (n : ℕ) × PutsAfterReads disks old id text n mid × Commits mid new outcome
+
+  -- the store refuses a put itself, after reads at most, or isn't asked for it
   abbrev pub DeclinesPut : ShardId → (text : List ℕ) → (old : View D) → Refusal → (new : View D) → Type 0
-  DeclinesPut id text old r new = IsTooLarge text old r new ⊎ DeclinesCopy disks old (Put id text) r new
+  DeclinesPut id text old r new = IsTooLarge text old r new ⊎ RefusesPut disks old id text r new
 
   -- What `del` does, whatever the disk does: a delete, and a commit behind it where it is a command; or the delete is refused.
   abbrev pub Deletes : ShardId → (old new : View D) → Outcome → Type 0
@@ -98,8 +103,8 @@ module _ {D : Type 0} (disks : PageDisk D) where
   -- What `put` does with this text, whatever the disk does: a put and a commit behind it; or the put is refused; or the reader failed, and nothing has
   -- changed.
   abbrev pub Puts : ShardId → (text : List ℕ) → (old new : View D) → Outcome → Type 0
-  Puts id text old new Done = DoesAndCommits (Put id text) old new Done
-  Puts id text old new (Refused r) = DeclinesPut id text old r new ⊎ DoesAndCommits (Put id text) old new (Refused r)
+  Puts id text old new Done = PutsAndCommits id text old new Done
+  Puts id text old new (Refused r) = DeclinesPut id text old r new ⊎ PutsAndCommits id text old new (Refused r)
   Puts id text old new Failed = new ≡ old
   Puts id text old new Absent = ⊥
   Puts id text old new Damaged = ⊥
@@ -113,7 +118,7 @@ module _ {D : Type 0} (disks : PageDisk D) where
   abbrev pub PutsInto : Map → ShardId → (text : List ℕ) → (old new : View D) → Outcome → Type 0
   PutsInto m id text old new Done = HasMap new (changed m (id_number id, Some text)) × IsOneMore old new
   PutsInto m id text old new (Refused r) = (HasMap new m × DeclinesPut id text old r new)
-      ⊎ (HasMap new (changed m (id_number id, Some text)) × DoesAndCommits (Put id text) old new (Refused r))
+      ⊎ (HasMap new (changed m (id_number id, Some text)) × PutsAndCommits id text old new (Refused r))
   PutsInto m id text old new Failed = new ≡ old
   PutsInto m id text old new Absent = ⊥
   PutsInto m id text old new Damaged = ⊥

@@ -8,8 +8,8 @@ use Rattle.law_machine.specs.Element.{Bytes, Damaged, Map}
 use Rattle.law_machine.specs.Refusal.{Refusal as Ground}
 use Rattle.cs_store.specs.Errors.{IsGetRefusal, IsPutRefusal}
 use Rattle.cs_store.specs.Maps.{HasMap}
-use Rattle.cs_tools.specs.declared.outcomes.Outcome.{Outcome}
-use Rattle.cs_tools.specs.declared.outcomes.Outcome.TheVariants.{Absent, Damaged as Differs, Done, Failed, MayBeLost, NoStore, Refused, Unopened, Unread}
+use Rattle.cs_advice.specs.declared.outcomes.Outcome.{Outcome}
+use Rattle.cs_advice.specs.declared.outcomes.Outcome.TheVariants.{Absent, Damaged as Differs, Done, Failed, MayBeLost, NoStore, Refused, Unopened, Unread}
 
 -- the store has some map
 abbrev pub HasAMap : {D : Type 0} → View D → Type 0

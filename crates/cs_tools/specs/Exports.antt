@@ -13,9 +13,9 @@ use Rattle.law_machine.specs.Index.{live_at}
 use Rattle.law_machine.specs.Element.{Bytes, Map}
 use Rattle.law_machine.specs.Lists.{◌∈◌}
 use Rattle.cs_inspect.specs.Listings.{Rising}
-use Rattle.cs_tools.specs.Outputs.{id_text, payload_text, refusal_text}
-use Rattle.cs_tools.specs.declared.outcomes.Outcome.{Outcome}
-use Rattle.cs_tools.specs.declared.outcomes.Outcome.TheVariants.{Absent, Damaged, Done, Failed, MayBeLost, NoStore, Refused, Unopened, Unread}
+use Rattle.cs_advice.specs.Outputs.{id_text, payload_text, refusal_text}
+use Rattle.cs_advice.specs.declared.outcomes.Outcome.{Outcome}
+use Rattle.cs_advice.specs.declared.outcomes.Outcome.TheVariants.{Absent, Damaged, Done, Failed, MayBeLost, NoStore, Refused, Unopened, Unread}
 
 -- the line of a script that puts a shard
 abbrev pub put_line : ShardId → List ℕ → List ℕ

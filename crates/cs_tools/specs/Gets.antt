@@ -4,8 +4,8 @@ use Rattle.std.specs.Io.KnownBytes.{Appends}
 use Rattle.cs_core.specs.Lookups.{AreMeantBytes, IsReading}
 use Rattle.cs_core.specs.Stored.{Stored}
 use Rattle.law_machine.specs.Element.{Bytes, Content}
-use Rattle.cs_tools.specs.declared.outcomes.Outcome.{Outcome}
-use Rattle.cs_tools.specs.declared.outcomes.Outcome.TheVariants.{Absent, Damaged, Done, Failed, MayBeLost, NoStore, Refused, Unopened, Unread}
+use Rattle.cs_advice.specs.declared.outcomes.Outcome.{Outcome}
+use Rattle.cs_advice.specs.declared.outcomes.Outcome.TheVariants.{Absent, Damaged, Done, Failed, MayBeLost, NoStore, Refused, Unopened, Unread}
 
 -- Of an identifier that has this in the map: its bytes are written out, and nothing else; or nothing is written, as there is nothing, or as it
 -- can't be read; or the writer failed.

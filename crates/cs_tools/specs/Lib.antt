@@ -5,10 +5,7 @@ pub mod ExtentMaps
 pub mod Gets
 pub mod Graphs
 pub mod Headers
-pub mod Knowns
-pub mod Outcomes
 pub mod MapPictures
-pub mod Outputs
 pub mod Overviews
 pub mod Pages
 pub mod Reclaims
@@ -18,13 +15,4 @@ pub mod Scrubs
 pub mod Stats
 pub mod Summaries
 pub mod Repairs
-pub mod Tellings
-pub mod Texts
-pub mod Advised
 pub mod Copies
-pub mod Advices
-pub mod Doctor
-pub mod DoctorCounts
-pub mod DoctorReports
-pub mod DoctorStores
-pub mod Steps

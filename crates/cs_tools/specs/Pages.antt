@@ -4,9 +4,9 @@ use Rattle.cs_store.specs.Opening.{NoneIsPassedOver}
 use Rattle.cs_twin.specs.declared.findings.Finding.{Finding}
 use Rattle.cs_twin.specs.Findings.{held_of, is_halved, passed_over}
 use Rattle.cs_twin.specs.Pairs.{half}
-use Rattle.cs_tools.specs.Stats.{member}
-use Rattle.cs_tools.specs.declared.outputs.Style.{Style}
-use Rattle.cs_tools.specs.declared.outputs.Style.TheVariants.{Json, Text}
+use Rattle.cs_advice.specs.Members.{member}
+use Rattle.cs_advice.specs.declared.outputs.Style.{Style}
+use Rattle.cs_advice.specs.declared.outputs.Style.TheVariants.{Json, Text}
 use Rattle.cs_tools.specs.declared.pages.FoundPages.{FoundPages}
 
 -- none of the pages of these pairs is passed over for its damage

@@ -3,8 +3,11 @@ use Rattle.std.specs.Prelude.{◌≡◌, ℕ, List, Option}
 use Rattle.std.specs.Io.KnownBytes.{Appends}
 use Rattle.cs_salvage.specs.Answers.{AreMeantBytes, AreReadBytes, IsAbsent, IsUnknown, IsWhyNoChunks, places_of}
 use Rattle.cs_salvage.specs.Founds.{Found}
-use Rattle.cs_tools.specs.Outcomes.{status_of}
-use Rattle.cs_tools.specs.declared.outcomes.Outcome.TheVariants.{Absent, Damaged, Done, Failed, MayBeLost, NoStore, Refused, Unopened, Unread}
+use Rattle.cs_advice.specs.Outcomes.{status_of}
+use Rattle.cs_advice.specs.Tellings.{run_lost_told, told_text}
+use Rattle.cs_advice.specs.declared.knowns.Known.{Known}
+use Rattle.cs_advice.specs.declared.outputs.Style.{Style}
+use Rattle.cs_advice.specs.declared.outcomes.Outcome.TheVariants.{Absent, Damaged, Done, Failed, MayBeLost, NoStore, Refused, Unopened, Unread}
 use Rattle.cs_tools.specs.declared.rescues.Got.{Got}
 use Rattle.cs_tools.specs.declared.rescues.Got.TheVariants.{Ended, RunLost}
 
@@ -39,3 +42,8 @@ MeansGot f id before after RunLost = after ≡ before
 abbrev pub status_of_got : Got → ℕ
 status_of_got (Ended outcome) = status_of outcome
 status_of_got RunLost = 5
+
+-- what is told of how a get ended over what is left of a store
+abbrev pub got_text : Style → Got → Known → List ℕ
+got_text style (Ended outcome) known = told_text style outcome known
+got_text style RunLost known = run_lost_told style

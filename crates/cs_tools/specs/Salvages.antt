@@ -24,17 +24,12 @@ use Rattle.cs_salvage.specs.Shards.{AreNewest}
 use Rattle.cs_salvage.specs.declared.namings.Naming.TheVariants.{AsItIs}
 use Rattle.cs_salvage.specs.declared.parts.Part.{Part}
 use Rattle.cs_salvage.specs.declared.searches.Sought.{Sought}
-use Rattle.cs_salvage.specs.declared.searches.Whose.TheVariants.{OfStore}
 use Rattle.cs_salvage.specs.declared.whole_shards.WholeShard.{WholeShard}
 use Rattle.cs_tools.specs.Exports.{IsScript, Shard, is_whole}
-use Rattle.cs_tools.specs.declared.outcomes.Outcome.{Outcome}
-use Rattle.cs_tools.specs.declared.outcomes.Outcome.TheVariants.{Absent, Damaged, Done, Failed, MayBeLost, NoStore, Refused, Unopened, Unread}
+use Rattle.cs_advice.specs.declared.outcomes.Outcome.{Outcome}
+use Rattle.cs_advice.specs.declared.outcomes.Outcome.TheVariants.{Absent, Damaged, Done, Failed, MayBeLost, NoStore, Refused, Unopened, Unread}
 use Rattle.cs_tools.specs.declared.salvages.Named.{Named}
 use Rattle.cs_tools.specs.declared.salvages.Salvaged.{Salvaged}
-
--- the chunks of the store of these dimensions are sought, and no others
-abbrev pub of_store : Dimensions → Sought
-of_store g = record { geometry = g; whose = OfStore }
 
 -- the dimensions of the store that a section of a superblock is of
 abbrev pub dimensions_in : Superblock → Dimensions

@@ -11,13 +11,13 @@ use Rattle.cs_inspect.specs.Failures.{RisesBy}
 use Rattle.cs_inspect.specs.declared.scrubs.Damage.{Damage}
 use Rattle.cs_inspect.specs.declared.scrubs.Damage.TheVariants as damage
 use Rattle.cs_inspect.specs.declared.scrubs.Scrubbed.{Scrubbed}
-use Rattle.cs_tools.specs.Outputs.{before_id, id_text, quote, refusal_text}
+use Rattle.cs_advice.specs.Outputs.{before_id, id_text, quote, refusal_text}
 use Rattle.cs_tools.specs.Pages.{AreLeftWhole, left_count, pages_text}
-use Rattle.cs_tools.specs.Stats.{member}
-use Rattle.cs_tools.specs.declared.outcomes.Outcome.{Outcome}
-use Rattle.cs_tools.specs.declared.outcomes.Outcome.TheVariants.{Absent, Damaged, Done, Failed, MayBeLost, NoStore, Refused, Unopened, Unread}
-use Rattle.cs_tools.specs.declared.outputs.Style.{Style}
-use Rattle.cs_tools.specs.declared.outputs.Style.TheVariants.{Json, Text}
+use Rattle.cs_advice.specs.Members.{member}
+use Rattle.cs_advice.specs.declared.outcomes.Outcome.{Outcome}
+use Rattle.cs_advice.specs.declared.outcomes.Outcome.TheVariants.{Absent, Damaged, Done, Failed, MayBeLost, NoStore, Refused, Unopened, Unread}
+use Rattle.cs_advice.specs.declared.outputs.Style.{Style}
+use Rattle.cs_advice.specs.declared.outputs.Style.TheVariants.{Json, Text}
 use Rattle.cs_tools.specs.declared.pages.FoundPages.{FoundPages}
 
 -- ---- what is printed

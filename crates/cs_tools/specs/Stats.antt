@@ -1,20 +1,12 @@
 -- What the command `stat` prints.
-use Rattle.std.specs.Prelude.{ℕ, List, ◌∷◌, ◌++◌, [], Option, Some, None, codes, decimal}
-use Rattle.std.specs.Io.KnownBytes.{Appends}
+use Rattle.std.specs.Prelude.{ℕ, List, ◌∷◌, ◌++◌, [], Option, Some, None, codes}
 use Rattle.cs_frame.specs.FormatNumbers.{counted_as, number_in}
 use Rattle.cs_frame.specs.Roots.{identity_in}
 use Rattle.law_machine.specs.Format.{Format}
-use Rattle.cs_tools.specs.Outputs.{identity_text, quote}
-use Rattle.cs_tools.specs.declared.outputs.Style.{Style}
-use Rattle.cs_tools.specs.declared.outputs.Style.TheVariants.{Json, Text}
-
--- a number, and what stands before it
-abbrev pub number_text : (before : List ℕ) → ℕ → List ℕ
-number_text before n = before ++ decimal n
-
--- the name of a member of a JSON object
-abbrev pub member : (name : List ℕ) → List ℕ
-member name = quote ∷ name ++ quote ∷ 58 ∷ []
+use Rattle.cs_advice.specs.Members.{member, number_text}
+use Rattle.cs_advice.specs.Outputs.{identity_text, quote}
+use Rattle.cs_advice.specs.declared.outputs.Style.{Style}
+use Rattle.cs_advice.specs.declared.outputs.Style.TheVariants.{Json, Text}
 
 -- How many extents a store has, of how many pages each, how many sections its superblock has, and the number of its
 -- format.
@@ -40,11 +32,3 @@ identity_line (Some identity) style = store_text style identity
 abbrev pub geometry_text : Style → (extents pages sections : ℕ) → Format → List ℕ
 geometry_text style extents pages sections format =
     dimensions_text style extents pages sections (counted_as (number_in format)) ++ identity_line (identity_in format) style
-
--- known bytes grow by some
-abbrev pub GoesOn : (before after : Option (List ℕ)) → Type 0
-GoesOn before after = (more : List ℕ) × Appends before after more
-
--- known bytes grow by these, and by some behind them
-abbrev pub BeginsWith : (before after : Option (List ℕ)) → List ℕ → Type 0
-BeginsWith before after text = (more : List ℕ) × Appends before after (text ++ more)

@@ -60,9 +60,10 @@ pub fn has_room_for(extents: &Extents, bytes: usize) -> bool
     }
 }
 
-/// How many extents are emptied at most. The rule ends before that, by the law `sweeps_by_the_rule_end` of law_room: if
-/// nothing is put or deleted meanwhile, an extent is emptied at most once for its dead pages, and two are for each
-/// extent that is gained. So a reclaim that came so far would end as if none were chosen.
+/// How many extents are emptied or passed over at most. If none is passed over, the rule ends before that, by the law
+/// `sweeps_by_the_rule_end` of law_room: if nothing is put or deleted meanwhile, an extent is emptied at most once for
+/// its dead pages, and two are for each extent that is gained. So a reclaim that came so far would end as if none were
+/// chosen.
 pub fn most_emptied(extents: &Extents, aim: Aim) -> usize
     ensures { result ≡ most_emptied aim (shape extents.now).extents }
 {

@@ -1,16 +1,15 @@
 //! The command `bench`.
 ghost use Rattle.std.specs.Prelude.{◌≡◌, ◌⊎◌};
 ghost use Rattle.cs_refusal.specs.declared.refusals.Refusal.{Refusal as Why};
-ghost use Rattle.cs_tools.specs.declared.outcomes.Outcome.TheVariants.{Done, Failed, Refused};
+ghost use Rattle.cs_advice.specs.declared.outcomes.Outcome.TheVariants.{Done, Failed, Refused};
 
-use crate::outcomes::Outcome;
-use crate::outputs::Style;
 use crate::timings::{Timings, nanos_since};
-use cs_core::{Bytes, Core, Event, Reply};
+use cs_advice::{Outcome, Style};
 use cs_disk::PageDisk;
 use cs_frame::ShardId;
 use cs_inspect::Progress;
 use cs_refusal::Refusal;
+use cs_store::mount::the_core::{Bytes, Core, Event, Reply};
 use cs_writeback::{ask, make_room, sync};
 use std::alloc::Global;
 use std::io;

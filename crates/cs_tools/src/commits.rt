@@ -3,9 +3,9 @@ ghost use Rattle.std.specs.Prelude.{◌≡◌, ◌↔◌};
 ghost use Rattle.law_machine.specs.Element.{Map};
 ghost use Rattle.cs_store.specs.Maps.{HasMap};
 ghost use Rattle.cs_tools.specs.Changes.{Commits, LeavesPrefixAt, LeavesPrefixBetween};
-ghost use Rattle.cs_tools.specs.declared.outcomes.Outcome.TheVariants.{Done};
+ghost use Rattle.cs_advice.specs.declared.outcomes.Outcome.TheVariants.{Done};
 
-use crate::outcomes::Outcome;
+use cs_advice::Outcome;
 use cs_disk::PageDisk;
 use cs_store::Store;
 

@@ -8,22 +8,23 @@ ghost use Rattle.cs_store.specs.Maps.{HasMap};
 ghost use Rattle.cs_inspect.specs.Listings.{AreAll};
 ghost use Rattle.cs_tools.specs.Copies.{Agree, EndsWhole, HasAMap, HasBytes, HasNothing, MayStopCopy, NoneDamaged, over, over_all};
 ghost use Rattle.cs_tools.specs.Reclaims.{IsPersistent};
-ghost use Rattle.cs_tools.specs.declared.outcomes.Outcome.TheVariants.{Done};
+ghost use Rattle.cs_advice.specs.declared.outcomes.Outcome.TheVariants.{Done};
 
 use crate::exports::LINES;
-use crate::outcomes::Outcome;
+use cs_advice::Outcome;
 use cs_disk::PageDisk;
 use cs_frame::ShardId;
 use cs_inspect::Progress;
 use cs_refusal::Refusal;
-use cs_store::Store;
+use cs_store::{Reserve, Store};
 
 /// Puts all shards of a store into another one, which is to have none, with a sync after every 1,000 puts and at the
 /// end; then reads all of them back from both and compares them. It is done only if both stores have the same shards
 /// with the same bytes, and all of the copy is persistent.
 ///
-/// Refused as `Store::put` and `Store::sync` of the other store are, 30 Full among them, and 9 OutOfMemory; the other
-/// store has some of the shards then. It ends as unread if a shard of either store can't be read, and as damaged if the
+/// A copy takes all that the store has, so it holds nothing back in the other one (`Reserve::None`). Refused as a put
+/// without a reserve and `Store::sync` of the other store are, 30 Full among them, and 9 OutOfMemory; the other store
+/// has some of the shards then. It ends as unread if a shard of either store can't be read, and as damaged if the
 /// other store has other shards than this one, or other bytes.
 pub fn copy<D: PageDisk, E: PageDisk, P: Progress>(
     from: &mut Store<D>,
@@ -115,7 +116,7 @@ fn put_one<D: PageDisk, E: PageDisk>(
         Ok(bytes) => bytes,
         Err(outcome) => return Err(outcome),
     };
-    match to.put(id, &bytes) {
+    match to.put_within(Reserve::None, id, &bytes) {
         Ok(_) => Ok(()),
         Err(error) => Err(Outcome::Refused(error.refusal())),
     }

@@ -5,7 +5,7 @@ ghost use Rattle.cs_store.specs.Maps.{HasMap};
 ghost use Rattle.cs_tools.specs.Changes.{Deletes, DeletesFrom, LeavesPrefixAt, LeavesPrefixBetween};
 
 use crate::commits::commit;
-use crate::outcomes::Outcome;
+use cs_advice::Outcome;
 use cs_disk::PageDisk;
 use cs_frame::ShardId;
 use cs_store::Store;

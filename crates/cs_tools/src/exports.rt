@@ -11,15 +11,14 @@ ghost use Rattle.law_machine.specs.Index.{live_at};
 ghost use Rattle.law_machine.specs.State.{State, map_now};
 ghost use Rattle.cs_store.specs.Maps.{HasMap};
 ghost use Rattle.cs_tools.specs.Exports.{AreReadOf, Exports, IsMeantOf, IsReadOf, IsScript, MeansExport, Shard, is_whole, piece_lines, put_line, remark_line, shard_line};
-ghost use Rattle.cs_tools.specs.declared.outcomes.Outcome.TheVariants.{Damaged, Done, Failed, Refused};
+ghost use Rattle.cs_advice.specs.declared.outcomes.Outcome.TheVariants.{Damaged, Done, Failed, Refused};
 
-use crate::outcomes::Outcome;
-use crate::outputs::{print_id, print_payload, print_refusal};
-use cs_core::Core;
+use cs_advice::{Outcome, print_id, print_payload, print_refusal};
 use cs_disk::PageDisk;
 use cs_frame::ShardId;
 use cs_inspect::{Progress, ids_from};
 use cs_refusal::Refusal;
+use cs_store::mount::the_core::Core;
 use std::alloc::Global;
 use std::io;
 use std::io::Write;

@@ -9,9 +9,9 @@ ghost use Rattle.law_machine.specs.Element.{Map};
 ghost use Rattle.law_machine.specs.Index.{live_at};
 ghost use Rattle.cs_store.specs.Maps.{HasMap};
 ghost use Rattle.cs_tools.specs.Gets.{Gets, MeansGet};
-ghost use Rattle.cs_tools.specs.declared.outcomes.Outcome.TheVariants.{Absent, Done, Failed, Unread};
+ghost use Rattle.cs_advice.specs.declared.outcomes.Outcome.TheVariants.{Absent, Done, Failed, Unread};
 
-use crate::outcomes::Outcome;
+use cs_advice::Outcome;
 use cs_disk::PageDisk;
 use cs_frame::ShardId;
 use cs_store::Store;

@@ -10,9 +10,9 @@ ghost use Rattle.cs_deps.specs.View.{pending_of, rounds_of};
 ghost use Rattle.cs_refusal.specs.declared.refusals.Refusal.{Refusal as Why};
 ghost use Rattle.cs_picture.specs.Picture.{picture};
 ghost use Rattle.cs_tools.specs.Graphs.{IsDocumentText, IsPictureOf};
-ghost use Rattle.cs_tools.specs.declared.outcomes.Outcome.TheVariants.{Done, Failed, Refused};
+ghost use Rattle.cs_advice.specs.declared.outcomes.Outcome.TheVariants.{Done, Failed, Refused};
 
-use crate::outcomes::Outcome;
+use cs_advice::Outcome;
 use cs_check::{CheckFault, Document, from_document};
 use cs_picture::draw;
 use cs_refusal::Refusal;

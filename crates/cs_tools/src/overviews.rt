@@ -10,21 +10,21 @@ ghost use Rattle.cs_tools.specs.Overviews.{AreFigures, IsChunkRoom, IsSeen, iden
 ghost use Rattle.cs_tools.specs.ExtentMaps.{map_text};
 ghost use Rattle.cs_tools.specs.MapPictures.{picture_text};
 ghost use Rattle.cs_tools.specs.Summaries.{summary_text};
-ghost use Rattle.cs_tools.specs.declared.outcomes.Outcome.TheVariants.{Damaged, Done, Failed, Refused};
+ghost use Rattle.cs_advice.specs.declared.outcomes.Outcome.TheVariants.{Damaged, Done, Failed, Refused};
 ghost use Rattle.cs_tools.specs.declared.summaries.Figures.{Figures as Told};
 
 use crate::chunk_rooms::ChunkRoom;
 use crate::extent_maps::print_map;
 use crate::headers::count_unreadable;
 use crate::map_pictures::draw_map;
-use crate::outcomes::Outcome;
 use crate::stats::outcome_of;
 use crate::summaries::{Figures, print_summary};
-use cs_core::Core;
+use cs_advice::Outcome;
 use cs_disk::PageDisk;
 use cs_index::Index;
 use cs_inspect::{ExtentUse, Quota, survey_extents};
 use cs_refusal::Refusal;
+use cs_store::mount::the_core::Core;
 use std::alloc::Global;
 use std::io;
 use std::io::Write;

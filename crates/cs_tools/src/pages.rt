@@ -5,8 +5,8 @@ ghost use Rattle.cs_twin.specs.Findings.{held_of, is_halved, passed_over};
 ghost use Rattle.cs_twin.specs.Pairs.{half};
 ghost use Rattle.cs_tools.specs.Pages.{AreLeftWhole, AreWhole, half_line, left_count, left_damaged, left_made, pages_text, pair_line, section_line};
 
-use crate::outputs::Style;
-use cs_mount::Finding;
+use cs_advice::Style;
+use cs_store::mount::Finding;
 use std::io;
 use std::io::Write;
 

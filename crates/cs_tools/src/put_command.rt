@@ -4,10 +4,10 @@ ghost use Rattle.cs_extent.specs.State.{shape};
 ghost use Rattle.law_machine.specs.Element.{Map};
 ghost use Rattle.cs_store.specs.Maps.{HasMap};
 ghost use Rattle.cs_tools.specs.Changes.{LeavesPrefixAt, LeavesPrefixBetween, Puts, PutsInto, most_bytes};
-ghost use Rattle.cs_tools.specs.declared.outcomes.Outcome.TheVariants.{Failed, Refused};
+ghost use Rattle.cs_advice.specs.declared.outcomes.Outcome.TheVariants.{Failed, Refused};
 
 use crate::commits::commit;
-use crate::outcomes::Outcome;
+use cs_advice::Outcome;
 use cs_disk::PageDisk;
 use cs_frame::ShardId;
 use cs_refusal::Refusal;
@@ -30,8 +30,8 @@ pub fn most_bytes<D: PageDisk>(store: &Store<D>) -> usize
 /// Puts all bytes of the reader under an identifier, in place of what was there, and makes that persistent. If there
 /// are more bytes than a shard may have, it reads one more than these, and is refused 31 TooLarge.
 ///
-/// It is refused as `Store::put` is, or as the `Store::sync` after it: 1 DeviceFault, 9 OutOfMemory, 30 Full,
-/// 31 TooLarge, 32 IndexFull, 35 WornOut, 40 Halted or 41 HistoryFull.
+/// It goes by the reserve of the store. It is refused as `Store::put` is, or as the `Store::sync` after it: 1
+/// DeviceFault, 9 OutOfMemory, 30 Full, 31 TooLarge, 32 IndexFull, 35 WornOut, 36 Reserved, 40 Halted or 41 HistoryFull.
 pub fn put<D: PageDisk, R: Read + Drop>(
     alloc: Global,
     store: &mut Store<D>,

@@ -12,30 +12,30 @@ ghost use Rattle.cs_tools.specs.Reclaims.{IsPersistent, MayStop, Tidies};
 
 use crate::aims::{Aim, has_room};
 use crate::headers::count_unreadable;
-use crate::outputs::Style;
-use crate::reclaim_command::{Stop, empty_one, sync_all};
-use cs_core::{Bytes, Core, Event};
+use crate::reclaim_command::{Emptied, Left, Stop, print_emptied, printed, sync_all};
+use cs_advice::Style;
 use cs_disk::PageDisk;
 use cs_frame::ShardId;
 use cs_index::Index;
 use cs_inspect::{ExtentUse, ids_from, most_garbage, uses};
 use cs_refusal::Refusal;
-use cs_writeback::ask;
+use cs_store::mount::the_core::{Bytes, Core, Event};
+use cs_writeback::{ask, make_room, sweep};
 use std::alloc::Global;
 use std::io::Write;
 
 /// Empties the extents of which half or more is garbage, and prints of each what it freed. If there was one, a shard is
 /// put again. For a put it ends as soon as that has room, also after the shard was put again. It returns how many
-/// headers couldn't be read before.
+/// headers couldn't be read before. No extent is passed over.
 pub fn empty_by_garbage<D: PageDisk, W: Write>(
     alloc: Global,
     core: &mut Core<D>,
     aim: Aim,
     style: Style,
     writer: &mut W,
-) -> Result<usize, Stop>
+) -> Result<Left, Stop>
     ensures kept { D.honest core.old.disk → OnOk result (IsPersistent core.new ⊎ ReadsOn D.PageDisk core.old core.new) }
-    ensures counted { IfOk result (λ unreadable. WasCounted D.PageDisk unreadable core.old) }
+    ensures counted { IfOk result (λ left. (left.passed_over ≡ 0) × WasCounted D.PageDisk left.unreadable core.old) }
     ensures refusals { IfErr result MayStop }
     ensures tidies { Tidies D.PageDisk core.old core.new }
 {
@@ -48,7 +48,10 @@ pub fn empty_by_garbage<D: PageDisk, W: Write>(
     let unreadable = count_unreadable(&uses);
     give_up(&mut uses, pages);
     empty_and_settle(alloc, core, aim, &mut uses, style, writer)?;
-    Ok(unreadable)
+    Ok(Left {
+        unreadable,
+        passed_over: 0,
+    })
 }
 
 /// Empties the extents of which half or more is garbage, or as many of them as the put needs, and then puts a shard
@@ -108,6 +111,42 @@ fn empty_all<D: PageDisk, W: Write>(
         since = left.saturating_add(1);
     }
     Ok(since)
+}
+
+/// Sweeps an extent, makes that persistent, and prints what it freed.
+fn empty_one<D: PageDisk, W: Write>(
+    core: &mut Core<D>,
+    extent: usize,
+    dead: usize,
+    style: Style,
+    writer: &mut W,
+) -> Result<(), Stop>
+    ensures rests { D.honest core.old.disk → OnOk result (IsPersistent core.new) }
+    ensures refusals { IfErr result MayStop }
+    ensures tidies { Tidies D.PageDisk core.old core.new }
+{
+    let moved = sweep_and_sync(core, extent)?;
+    let emptied = Emptied {
+        extent,
+        dead,
+        moved,
+    };
+    printed(print_emptied(writer, emptied, style))
+}
+
+/// Sweeps an extent, makes that persistent, and returns how many chunks were moved. A long history is dropped first.
+fn sweep_and_sync<D: PageDisk>(core: &mut Core<D>, extent: usize) -> Result<usize, Stop>
+    ensures rests { D.honest core.old.disk → OnOk result (IsPersistent core.new) }
+    ensures refusals { IfErr result MayStop }
+    ensures tidies { Tidies D.PageDisk core.old core.new }
+{
+    make_room(core);
+    let swept = match sweep(core, extent) {
+        Ok(swept) => swept,
+        Err(refusal) => return Err(Stop::Refused(refusal)),
+    };
+    sync_all(core)?;
+    Ok(swept.moved)
 }
 
 /// If the put that is aimed at has room, a shard is put again if extents were emptied, so that it has room when the

@@ -1,43 +1,18 @@
 //! What is done before damaged pages are written anew.
 ghost use Rattle.std.specs.Prelude.{◌≡◌, ◌⊎◌, ◌++◌, OnOk, false, flat_map};
 ghost use Rattle.std.specs.Io.KnownBytes.{Appends};
-ghost use Rattle.std.specs.List.{list_any};
 ghost use Rattle.cs_tools.specs.Pages.{pair_line};
-ghost use Rattle.cs_tools.specs.Repairs.{lost_line, may_hide_root};
-ghost use Rattle.cs_tools.specs.declared.outcomes.Outcome.TheVariants.{Failed, MayBeLost};
-ghost use Rattle.cs_tools.specs.declared.outputs.Style.TheVariants.{Json, Text};
+ghost use Rattle.cs_tools.specs.Repairs.{lost_line};
+ghost use Rattle.cs_advice.specs.declared.outcomes.Outcome.TheVariants.{Failed, MayBeLost};
+ghost use Rattle.cs_advice.specs.declared.outputs.Style.TheVariants.{Json, Text};
 
-use crate::outcomes::Outcome;
-use crate::outputs::Style;
 use crate::pages::print_pages;
-use crate::stats::print_number;
-use cs_core::Core;
+use cs_advice::{Outcome, Style, print_number};
 use cs_disk::PageDisk;
-use cs_mount::Finding;
+use cs_store::mount::Finding;
+use cs_store::mount::the_core::Core;
 use std::io;
 use std::io::Write;
-
-/// The page under whose number both pages of the root show.
-const ROOT: u64 = 1;
-
-/// Whether a page of this pair may have held a newer root than the one by which the store opens.
-fn may_hide_root(finding: Finding) -> bool
-    ensures { result ≡ may_hide_root finding }
-{
-    finding.pair.page == ROOT && finding.passed_over().is_some()
-}
-
-/// Whether a repair may make a loss of commands final: one of the two pages of the root isn't whole, and it may have
-/// held the newer root. The repair would write the older root over it.
-///
-/// A section of the superblock needs no such care while both pages of the root are whole. A section is written before
-/// the root that counts on it, and the newest root that was ever persistent is then one of the two. If it needed the
-/// damaged section, the store wouldn't open.
-pub fn may_be_lost(findings: &[Finding]) -> bool
-    ensures { result ≡ list_any may_hide_root findings.now }
-{
-    findings.iter().any(|finding| may_hide_root(*finding))
-}
 
 /// Ends a repair that may make a loss final, before it writes anything: prints after which command the others may be
 /// lost, and then the pages that aren't whole.

@@ -13,22 +13,21 @@ ghost use Rattle.cs_salvage.specs.Namings.{AreCounted, IsNaming};
 ghost use Rattle.cs_salvage.specs.Passed.{ArePassed, RisesBy};
 ghost use Rattle.cs_salvage.specs.Shards.{AreNewest};
 ghost use Rattle.cs_tools.specs.Exports.{Shard, is_whole, piece_lines, shard_line};
-ghost use Rattle.cs_tools.specs.Repairs.{may_hide_root};
+ghost use Rattle.cs_advice.specs.Losses.{may_hide_root};
 ghost use Rattle.cs_tools.specs.Salvages.{AreAllFound, AreToldOf, HasNoGeometry, IsInDoubt, IsJustThese, IsMeantBy, IsMeantSalvage, IsOfOtherLength, IsSalvaged, IsSure, IsToldOf, IsWholeScan, IsWrittenOut, MeansSalvage, Salvages, SaysFirst, Stands, dimensions_in};
-ghost use Rattle.cs_tools.specs.declared.outcomes.Outcome.TheVariants.{Damaged, Done, Failed};
+ghost use Rattle.cs_advice.specs.declared.outcomes.Outcome.TheVariants.{Damaged, Done, Failed};
 
 use crate::exports::{LINES, print_put, print_remark};
-use crate::outcomes::Outcome;
-use crate::repairs::may_be_lost;
+use cs_advice::{Outcome, may_be_lost};
 use cs_disk::{DiskFault, PageDisk, refusal_of_disk};
 use cs_frame::{FormatFault, FormatNumber, Geometry, ShardId, Superblock, decode_section};
 use cs_inspect::{Progress, ids_from};
-use cs_mount::{Finding, find_geometry, two_stores};
 use cs_refusal::Refusal;
 use cs_salvage::{
     Finds, Missing, Naming, Rescue, Sought, Watcher, WholeShard, count_of, find_parts, lacking,
     missing_puts, newest_whole, read_whole,
 };
+use cs_store::mount::{Finding, find_geometry, two_stores};
 use std::alloc::{AllocError, Global};
 use std::io;
 use std::io::Write;

@@ -2,11 +2,12 @@
 ghost use Rattle.std.specs.Prelude.{◌<◌, OnOk};
 ghost use Rattle.std.specs.Io.KnownBytes.{Appends};
 ghost use Rattle.cs_frame.specs.FormatNumbers.{counted_as, number_in};
-ghost use Rattle.cs_tools.specs.Stats.{BeginsWith, GoesOn, dimensions_text, geometry_text, store_text};
-ghost use Rattle.cs_tools.specs.declared.outputs.Style.TheVariants.{Json};
+ghost use Rattle.cs_advice.specs.Members.{BeginsWith, GoesOn};
+ghost use Rattle.cs_tools.specs.Stats.{dimensions_text, geometry_text, store_text};
+ghost use Rattle.cs_advice.specs.declared.outputs.Style.TheVariants.{Json};
 
-use crate::outputs::print_identity;
-use crate::stats::{Kept, Room, bytes_of, is_low, print_number, room_of, word_where};
+use crate::stats::{Kept, Room, bytes_of, is_low, room_of, word_where};
+use cs_advice::{print_identity, print_number};
 use cs_frame::{Geometry, StoreId};
 use cs_inspect::{ExtentUse, Quota, RunUse, Stats};
 use std::io;

@@ -6,19 +6,19 @@ ghost use Rattle.cs_extent.specs.State.{shape};
 ghost use Rattle.law_machine.specs.Device.{Shape};
 ghost use Rattle.cs_frame.specs.FormatNumbers.{counted_as, number_in};
 ghost use Rattle.cs_tools.specs.Headers.{AreReadable, HasUnreadable, NoneIsUnreadable, SomeIsUnreadable};
-ghost use Rattle.cs_tools.specs.Stats.{BeginsWith, GoesOn, dimensions_text, geometry_text, number_text, store_text};
-ghost use Rattle.cs_tools.specs.declared.outcomes.Outcome.TheVariants.{Damaged, Done, Failed, Refused};
-ghost use Rattle.cs_tools.specs.declared.outputs.Style.TheVariants.{Json, Text};
+ghost use Rattle.cs_advice.specs.Members.{BeginsWith, GoesOn, number_text};
+ghost use Rattle.cs_tools.specs.Stats.{dimensions_text, geometry_text, store_text};
+ghost use Rattle.cs_advice.specs.declared.outcomes.Outcome.TheVariants.{Damaged, Done, Failed, Refused};
+ghost use Rattle.cs_advice.specs.declared.outputs.Style.TheVariants.{Json, Text};
 
 use crate::headers::count_unreadable;
-use crate::outcomes::Outcome;
-use crate::outputs::{Style, print_identity};
 use crate::stat_objects::print_object;
-use cs_core::Core;
+use cs_advice::{Outcome, Style, print_identity, print_number};
 use cs_disk::PageDisk;
 use cs_frame::{Geometry, StoreId};
 use cs_inspect::{ExtentUse, Quota, RunUse, Stats};
 use cs_refusal::Refusal;
+use cs_store::mount::the_core::Core;
 use std::alloc::Global;
 use std::io;
 use std::io::Write;
@@ -203,13 +203,6 @@ fn print_dimensions<W: Write>(writer: &mut W, geometry: Geometry) -> io::Result<
     print_number(writer, " sections ", sections)?;
     print_number(writer, " format ", format)?;
     writeln!(writer)
-}
-
-/// A number after this text.
-pub fn print_number<W: Write>(writer: &mut W, before: &str, number: u64) -> io::Result<()>
-    ensures { OnOk result (Appends (W.contents writer.old) (W.contents writer.new) (number_text before.now number)) }
-{
-    write!(writer, "{before}{number}")
 }
 
 /// The line of the bytes: used, those of them that are live or dead, free, and in all.

@@ -1,7 +1,7 @@
 //! How long calls took, one by one.
 ghost use Rattle.std.specs.Prelude.{◌≤◌};
 
-use crate::outputs::Style;
+use cs_advice::Style;
 use std::alloc::{AllocError, Global};
 use std::io;
 use std::io::Write;

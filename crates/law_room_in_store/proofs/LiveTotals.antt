@@ -26,7 +26,7 @@ use Rattle.cs_inspect.specs.declared.surveys.ExtentUse.{ExtentUse}
 use Rattle.cs_inspect.specs.Uses.{AreCounted, AreExtents, heads_of, live_on}
 use Rattle.law_room_in_store.proofs.CountedPages.{live_least}
 use Rattle.law_room_in_store.specs.Cores.{IsRoomIn}
-use Rattle.law_room_in_store.specs.Reclaims.{total_live}
+use Rattle.cs_store.specs.Reserves.{total_live}
 use Rattle.law_room_in_store.specs.Roomy.{IsRoomyCore}
 use Rattle.law_room_in_store.specs.Sweeps.{LiveAtMost}
 

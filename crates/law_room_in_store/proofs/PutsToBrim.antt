@@ -1,5 +1,5 @@
 -- Puts of cores and of the typed store find room up to the brim.
-use Rattle.std.proofs.Common.{◌≡◌, inl, inr, ℕ, zero, suc, ◌+◌, ◌-◌, ◌*◌, ◌<◌, ◌≤◌, true, List, [], ◌∷◌, None, refl, ap, ◌∙◌, subst, arith}
+use Rattle.std.proofs.Common.{◌≡◌, inl, inr, ℕ, zero, suc, ◌+◌, ◌-◌, ◌*◌, ◌<◌, ◌≤◌, true, List, [], ◌∷◌, None, refl, ap, ◌∙◌, subst, sym, arith}
 use Rattle.std.specs.Prelude.{sum}
 use Rattle.cs_refusal.specs.declared.refusals.Refusal.TheVariants as refusal
 use Rattle.cs_disk.specs.declared.disk.PageDisk.{Ghosts as PageDisk}
@@ -30,16 +30,17 @@ use Rattle.cs_core.specs.declared.events.Reply.TheVariants.{Refused}
 use Rattle.cs_core.specs.Views.{Applies, IsCore, View}
 use Rattle.cs_writeback.specs.Histories.{IsRefused, IsStopped, Went}
 use Rattle.cs_store.specs.Events.{DeclinesCopy}
+use Rattle.cs_store.specs.Reserves.{RefusesPut}
 use Rattle.law_room_in_store.proofs.CorePuts.{not_refused}
 use Rattle.law_room_in_store.proofs.CoreRoom.{state_roomy, young_state}
 use Rattle.law_room_in_store.proofs.CoreSteps.{IsAt}
 use Rattle.law_room_in_store.proofs.CoreSweeps.{room_in}
 use Rattle.law_room_in_store.proofs.HavingRoom.{fills_apart, format_is}
-use Rattle.law_room_in_store.proofs.KeepingRoom.{IsRoomyState, young_before}
+use Rattle.law_room_in_store.proofs.KeepingRoom.{IsRoomyState, read_untouched, young_before}
 use Rattle.law_room_in_store.proofs.Reaching.{reaches_ready, reaches_stopped}
 use Rattle.law_room_in_store.proofs.ReclaimsGain.{none_below, still_at}
 use Rattle.law_room_in_store.proofs.StorePuts.{of_sync}
-use Rattle.law_room_in_store.proofs.StoresFull.{ready_state, store_put}
+use Rattle.law_room_in_store.proofs.StoresFull.{past_reads, read_state, ready_state, store_put}
 use Rattle.law_room_in_store.specs.Cores.{HasRoom, NoneWornIn}
 use Rattle.law_room_in_store.specs.Images.{HasGeometry}
 use Rattle.law_room_in_store.specs.Reclaims.{FitsBeside, IsIdle, TakenAtMost}
@@ -101,7 +102,7 @@ module _ {D : Type 0} (disks : PageDisk D) (v : View D) (geometry : HasGeometry 
       (none_below s.world.extents.swept S.extents (λ e lt. ap (λ (x : Extents). x.swept e) at.is_in.store.parts.world.extents ∙ idle.none_swept e lt))
       room.sweep
 
-  fits_now : (s : model.State) (r : Room) (taken : ℕ) (id : ShardId) (bytes : List ℕ) → IsAt disks S v s → IsRoomOf S F s r
+  pub fits_now : (s : model.State) (r : Room) (taken : ℕ) (id : ShardId) (bytes : List ℕ) → IsAt disks S v s → IsRoomOf S F s r
       → TakenAtMost disks.state v taken → FitsBeside v taken id bytes → Fits r id bytes
   fits_now s r taken id bytes at room most fits = λ command chunks payloads. fits_less S S.run_extents (all_pages r.chunks + all_dead r S.extents) taken
       (page_counts (chunk_frames S F chunks)) (most r (room_in disks S v s r at room)) (fits command chunks payloads)
@@ -152,11 +153,30 @@ module _ {D : Type 0} (disks : PageDisk D) (v : View D) (geometry : HasGeometry 
           go added went (inr (none_told, inl why)) = let no : refusal.Full ≡ refusal.OutOfMemory = why in cc
           go added went (inr (none_told, inr why)) = let no : refusal.Full ≡ refusal.HistoryFull = why.0 in cc
 
-  pub store_put_beside : (y : View D) (id : ShardId) (bytes : List ℕ) (taken : ℕ) (roomy : IsRoomyState disks v) → NoneWornIn v → NoneWornIn y → IsIdle v
-      → TakenAtMost disks.state v taken → FitsBeside v taken id bytes → DeclinesCopy disks v (Put id bytes) refusal.Full y → ⊥
-  store_put_beside y id bytes taken roomy young then_young idle most fits declines =
-      let s : model.State = roomy.legal.0 in
-      let at : IsAt disks S v s = record { same = refl; honest = roomy.honest; is_in = roomy.legal.1 } in
-      let r = state_roomy disks v roomy.geometry roomy.apart roomy.room young roomy.legal.0 roomy.legal.1 in
-      store_put_at y id bytes roomy then_young s at r.0 r.1.room (rests_now s r.0 at r.1.room.room idle) (fits_now s r.0 taken id bytes at r.1.room.room most fits)
+-- of a store with the shape of another one
+module _ {D : Type 0} (disks : PageDisk D) (v : View D) where
+  pub store_put_read : (read y : View D) (id : ShardId) (bytes : List ℕ) → IsRoomyState disks read → NoneWornIn y → (s : model.State) → IsAt disks (shape v.store.extents) read s
+      → (r : Room) → HasRoomNow (shape v.store.extents) (formats_of (shape v.store.extents)) s r → r.sweep ≡ None
+      → ((command : ℕ) (chunks : List (List ℕ)) → ArePayloads (shape v.store.extents) (formats_of (shape v.store.extents)) (id_number id) command bytes chunks
+      → FitBeside (shape v.store.extents) (shape v.store.extents).run_extents (all_pages r.chunks + all_dead r (shape v.store.extents).extents)
+      (page_counts (chunk_frames (shape v.store.extents) (formats_of (shape v.store.extents)) chunks)))
+      → DeclinesCopy disks read (Put id bytes) refusal.Full y → ⊥
+  store_put_read read y id bytes there young s at r has none fits declines =
+      store_put_at disks read there.geometry there.apart y id bytes there young s (record { same = refl; honest = at.honest; is_in = at.is_in }) r
+      (subst (λ (T : Shape). HasRoomNow T (formats_of T) s r) (sym at.same) has) none
+      (subst (λ (T : Shape). (command : ℕ) (chunks : List (List ℕ)) → ArePayloads T (formats_of T) (id_number id) command bytes chunks
+      → FitBeside T T.run_extents (all_pages r.chunks + all_dead r T.extents) (page_counts (chunk_frames T (formats_of T) chunks))) (sym at.same) fits)
       declines
+
+  -- beside what lives and what is dead, after reads
+  pub store_put_beside : (y : View D) (id : ShardId) (bytes : List ℕ) (taken : ℕ) → IsRoomyState disks v → NoneWornIn v → NoneWornIn y → IsIdle v
+      → TakenAtMost disks.state v taken → FitsBeside v taken id bytes → RefusesPut disks v id bytes refusal.Full y → ⊥
+  store_put_beside y id bytes taken roomy young then_young idle most fits refuses =
+      let p = past_reads disks v y id bytes refuses in
+      let s : model.State = roomy.legal.0 in
+      let at : IsAt disks (shape v.store.extents) v s = record { same = refl; honest = roomy.honest; is_in = roomy.legal.1 } in
+      let r = state_roomy disks v roomy.geometry roomy.apart roomy.room young roomy.legal.0 roomy.legal.1 in
+      let then_at = still_at disks (shape v.store.extents) v p.0 s at (read_untouched disks v p.0 p.1.0 p.1.1, p.1.1.honesty) in
+      store_put_read p.0 y id bytes (read_state disks v p.0 roomy p.1) then_young s then_at r.0 r.1.room
+      (rests_now disks v roomy.geometry roomy.apart s r.0 at r.1.room.room idle)
+      (fits_now disks v roomy.geometry roomy.apart s r.0 taken id bytes at r.1.room.room most fits) p.2

@@ -21,6 +21,7 @@ use Rattle.cs_core.specs.Stored.{Stored}
 use Rattle.cs_core.specs.Views.{View}
 use Rattle.cs_writeback.specs.Histories.{IsRefused, IsStopped, Went}
 use Rattle.cs_store.specs.Events.{DeclinesCopy}
+use Rattle.cs_store.specs.Reserves.{RefusesPut}
 use Rattle.law_room_in_store.proofs.CorePuts.{not_full}
 use Rattle.law_room_in_store.proofs.CoreRoom.{state_roomy, young_state}
 use Rattle.law_room_in_store.proofs.CoreSteps.{IsAt}
@@ -28,7 +29,7 @@ use Rattle.law_room_in_store.proofs.CoreSweeps.{chunks_counted}
 use Rattle.law_room_in_store.proofs.HavingRoom.{format_is}
 use Rattle.law_room_in_store.proofs.KeepingRoom.{IsRoomyState, reached_state, young_before}
 use Rattle.law_room_in_store.proofs.Reaching.{Anything, IsOfSync, Reaches, reaches_goes, reaches_ready, reaches_some, reaches_stays, reaches_stopped, reaches_then}
-use Rattle.law_room_in_store.proofs.StoresFull.{ready_state, store_put}
+use Rattle.law_room_in_store.proofs.StoresFull.{past_reads, read_state, ready_state, store_put}
 use Rattle.law_room_in_store.specs.Cores.{NoneWornIn}
 use Rattle.law_room_in_store.specs.Puts.{FillsExtents}
 use Rattle.law_room_in_store.specs.Sweeps.{AreLeftForPuts, chunk_extents_of}
@@ -110,3 +111,13 @@ module _ {D : Type 0} (disks : PageDisk D) where
           → IsStopped disks ready [] (Put id bytes) refusal.Full w → NoneWornIn w → NoneWornIn ready
       young_at ready w id bytes roomy stopped young = young_before disks ready w roomy
           (reaches_stopped disks ready w [] (Put id bytes) refusal.Full stopped) young
+
+  -- nor after reads
+  pub read_put_left : (v w : View D) (id : ShardId) (bytes : List ℕ) (n : ℕ) → IsRoomyState disks v → NoneWornIn w
+      → AreLeftForPuts n v → FillsExtents (shape v.store.extents) n id bytes
+      → RefusesPut disks v id bytes refusal.Full w → ⊥
+  read_put_left v w id bytes n roomy young left fill refuses =
+      let p = past_reads disks v w id bytes refuses in
+      store_put_left p.0 w id bytes n (read_state disks v p.0 roomy p.1) young
+      (subst (λ (u : View D). AreLeftForPuts n u) (sym p.1.0) left)
+      (subst (λ (u : View D). FillsExtents (shape u.store.extents) n id bytes) (sym p.1.0) fill) p.2

@@ -12,6 +12,7 @@ use Rattle.cs_writeback.specs.Histories.{IsStopped}
 use Rattle.cs_writeback.specs.Syncs.{StopsSync}
 use Rattle.cs_store.specs.Events.{Declines, DeclinesCopy, IsHalted}
 use Rattle.cs_inspect.specs.Choices.{ReadsOn}
+use Rattle.cs_store.specs.Reserves.{RefusesPut}
 use Rattle.cs_store.specs.Rooms.{IsMadeReady, IsNoRoom, StaysFull, room_refusal}
 use Rattle.cs_store.specs.Sweeps.{DeclinesSweep}
 use Rattle.law_room_in_store.proofs.KeepingRoom.{IsRoomyState, reached_state, read_untouched}
@@ -81,7 +82,7 @@ module _ {D : Type 0} (disks : PageDisk D) where
   store_abandon e v w roomy young (inr stopped) = abandon_no_put e (stopped_full disks v w [] (Abandon e) roomy young stopped)
 
   -- reads
-  read_state : (v w : View D) → IsRoomyState disks v → ReadsOn disks v w → IsRoomyState disks w
+  pub read_state : (v w : View D) → IsRoomyState disks v → ReadsOn disks v w → IsRoomyState disks w
   read_state v w roomy reads = reached_state disks v w roomy (reaches_untouched disks Anything v w reads.1.honesty.0 (read_untouched disks v w reads.0 reads.1))
 
   pub store_reclaim : (v w : View D) → IsRoomyState disks v → NoneWornIn w
@@ -99,3 +100,17 @@ module _ {D : Type 0} (disks : PageDisk D) where
   store_put v w id bytes roomy young (inl halted) = absurd (halted_full v w halted)
   store_put v w id bytes roomy young (inr (inl memory)) = absurd (let no : refusal.Full ≡ refusal.OutOfMemory = memory.0 in cc)
   store_put v w id bytes roomy young (inr (inr declines)) = declined_full v w (Put id bytes) roomy young declines
+
+  -- nor for the size of its shard, after whatever reads
+  pub past_reads : (v w : View D) (id : ShardId) (bytes : List ℕ) → RefusesPut disks v id bytes refusal.Full w
+      → (read : View D) × ReadsOn disks v read × DeclinesCopy disks read (Put id bytes) refusal.Full w
+  past_reads v w id bytes (read, reads, inl (inl large, is)) = absurd (let no : refusal.Full ≡ refusal.TooLarge = large.0 in cc)
+  past_reads v w id bytes (read, reads, inl (inr reserved, is)) = absurd (let no : refusal.Full ≡ refusal.Reserved = reserved.0 in cc)
+  past_reads v w id bytes (read, reads, inr declines) = (read, reads, declines)
+
+  pub read_put : (v w : View D) (id : ShardId) (bytes : List ℕ) → IsRoomyState disks v → NoneWornIn w → RefusesPut disks v id bytes refusal.Full w
+      → (read : View D) × (ready : View D) × ReadsOn disks v read × IsMadeReady disks read ready × IsStopped disks ready [] (Put id bytes) refusal.Full w
+  read_put v w id bytes roomy young refuses =
+      let p = past_reads v w id bytes refuses in
+      let d = store_put p.0 w id bytes (read_state v p.0 roomy p.1) young p.2 in
+      (p.0, d.0, p.1, d.1, d.2)

@@ -1,5 +1,5 @@
 -- Calls of reclaim, one after another.
-use Rattle.std.specs.Prelude.{◌≡◌, ◌⊎◌, ◌∷◌, ◌+◌, ◌<◌, ◌≤◌, ℕ, zero, suc, false, List, [], Option, Some, None}
+use Rattle.std.specs.Prelude.{◌≡◌, ◌⊎◌, ◌+◌, ◌<◌, ◌≤◌, ℕ, zero, suc, false, List, Option, Some, None}
 use Rattle.cs_chunk.specs.Newest.{AreNewest}
 use Rattle.cs_deps.specs.State.{IsWhole as IsWholeGraph}
 use Rattle.cs_disk.specs.declared.disk.PageDisk.{Ghosts as PageDisk}
@@ -68,11 +68,6 @@ pub record AreUsesOf {D : Type 0} (v : View D) (view : ℕ → List ℕ) (chunks
   pub live : AreLiveChunks (index_of v.store.index) chunks
   pub listed : AreExtents (shape v.store.extents).extents (extents_of v.store.extents) uses
   pub counted : AreCounted (heads_of v.store.extents view chunks) uses
-
--- how many live pages are counted on all of these extents
-abbrev pub total_live : List ExtentUse → ℕ
-total_live [] = 0
-total_live (used ∷ uses) = used.live + total_live uses
 
 module _ {D : Type 0} (state : D → DiskState) where
   -- at most so many extents of chunks have dead pages

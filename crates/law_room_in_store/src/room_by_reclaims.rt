@@ -9,8 +9,9 @@ ghost use Rattle.cs_writeback.specs.Syncs.{Syncs};
 ghost use Rattle.cs_inspect.specs.Chunks.{Chunk};
 ghost use Rattle.cs_inspect.specs.declared.surveys.ExtentUse.{ExtentUse};
 ghost use Rattle.law_room_in_store.specs.Cores.{NoneWornIn};
-ghost use Rattle.law_room_in_store.specs.Reclaims.{AreUsesOf, DeadAtMost, IsIdle, IsReclaim, LiveFewFor, NoneFailed, NothingDeadIn, ReclaimsBy, total_live};
+ghost use Rattle.law_room_in_store.specs.Reclaims.{AreUsesOf, DeadAtMost, IsIdle, IsReclaim, LiveFewFor, NoneFailed, NothingDeadIn, ReclaimsBy};
 ghost use Rattle.law_room_in_store.specs.Roomy.{IsRoomyCore};
+ghost use Rattle.cs_store.specs.Reserves.{total_live};
 ghost use Rattle.law_room_in_store.specs.Sweeps.{AreLeftForPuts, LiveAtMost, chunk_extents_of};
 ghost use Rattle.law_room.specs.Sweeps.{AreFewPages};
 

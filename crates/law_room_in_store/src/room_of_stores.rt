@@ -15,9 +15,11 @@ ghost use Rattle.cs_store.specs.declared.errors.SweepError.TheVariants as sweep;
 ghost use Rattle.cs_store.specs.declared.errors.SyncError.{SyncError};
 ghost use Rattle.cs_store.specs.declared.errors.SyncError.TheVariants as sync;
 ghost use Rattle.cs_store.specs.Errors.{delete_refusal, sweep_refusal, sync_refusal};
-ghost use Rattle.cs_store.specs.Events.{Declines, DeclinesCopy, IsHalted};
+ghost use Rattle.cs_store.specs.Events.{Declines, IsHalted};
 ghost use Rattle.cs_store.specs.Maps.{Accepts};
 ghost use Rattle.cs_inspect.specs.Choices.{ReadsOn};
+ghost use Rattle.cs_store.specs.Reserves.{IsReserved, RefusesPut};
+ghost use Rattle.cs_store.specs.declared.reserves.Reserve.TheVariants as reserve;
 ghost use Rattle.cs_store.specs.Rooms.{IsMadeReady};
 ghost use Rattle.cs_store.specs.Sweeps.{DeclinesSweep};
 ghost use Rattle.law_room_in_store.specs.Cores.{NoneWornIn};
@@ -52,16 +54,20 @@ pub fn nothing_but_a_put_of_a_store_is_refused_full<D: PageDisk>()
         → IsHalted v (sweep_refusal error) w ⊎ ((read : View D) × (extent : ℕ) × ReadsOn D.PageDisk v read
         × ((sweep_refusal error ≡ OutOfMemory) × (w ≡ read) ⊎ DeclinesSweep D.PageDisk extent read w (sweep_refusal error)))
         → error ≢ sweep.Full }
-    // A put is refused so for its own frames alone, and never for the sync that makes room for its event.
+    // A put is refused so for its own frames alone, after reads at most, and never for the sync that makes room for its
+    // event.
     ensures put { (v w : View D) (id : ShardId) (bytes : List ℕ) → IsRoomyCore D.PageDisk v → NoneWornIn w
-        → DeclinesCopy D.PageDisk v (Put id bytes) Full w
-        → (ready : View D) × IsMadeReady D.PageDisk v ready × IsStopped D.PageDisk ready [] (Put id bytes) Full w }
+        → RefusesPut D.PageDisk v id bytes Full w
+        → (read : View D) × (ready : View D) × ReadsOn D.PageDisk v read × IsMadeReady D.PageDisk read ready
+        × IsStopped D.PageDisk ready [] (Put id bytes) Full w }
 {}
 
 /// A put of the typed store is never refused 30 Full if n extents are left for puts and its frames fill at most n
 /// extents. The sync that makes room for its event takes none of them. `how_many_extents_a_put_fills` says how many
-/// they fill.
+/// they fill. A reserve may refuse the put 36 Reserved, but for a put without one: its `Reserve::None` refuses none.
 pub fn a_put_of_a_store_finds_room<D: PageDisk>()
-    ensures { (v w : View D) (id : ShardId) (bytes : List ℕ) (n : ℕ) → IsRoomyCore D.PageDisk v → NoneWornIn w → AreLeftForPuts n v
-        → FillsExtents (shape v.store.extents) n id bytes → DeclinesCopy D.PageDisk v (Put id bytes) Full w → ⊥ }
+    ensures full { (v w : View D) (id : ShardId) (bytes : List ℕ) (n : ℕ) → IsRoomyCore D.PageDisk v → NoneWornIn w → AreLeftForPuts n v
+        → FillsExtents (shape v.store.extents) n id bytes → RefusesPut D.PageDisk v id bytes Full w → ⊥ }
+    // The premise is the clause `reserved` of `put_within`.
+    ensures reserved { (v w : View D) (id : ShardId) (bytes : ℕ) → IsReserved D.PageDisk reserve.None id bytes v w → ⊥ }
 {}

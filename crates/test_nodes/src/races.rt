@@ -2,10 +2,10 @@
 ghost use Rattle.std.specs.Prelude.{◌≡◌, [], IfOk};
 ghost use Rattle.cs_node.specs.Starts.{start_of};
 
-use cs_core::Core;
 use cs_disk::{MemoryDisk, PageDisk};
 use cs_frame::Geometry;
 use cs_mount::{MountOptions, Mounted};
+use cs_node::the_core::Core;
 use cs_node::{Board, Job, Naming, Node};
 use cs_race::{Returned, new_core, racers_of, run_race};
 use cs_words::Race;

@@ -17,10 +17,10 @@ mod stops;
 mod streams;
 mod watchers;
 
-use cs_core::{Core, Limits};
 use cs_disk::{CrashDisk, MemoryDisk};
 use cs_frame::Geometry;
 use cs_options::script::{Ran, run_script};
+use cs_store::mount::the_core::{Core, Limits};
 use std::alloc::Global;
 use std::io::{Read, Write};
 use std::process::Abort;

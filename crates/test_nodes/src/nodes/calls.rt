@@ -1,8 +1,8 @@
 //! The calls of a node that a hand makes for its acts, and what they leave in it.
 use super::acts::Hand;
-use cs_core::Bytes;
 use cs_disk::PageDisk;
 use cs_frame::ShardId;
+use cs_node::the_core::Bytes;
 use cs_node::*;
 use cs_refusal::Refusal;
 use std::alloc::Global;

@@ -1,6 +1,6 @@
 //! What a history has to be, told by its steps.
-use cs_core::{Event, Reply};
 use cs_node::Step;
+use cs_node::the_core::{Event, Reply};
 use std::alloc::Global;
 use std::process::Abort;
 

@@ -2,8 +2,8 @@
 use super::acts::Act;
 use super::tasks::Task;
 use super::{Store, Wanted, tries};
-use cs_core::{Event, Reply};
 use cs_node::Step;
+use cs_node::the_core::{Event, Reply};
 use cs_refusal::Refusal;
 use std::alloc::Global;
 use std::process::Abort;

@@ -1,8 +1,8 @@
 //! Images of which the lowest bit of one byte is turned.
 use super::{disk_after, end_of, printed, script_text};
-use cs_core::{Core, Limits};
 use cs_disk::{MemoryDisk, PageDisk};
 use cs_refusal::Refusal;
+use cs_store::mount::the_core::{Core, Limits};
 use std::alloc::Global;
 use std::process::Abort;
 use std::test::{Fail, *};

@@ -1,9 +1,9 @@
 //! One call on the device that fails, whichever it is: a put, a sync, another put and a get, then a crash.
 use super::damage::why_not_opened;
 use super::{end_of, new_core, printed, script_text};
-use cs_core::{Core, Limits};
 use cs_disk::{FailAt, MemoryDisk};
 use cs_refusal::Refusal;
+use cs_store::mount::the_core::{Core, Limits};
 use std::process::Abort;
 use std::test::{Fail, *};
 

@@ -1,11 +1,11 @@
 //! Stores of which a page of the root was torn by hand. An opening passes the page over. Until it is
 //! fenced nothing is written to a pair.
 use super::{end_of, printed, script_text};
-use cs_core::Core;
 use cs_disk::MemoryDisk;
 use cs_frame::{Geometry, ShardId, StoreId};
-use cs_mount::{Finding, MountOptions, Mounted, fence};
 use cs_store::OpenOptions;
+use cs_store::mount::the_core::Core;
+use cs_store::mount::{Finding, MountOptions, Mounted, fence};
 use std::process::Abort;
 use std::test::{Fail, *};
 

@@ -1,11 +1,11 @@
 //! Stores in files.
 use super::{printed, script_text};
-use cs_core::Core;
 use cs_disk::{Access, CrashDisk, FileDisk, OpenFault, PageDisk};
 use cs_frame::{Geometry, ShardId, StoreId};
-use cs_mount::{MountOptions, Mounted};
 use cs_options::script::run_over;
 use cs_refusal::Refusal;
+use cs_store::mount::the_core::Core;
+use cs_store::mount::{MountOptions, Mounted};
 use cs_store::{OpenOptions, pages_said};
 use std::alloc::Global;
 use std::fs::File;

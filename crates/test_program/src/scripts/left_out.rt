@@ -1,8 +1,8 @@
 //! A typed store of which an extent is left out: what lives there is moved, and nothing is written there any more.
 use cs_disk::{MemoryDisk, PageDisk};
 use cs_frame::{Geometry, ShardId, StoreId};
-use cs_mount::Mounted;
 use cs_refusal::Refusal;
+use cs_store::mount::Mounted;
 use cs_store::{OpenOptions, Store};
 use std::process::Abort;
 use std::test::{Fail, *};

@@ -1,9 +1,9 @@
 //! Stores that are made, and that aren't.
-use cs_core::{Core, Limits};
 use cs_disk::{MemoryDisk, PageDisk};
 use cs_frame::{Format, Geometry, StoreId};
-use cs_mount::{Chosen, MountOptions, first_written, open_pairs, two_stores};
 use cs_refusal::Refusal;
+use cs_store::mount::the_core::{Core, Limits};
+use cs_store::mount::{Chosen, MountOptions, first_written, open_pairs, two_stores};
 use std::alloc::Global;
 use std::process::Abort;
 use std::test::{Fail, *};

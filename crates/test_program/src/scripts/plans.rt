@@ -1,9 +1,9 @@
 //! Plans of a long list of commands, each judged by the check.
 use super::{core_after, new_core_of, script_text};
 use cs_check::check;
-use cs_core::Core;
 use cs_disk::MemoryDisk;
 use cs_frame::Geometry;
+use cs_store::mount::the_core::Core;
 use std::alloc::Global;
 use std::process::Abort;
 use std::test::{Fail, *};

@@ -1,7 +1,7 @@
 //! A crash in each round over a swept extent, after its begin and after each of its issues, with each mask.
 use super::{disk_after, script_text};
-use cs_core::{Core, Limits};
 use cs_disk::{CrashDisk, MemoryDisk};
+use cs_store::mount::the_core::{Core, Limits};
 use std::alloc::{AllocError, Global};
 use std::process::Abort;
 use std::test::{Fail, *};

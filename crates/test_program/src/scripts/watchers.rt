@@ -2,10 +2,10 @@
 use super::failures::core_that_fails;
 use super::files::new_in_file;
 use super::{new_core, printed, script_text};
-use cs_core::Core;
 use cs_disk::CrashDisk;
 use cs_frame::Geometry;
 use cs_options::script::{LineFault, Onward, Watcher, run_over_watched};
+use cs_store::mount::the_core::Core;
 use std::io::Write;
 use std::process::Abort;
 use std::test::Fail;

@@ -18,6 +18,9 @@ returns-in-Ok-format-clause-written g c = λ h.
     (shown_behind (λ (r : StoreRules). store_version r.geometry) paired.rules rules (D.state paired.disk) (D.state c.args.disk) paired.pairs.items (store_pairs d) c.in-Ok.ensures.rules (c.in-Ok.ensures.pairs ∙ c.requires.pairs) (c.in-Ok.ensures.state h))
     (c.in-Ok-format.ensures.written (c.in-Ok.ensures.honest.0 h))
 
+pub returns-in-Ok-format-clause-start : goal.returns-in-Ok-format-clause-start
+returns-in-Ok-format-clause-start g c = λ h. c.in-Ok-format.ensures.start (c.in-Ok.ensures.honest.0 h)
+
 pub returns-in-Err-format-clause-cause : goal.returns-in-Err-format-clause-cause
 returns-in-Err-format-clause-cause g c = λ h is.
     let D = g.D.PageDisk in

@@ -1,7 +1,7 @@
-use Rattle.std.proofs.Common.{None, Some, ℕ, [], ap, inl, refl, subst, sym, ⊎_elim, ◌∙◌, ◌<◌, ◌≡◌, ◌⊎◌}
+use Rattle.std.proofs.Common.{None, Some, ℕ, [], ap, inl, refl, subst, sym, ⊎_elim, ◌∙◌, ◌≡◌, ◌⊎◌}
 use Rattle.std.specs.List.{AllByRecursion}
 use Rattle.cs_chunk.specs.Reads.{IsNoAnswer}
-use Rattle.cs_disk.specs.Disk.{Image, MayLeave, page, seen}
+use Rattle.cs_disk.specs.Disk.{Image, MayLeave, Rises, page, seen}
 use Rattle.cs_frame.specs.Formats.{formats_of}
 use Rattle.cs_frame.specs.Geometries.{section_size}
 use Rattle.cs_mount.proofs.Opened.{opened_by}
@@ -14,7 +14,7 @@ use Rattle.cs_twin.specs.Pairs.{fence, shown}
 use Rattle.law_machine.specs.Geometry.{shape_of}
 use Rattle.law_machine.specs.Recovery.{Recovers}
 use Rattle.cs_store.proofs.Fenced.{kept_alike, kept_still, leaves_then, none_mapped, same_left}
-use Rattle.cs_store.proofs.Readied.{rises_below}
+use Rattle.cs_store.proofs.Readied.{rises_below, rises_from}
 use Rattle.cs_store.proofs.fences.open_fenced.Goals as goal
 
 pub returns-in-Ok-open-clause-store : goal.returns-in-Ok-open-clause-store
@@ -95,20 +95,23 @@ pub returns-in-Ok-open-clause-untouched : goal.returns-in-Ok-open-clause-untouch
 returns-in-Ok-open-clause-untouched g c = λ h number none.
     ap (λ (image : Image). page image number) (ap seen (c.in-Ok-open.ensures.unwritten (c.in-Ok.ensures.honest.0 h))) ∙ c.in-Ok.ensures.untouched h number none
 
-pub returns-in-Err-open-clause-counted : goal.returns-in-Err-open-clause-counted
-returns-in-Err-open-clause-counted g c = λ sound none is.
+pub returns-in-Err-open-clause-cause : goal.returns-in-Err-open-clause-cause
+returns-in-Err-open-clause-cause g c = λ sound none is.
     let D = g.D.PageDisk in
+    let old = c.args.core.disk in
     let p = c.in-Err-open.disk in
     let still = (c.in-Err-open.ensures.sound (c.in-Ok.ensures.sound sound)).1 in
-    subst (λ (below : _). 0 < D.failure_count below) (sym c.into_disk.ensures)
-    (rises_below (failures_of c.in-Ok.disk) (D.failure_count p.disk) (refusals_of p) (still ∙ c.in-Ok.ensures.unrefused sound ∙ none) (c.in-Err-open.ensures.cause is))
+    let rises = rises_from (failures_of old) (failures_of c.in-Ok.disk) (failures_of p) c.in-Ok.ensures.later (c.in-Err-open.ensures.cause is) in
+    subst (λ (below : _). Rises (D.failure_count old.disk) (D.failure_count below)) (sym c.into_disk.ensures)
+    (rises_below (D.failure_count old.disk) (D.failure_count p.disk) (refusals_of old) (refusals_of p) none (still ∙ c.in-Ok.ensures.unrefused sound ∙ none) rises)
 
-pub returns-in-Err-clause-counted : goal.returns-in-Err-clause-counted
-returns-in-Err-clause-counted g c = λ sound none is.
+pub returns-in-Err-clause-cause : goal.returns-in-Err-clause-cause
+returns-in-Err-clause-cause g c = λ sound none is.
     let D = g.D.PageDisk in
+    let old = c.args.core.disk in
     let p = c.in-Err.disk in
-    subst (λ (below : _). 0 < D.failure_count below) (sym c.into_disk-in-Err.ensures)
-    (rises_below (failures_of c.args.core.disk) (D.failure_count p.disk) (refusals_of p) (c.in-Err.ensures.unrefused sound ∙ none) (c.in-Err.ensures.cause is))
+    subst (λ (below : _). Rises (D.failure_count old.disk) (D.failure_count below)) (sym c.into_disk-in-Err.ensures)
+    (rises_below (D.failure_count old.disk) (D.failure_count p.disk) (refusals_of old) (refusals_of p) none (c.in-Err.ensures.unrefused sound ∙ none) (c.in-Err.ensures.cause is))
 
 pub returns-in-Err-open-clause-crash_refused : goal.returns-in-Err-open-clause-crash_refused
 returns-in-Err-open-clause-crash_refused g c = λ h image long some shows t left le past.

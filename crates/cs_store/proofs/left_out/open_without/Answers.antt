@@ -11,7 +11,7 @@ use Rattle.cs_store.specs.LeftOut.{dimensions_in}
 use Rattle.cs_store.proofs.Fenced.{leaves_then}
 use Rattle.cs_store.proofs.LeavingOut.{never_refused, opening_unworn, settled_leaves, why_of, worn_of}
 use Rattle.cs_store.proofs.Maps.{opened_map}
-use Rattle.cs_store.proofs.Readied.{rises_some, same_Err}
+use Rattle.cs_store.proofs.Readied.{rises_from, same_Err}
 use Rattle.cs_store.proofs.left_out.open_without.Goals as goal
 
 pub returns-in-Ok-open-clause-left_out : goal.returns-in-Ok-open-clause-left_out
@@ -75,8 +75,9 @@ returns-in-Err-open-clause-worn g c = λ h n m found is. absurd (opening_unworn 
 pub returns-in-Err-open-clause-number : goal.returns-in-Err-open-clause-number
 returns-in-Err-open-clause-number g c = inl c.in-Err-open.ensures.number
 
-pub returns-in-Err-open-clause-counted : goal.returns-in-Err-open-clause-counted
-returns-in-Err-open-clause-counted g c = λ is. rises_some (failures_of c.in-Ok.disk) (failures_of c.in-Err-open.refused.1) (c.in-Err-open.ensures.cause is)
+pub returns-in-Err-open-clause-cause : goal.returns-in-Err-open-clause-cause
+returns-in-Err-open-clause-cause g c = λ is.
+    rises_from (failures_of c.args.core.disk) (failures_of c.in-Ok.disk) (failures_of c.in-Err-open.refused.1) c.in-Ok.ensures.later (c.in-Err-open.ensures.cause is)
 
 pub returns-in-Err-clause-waits : goal.returns-in-Err-clause-waits
 returns-in-Err-clause-waits g c = λ waits. ap (λ it. Err it) (same_Err c.in-Err.refused (Unsettled, c.args.core.disk) (c.in-Err.ensures.waits c.requires waits))
@@ -88,5 +89,5 @@ returns-in-Err-clause-worn g c = λ h n m found is.
 pub returns-in-Err-clause-number : goal.returns-in-Err-clause-number
 returns-in-Err-clause-number g c = c.in-Err.ensures.number
 
-pub returns-in-Err-clause-counted : goal.returns-in-Err-clause-counted
-returns-in-Err-clause-counted g c = c.in-Err.ensures.counted
+pub returns-in-Err-clause-cause : goal.returns-in-Err-clause-cause
+returns-in-Err-clause-cause g c = c.in-Err.ensures.cause

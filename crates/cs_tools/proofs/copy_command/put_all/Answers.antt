@@ -5,7 +5,7 @@ use Rattle.cs_frame.specs.declared.identifiers.ShardId.{ShardId}
 use Rattle.cs_index.specs.State.{id_number}
 use Rattle.cs_store.specs.Maps.{HasMap}
 use Rattle.cs_tools.specs.Copies.{HasBytes, over_all}
-use Rattle.cs_tools.proofs.Appended.{whatever}
+use Rattle.cs_advice.proofs.Appended.{whatever}
 use Rattle.cs_tools.proofs.Copying.{has_still, over_more}
 use Rattle.cs_tools.proofs.Exporting.{all_at}
 use Rattle.cs_tools.proofs.copy_command.put_all.Goals as goal

@@ -1,6 +1,6 @@
 use Rattle.cs_index.specs.State.{id_number}
 use Rattle.cs_tools.specs.Copies.{over}
-use Rattle.cs_tools.proofs.Appended.{whatever}
+use Rattle.cs_advice.proofs.Appended.{whatever}
 use Rattle.cs_tools.proofs.copy_command.put_next.Goals as goal
 
 pub returns-in-Ok-clause-put : goal.returns-in-Ok-clause-put

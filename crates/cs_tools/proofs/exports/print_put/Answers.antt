@@ -1,8 +1,8 @@
 use Rattle.std.proofs.Common.{[], ◌∷◌, ◌++◌}
 use Rattle.std.specs.Prelude.{codes}
 use Rattle.std.proofs.lemmas.Result.{on_ok_weaker}
-use Rattle.cs_tools.specs.Outputs.{id_text, payload_text}
-use Rattle.cs_tools.proofs.Appended.{appends_then}
+use Rattle.cs_advice.specs.Outputs.{id_text, payload_text}
+use Rattle.cs_advice.proofs.Appended.{appends_then}
 use Rattle.cs_tools.proofs.exports.print_put.Goals as goal
 
 pub returns : goal.returns

@@ -2,7 +2,7 @@ use Rattle.std.proofs.Common.{ℕ, List, ap, subst, take_all}
 use Rattle.std.specs.Prelude.{flat_map}
 use Rattle.std.specs.Io.KnownBytes.{Appends}
 use Rattle.cs_tools.specs.ExtentMaps.{mark_text}
-use Rattle.cs_tools.proofs.Appended.{appends_none, one_more}
+use Rattle.cs_advice.proofs.Appended.{appends_none, one_more}
 use Rattle.cs_tools.proofs.extent_maps.print_marks.Goals as goal
 
 pub loop-used-init : goal.loop-used-init

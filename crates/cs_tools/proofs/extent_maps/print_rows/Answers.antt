@@ -3,7 +3,7 @@ use Rattle.std.specs.Prelude.{List}
 use Rattle.std.specs.Io.KnownBytes.{Appends}
 use Rattle.cs_inspect.specs.declared.surveys.ExtentUse.{ExtentUse}
 use Rattle.cs_tools.specs.ExtentMaps.{line_text, rows_before}
-use Rattle.cs_tools.proofs.Appended.{appends_none}
+use Rattle.cs_advice.proofs.Appended.{appends_none}
 use Rattle.cs_tools.proofs.Rows.{row_more, rows_counted}
 use Rattle.cs_tools.proofs.extent_maps.print_rows.Goals as goal
 

@@ -5,7 +5,7 @@ use Rattle.cs_frame.specs.declared.identifiers.ShardId.{ShardId}
 use Rattle.cs_index.specs.State.{State as Index, id_number, index_of}
 use Rattle.law_machine.specs.Index.{live_at}
 use Rattle.cs_inspect.specs.Listings.{AreFirst}
-use Rattle.cs_tools.specs.Outputs.{id_line}
+use Rattle.cs_advice.specs.Outputs.{id_line}
 use Rattle.cs_tools.proofs.list_command.list.Goals as goal
 
 pub returns-in-Ok-print_ids-clause-lines : goal.returns-in-Ok-print_ids-clause-lines

@@ -1,8 +1,8 @@
 use Rattle.std.proofs.Common.{ℕ, List, ap, subst, take_all}
 use Rattle.std.specs.Prelude.{flat_map}
 use Rattle.std.specs.Io.KnownBytes.{Appends}
-use Rattle.cs_tools.specs.Outputs.{id_line}
-use Rattle.cs_tools.proofs.Appended.{appends_kept, one_more, whatever}
+use Rattle.cs_advice.specs.Outputs.{id_line}
+use Rattle.cs_advice.proofs.Appended.{appends_kept, one_more, whatever}
 use Rattle.cs_tools.proofs.list_command.print_ids.Goals as goal
 
 pub loop-id-preserved : goal.loop-id-preserved

@@ -1,7 +1,7 @@
 use Rattle.std.proofs.Common.{◌++◌}
 use Rattle.std.proofs.lemmas.Result.{on_ok_weaker}
-use Rattle.cs_tools.specs.Outputs.{before_id, behind_id, id_text}
-use Rattle.cs_tools.proofs.Appended.{appends_then}
+use Rattle.cs_advice.specs.Outputs.{before_id, behind_id, id_text}
+use Rattle.cs_advice.proofs.Appended.{appends_then}
 use Rattle.cs_tools.proofs.list_command.print_object.Goals as goal
 
 pub returns : goal.returns

@@ -1,7 +1,7 @@
 use Rattle.std.proofs.Common.{◌≡◌, ◌∙◌, ℕ, List, ap, max}
 use Rattle.std.proofs.lemmas.Result.{on_ok_weaker}
 use Rattle.cs_tools.specs.MapPictures.{bar_text, pixels, label_text, lower_colour, lower_pages}
-use Rattle.cs_tools.proofs.Appended.{appends_same, appends_then}
+use Rattle.cs_advice.proofs.Appended.{appends_same, appends_then}
 use Rattle.cs_tools.proofs.map_pictures.draw_extent.Goals as goal
 
 pub returns : goal.returns

@@ -1,6 +1,6 @@
 use Rattle.std.proofs.Common.{arith}
 use Rattle.cs_tools.specs.MapPictures.{extent_text}
-use Rattle.cs_tools.proofs.Appended.{appends_none}
+use Rattle.cs_advice.proofs.Appended.{appends_none}
 use Rattle.cs_tools.proofs.Outlines.{all_numbered, one_numbered}
 use Rattle.cs_tools.proofs.map_pictures.draw_extents.Goals as goal
 

@@ -4,7 +4,7 @@ use Rattle.std.specs.List.{enumerate_from}
 use Rattle.std.specs.Prelude.{flat_map}
 use Rattle.cs_tools.specs.ExtentMaps.{row_count}
 use Rattle.cs_tools.specs.MapPictures.{end_line, extent_text, head_text, key_text}
-use Rattle.cs_tools.proofs.Appended.{appends_same}
+use Rattle.cs_advice.proofs.Appended.{appends_same}
 use Rattle.cs_tools.proofs.Rows.{four_then, rows_counted}
 use Rattle.cs_tools.proofs.map_pictures.draw_map.Goals as goal
 

@@ -1,7 +1,7 @@
 use Rattle.std.proofs.Common.{◌+◌}
 use Rattle.std.proofs.lemmas.Result.{on_ok_weaker}
 use Rattle.cs_tools.specs.MapPictures.{rect_line, word_line}
-use Rattle.cs_tools.proofs.Appended.{appends_then}
+use Rattle.cs_advice.proofs.Appended.{appends_then}
 use Rattle.cs_tools.proofs.map_pictures.draw_meaning.Goals as goal
 
 pub returns : goal.returns

@@ -6,7 +6,7 @@ use Rattle.cs_tools.specs.ExtentMaps.{map_text}
 use Rattle.cs_tools.specs.Overviews.{overview_text}
 use Rattle.cs_tools.specs.Summaries.{summary_text}
 use Rattle.cs_tools.specs.declared.overviews.Overview.{Overview}
-use Rattle.cs_tools.proofs.Appended.{appends_then}
+use Rattle.cs_advice.proofs.Appended.{appends_then}
 use Rattle.cs_tools.proofs.overviews.print_what.Goals as goal
 
 pub returns-in-Summary : goal.returns-in-Summary

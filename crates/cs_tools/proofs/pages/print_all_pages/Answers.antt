@@ -1,7 +1,7 @@
 use Rattle.std.proofs.lemmas.Result.{on_ok_weaker}
 use Rattle.std.specs.Prelude.{flat_map}
 use Rattle.cs_tools.specs.Pages.{pair_line, section_line}
-use Rattle.cs_tools.proofs.Appended.{appends_then}
+use Rattle.cs_advice.proofs.Appended.{appends_then}
 use Rattle.cs_tools.proofs.pages.print_all_pages.Goals as goal
 
 pub returns : goal.returns

@@ -2,7 +2,7 @@ use Rattle.std.proofs.Common.{ℕ, subst}
 use Rattle.std.specs.Prelude.{Option, OnOk}
 use Rattle.std.specs.Io.KnownBytes.{Appends}
 use Rattle.cs_tools.specs.Pages.{line_where}
-use Rattle.cs_tools.proofs.Appended.{appends_none}
+use Rattle.cs_advice.proofs.Appended.{appends_none}
 use Rattle.cs_tools.proofs.pages.print_finding.Goals as goal
 
 pub returns-in-Some : goal.returns-in-Some

@@ -2,7 +2,7 @@ use Rattle.std.proofs.Common.{ℕ, List, ap, subst, take_all}
 use Rattle.std.specs.Prelude.{flat_map}
 use Rattle.std.specs.Io.KnownBytes.{Appends}
 use Rattle.cs_tools.specs.Pages.{section_line}
-use Rattle.cs_tools.proofs.Appended.{one_more}
+use Rattle.cs_advice.proofs.Appended.{one_more}
 use Rattle.cs_tools.proofs.pages.print_made.Goals as goal
 
 pub loop-page-preserved : goal.loop-page-preserved

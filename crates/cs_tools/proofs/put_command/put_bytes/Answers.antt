@@ -22,7 +22,7 @@ returns-in-Ok-clause-honest g c = (λ h. c.commit.ensures.honest.0 (c.put.ensure
 pub returns-in-Ok-clause-crash : goal.returns-in-Ok-clause-crash
 returns-in-Ok-clause-crash g c honest =
     let then_too = c.put.ensures.honest.0 honest in
-    crash_of_put g.D.PageDisk c.args.id c.args.bytes.now _ c.args.store.now c.put.new.self c.commit.new.store c.commit.result c.in-Ok.ensures.done c.commit.ensures.events
+    crash_of_put g.D.PageDisk c.args.id c.args.bytes.now c.args.store.now c.put.new.self c.commit.new.store c.commit.result c.in-Ok.ensures.accepts c.commit.ensures.events
     c.put.ensures.rises (c.commit.ensures.same then_too) (c.put.ensures.crash honest) (c.commit.ensures.crash then_too)
 
 pub returns-in-Err-clause-events : goal.returns-in-Err-clause-events

@@ -12,14 +12,14 @@ use Rattle.cs_tools.proofs.reclaim_command.reclaim_and_print.Goals.{In_ok-printe
 use Rattle.cs_tools.proofs.reclaim_command.reclaim_and_print.Given.{Over}
 
 -- the lines at the end
-lines : (g : Over) (c : In_ok-printed g) → PrintsLeft c.args.style c.in_ok-unreadable.unreadable c.args.core.now c.empty_by_rule.new.core (g.W.Write.contents c.empty_by_rule.new.writer) (g.W.Write.contents c.print_left.new.writer)
+lines : (g : Over) (c : In_ok-printed g) → PrintsLeft c.args.style c.in_ok-left.left.unreadable c.args.core.now c.empty_by_rule.new.core (g.W.Write.contents c.empty_by_rule.new.writer) (g.W.Write.contents c.print_left.new.writer)
 lines g c =
     let contents = g.W.Write.contents in
     let old = c.args.core.now in
     let new = c.empty_by_rule.new.core in
     let between = contents c.empty_by_rule.new.writer in
     let end = contents c.print_left.new.writer in
-    let unreadable = c.in_ok-unreadable.unreadable in
+    let unreadable = c.in_ok-left.left.unreadable in
     let before = counted_empty old c.extents.result.now c.empty_count-before.result c.extents.ensures c.empty_count-before.ensures in
     let after = counted_empty new c.extents-2.result.now c.empty_count-after.result c.extents-2.ensures c.empty_count-after.ensures in
     let printed = ok_then c.print_left.result _ c.in_ok-printed.ensures.done c.print_left.ensures in
@@ -29,32 +29,34 @@ lines g c =
 -- ---- all is done
 
 pub returns-clause-kept : goal.returns-clause-kept
-returns-clause-kept g c honest = c.in_ok-unreadable.ensures.kept honest
+returns-clause-kept g c honest = c.in_ok-left.ensures.kept honest
 
 pub returns-clause-left : goal.returns-clause-left
-returns-clause-left g c apart = c.in_ok-unreadable.ensures.left apart
+returns-clause-left g c apart = c.in_ok-left.ensures.left apart
 
 pub returns-clause-counted : goal.returns-clause-counted
-returns-clause-counted g c together = c.in_ok-unreadable.ensures.counted together
+returns-clause-counted g c together = c.in_ok-left.ensures.counted together
 
 pub returns-clause-chosen : goal.returns-clause-chosen
-returns-clause-chosen g c apart = (g.W.Write.contents c.empty_by_rule.new.writer, c.in_ok-unreadable.ensures.chosen apart, lines g (goal.at.returns-clause-chosen g c).In_ok-printed)
+returns-clause-chosen g c apart =
+    let past = c.in_ok-left.ensures.chosen apart in
+    (past.0, past.1, (g.W.Write.contents c.empty_by_rule.new.writer, past.2, lines g (goal.at.returns-clause-chosen g c).In_ok-printed))
 
 pub returns-clause-room : goal.returns-clause-room
 returns-clause-room g c = subst (λ (x : Extents). IfPut c.args.aim (HasRoomFor x)) c.extents-3.ensures c.in_ok-check_room.ensures.room
 
 -- ---- it ends early
 
-pub returns-in_err-unreadable-clause-stopped : goal.returns-in_err-unreadable-clause-stopped
-returns-in_err-unreadable-clause-stopped g c apart =
+pub returns-in_err-left-clause-stopped : goal.returns-in_err-left-clause-stopped
+returns-in_err-left-clause-stopped g c apart =
     let contents = g.W.Write.contents in
     let start = contents c.args.writer.now in
     let end = contents c.empty_by_rule.new.writer in
     let new = c.empty_by_rule.new.core in
     let later = StopsLater g.D.PageDisk c.args.aim c.args.style c.args.core.now new start end in
     let full = StopsFull g.D.PageDisk c.args.aim c.args.style c.args.core.now new start end in
-    let stop = c.in_err-unreadable.field-0.0 in
-    passed_on (λ r. later r ⊎ full r) c.from_residual.result stop c.from_residual.ensures.1 (refused_so later (λ r. later r ⊎ full r) (λ r it. inl it) stop (c.in_err-unreadable.ensures.stopped apart))
+    let stop = c.in_err-left.field-0.0 in
+    passed_on (λ r. later r ⊎ full r) c.from_residual.result stop c.from_residual.ensures.1 (refused_so later (λ r. later r ⊎ full r) (λ r it. inl it) stop (c.in_err-left.ensures.stopped apart))
 
 pub returns-in_err-printed-clause-stopped : goal.returns-in_err-printed-clause-stopped
 returns-in_err-printed-clause-stopped g c apart =
@@ -90,7 +92,8 @@ returns-in_err-check_room-clause-stopped g c apart =
     let none = subst (λ (x : Extents). IsPutAnd aim (HasNoRoomFor x)) c.extents-3.ensures told.1 in
     let filled : IsPutAnd aim (IsFullFor new.store.extents) = full_for aim old.store.extents new.store.extents c.empty_by_rule.ensures.tidies.shape c.requires none in
     let between = contents c.empty_by_rule.new.writer in
-    let vain = in_vain disks aim c.args.style old new start between (c.in_ok-unreadable.ensures.chosen apart) filled in
+    let past = c.in_ok-left.ensures.chosen apart in
+    let vain = in_vain disks aim c.args.style past.0 old new start between past.2 filled in
     let last = lines g (goal.at.returns-in_err-check_room-clause-stopped g c).In_ok-printed in
     passed_on (λ r. later r ⊎ full r) c.from_residual-in_err-check_room.result stop c.from_residual-in_err-check_room.ensures.1
-    (subst (λ (s : Stop). IfRefused s (λ r. later r ⊎ full r)) (sym told.0) (inr (refl, c.in_ok-unreadable.unreadable, c.in_ok-unreadable.ensures.left apart, between, vain, last)))
+    (subst (λ (s : Stop). IfRefused s (λ r. later r ⊎ full r)) (sym told.0) (inr (refl, past.0, c.in_ok-left.left.unreadable, c.in_ok-left.ensures.left apart, between, vain, last)))

@@ -1,11 +1,9 @@
-use Rattle.std.proofs.Common.{◌≡◌, ◌⊎◌, inl, inr, refl, subst}
-use Rattle.std.specs.Prelude.{Err}
+use Rattle.std.proofs.Common.{◌⊎◌, inl, inr, refl, subst}
 use Rattle.std.proofs.lemmas.Result.{IfErr-weaker}
 use Rattle.cs_chunk.specs.Cuts.{IsOversized}
 use Rattle.cs_extent.specs.State.{State as Extents, shape}
-use Rattle.cs_refusal.specs.declared.refusals.Refusal.TheVariants.{TooLarge}
 use Rattle.cs_tools.specs.Aims.{IsPutAnd}
-use Rattle.cs_tools.specs.Reclaims.{IfRefused, StopsFull, StopsLater, StopsReclaim}
+use Rattle.cs_tools.specs.Reclaims.{StopsFull, StopsLater, StopsReclaim}
 use Rattle.cs_tools.proofs.Aiming.{never_too_large, told_false, told_true}
 use Rattle.cs_tools.proofs.Emptying.{refused_so}
 use Rattle.cs_tools.proofs.Tidying.{tidies_none}

@@ -1,4 +1,4 @@
-use Rattle.std.proofs.Common.{subst}
+use Rattle.std.proofs.Common.{refl, subst}
 use Rattle.std.specs.Prelude.{List}
 use Rattle.cs_inspect.specs.declared.surveys.ExtentUse.{ExtentUse}
 use Rattle.cs_tools.specs.Headers.{AreUnreadable}
@@ -35,6 +35,8 @@ returns-clause-counted g c =
     let disks = g.D.PageDisk in
     let old = c.args.core.now in
     let read = c.uses.new.core in
-    let n = c.count_unreadable-unreadable.result in
-    was_counted disks n old read (c.uses.ensures.same, c.uses.ensures.disk)
-    (counts disks old read c.in-Ok.uses.items c.in-Ok.ensures.extents n (subst (λ (uses : List ExtentUse). AreUnreadable uses n) c.deref.ensures.value c.count_unreadable-unreadable.ensures) c.in-Ok.ensures.bounded c.in-Ok.ensures.counted)
+    let n = c.count_unreadable-unreadable.result in (
+      refl,
+      was_counted disks n old read (c.uses.ensures.same, c.uses.ensures.disk)
+          (counts disks old read c.in-Ok.uses.items c.in-Ok.ensures.extents n (subst (λ (uses : List ExtentUse). AreUnreadable uses n) c.deref.ensures.value c.count_unreadable-unreadable.ensures) c.in-Ok.ensures.bounded c.in-Ok.ensures.counted),
+    )

@@ -1,8 +1,8 @@
 use Rattle.std.proofs.Common.{[], ◌∷◌}
 use Rattle.std.proofs.lemmas.Result.{on_ok_weaker}
 use Rattle.std.specs.Prelude.{codes}
-use Rattle.cs_tools.specs.Stats.{member, number_text}
-use Rattle.cs_tools.proofs.Appended.{appends_then}
+use Rattle.cs_advice.specs.Members.{member, number_text}
+use Rattle.cs_advice.proofs.Appended.{appends_then}
 use Rattle.cs_tools.proofs.repairs.print_lost_object.Goals as goal
 
 pub returns : goal.returns

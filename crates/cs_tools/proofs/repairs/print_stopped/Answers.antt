@@ -2,7 +2,7 @@ use Rattle.std.proofs.Common.{◌++◌, false}
 use Rattle.std.specs.Prelude.{flat_map}
 use Rattle.cs_tools.specs.Pages.{pair_line}
 use Rattle.cs_tools.specs.Repairs.{lost_line}
-use Rattle.cs_tools.proofs.Appended.{appends_kept, appends_then, whatever}
+use Rattle.cs_advice.proofs.Appended.{appends_kept, appends_then, whatever}
 use Rattle.cs_tools.proofs.repairs.print_stopped.Goals as goal
 
 pub returns : goal.returns

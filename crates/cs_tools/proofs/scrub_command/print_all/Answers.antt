@@ -1,7 +1,7 @@
 use Rattle.std.proofs.lemmas.Result.{on_ok_weaker}
 use Rattle.cs_tools.specs.Pages.{pages_text}
 use Rattle.cs_tools.specs.Scrubs.{found_text}
-use Rattle.cs_tools.proofs.Appended.{appends_then}
+use Rattle.cs_advice.proofs.Appended.{appends_then}
 use Rattle.cs_tools.proofs.scrub_command.print_all.Goals as goal
 
 pub returns : goal.returns

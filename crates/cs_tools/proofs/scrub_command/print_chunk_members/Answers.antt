@@ -1,9 +1,9 @@
 use Rattle.std.proofs.Common.{[], ◌∷◌, ◌++◌}
 use Rattle.std.proofs.lemmas.Result.{on_ok_weaker}
 use Rattle.std.specs.Prelude.{codes, decimal}
-use Rattle.cs_tools.specs.Outputs.{before_id, id_text, quote}
-use Rattle.cs_tools.specs.Stats.{member}
-use Rattle.cs_tools.proofs.Appended.{appends_then}
+use Rattle.cs_advice.specs.Outputs.{before_id, id_text, quote}
+use Rattle.cs_advice.specs.Members.{member}
+use Rattle.cs_advice.proofs.Appended.{appends_then}
 use Rattle.cs_tools.proofs.scrub_command.print_chunk_members.Goals as goal
 
 pub returns : goal.returns

@@ -1,8 +1,8 @@
 use Rattle.std.proofs.Common.{◌++◌}
 use Rattle.std.proofs.lemmas.Result.{on_ok_weaker}
 use Rattle.std.specs.Prelude.{codes, decimal}
-use Rattle.cs_tools.specs.Outputs.{id_text}
-use Rattle.cs_tools.proofs.Appended.{appends_then}
+use Rattle.cs_advice.specs.Outputs.{id_text}
+use Rattle.cs_advice.proofs.Appended.{appends_then}
 use Rattle.cs_tools.proofs.scrub_command.print_chunk_words.Goals as goal
 
 pub returns : goal.returns

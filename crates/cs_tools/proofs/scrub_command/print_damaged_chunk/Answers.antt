@@ -1,6 +1,6 @@
 use Rattle.std.proofs.lemmas.Result.{on_ok_weaker}
 use Rattle.cs_tools.specs.Scrubs.{chunk_text, place_text}
-use Rattle.cs_tools.proofs.Appended.{appends_then}
+use Rattle.cs_advice.proofs.Appended.{appends_then}
 use Rattle.cs_tools.proofs.scrub_command.print_damaged_chunk.Goals as goal
 
 pub returns : goal.returns

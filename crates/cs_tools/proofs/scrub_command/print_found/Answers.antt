@@ -3,7 +3,7 @@ use Rattle.std.specs.Prelude.{flat_map, min}
 use Rattle.std.specs.Io.KnownBytes.{Appends}
 use Rattle.cs_inspect.specs.declared.scrubs.Damage.{Damage}
 use Rattle.cs_tools.specs.Scrubs.{damage_line, read_line}
-use Rattle.cs_tools.proofs.Appended.{appends_kept, appends_then, whatever}
+use Rattle.cs_advice.proofs.Appended.{appends_kept, appends_then, whatever}
 use Rattle.cs_tools.proofs.scrub_command.print_found.Goals as goal
 
 pub returns : goal.returns

@@ -2,9 +2,10 @@ use Rattle.std.proofs.Common.{◌∙◌, [], ◌∷◌, ap}
 use Rattle.std.proofs.lemmas.Result.{on_ok_weaker}
 use Rattle.std.specs.Prelude.{codes}
 use Rattle.cs_frame.specs.FormatNumbers.{counted_as, number_in}
-use Rattle.cs_tools.specs.Stats.{dimensions_text, member, number_text}
-use Rattle.cs_tools.specs.declared.outputs.Style.TheVariants.{Json}
-use Rattle.cs_tools.proofs.Appended.{appends_same}
+use Rattle.cs_advice.specs.Members.{member, number_text}
+use Rattle.cs_tools.specs.Stats.{dimensions_text}
+use Rattle.cs_advice.specs.declared.outputs.Style.TheVariants.{Json}
+use Rattle.cs_advice.proofs.Appended.{appends_same}
 use Rattle.cs_tools.proofs.Continued.{five_then, same_dimensions}
 use Rattle.cs_tools.proofs.stat_objects.print_dimension_members.Goals as goal
 

@@ -1,7 +1,8 @@
 use Rattle.std.proofs.Common.{subst, sym}
 use Rattle.std.specs.Prelude.{OnOk}
-use Rattle.cs_tools.specs.Stats.{BeginsWith, geometry_text}
-use Rattle.cs_tools.specs.declared.outputs.Style.{Style}
+use Rattle.cs_advice.specs.Members.{BeginsWith}
+use Rattle.cs_tools.specs.Stats.{geometry_text}
+use Rattle.cs_advice.specs.declared.outputs.Style.{Style}
 use Rattle.cs_tools.proofs.stats.print_all.Goals as goal
 
 pub returns-in-Text : goal.returns-in-Text

@@ -1,4 +1,4 @@
-use Rattle.cs_tools.proofs.Appended.{whatever}
+use Rattle.cs_advice.proofs.Appended.{whatever}
 use Rattle.cs_tools.proofs.Continued.{goes_kept, goes_then}
 use Rattle.cs_tools.proofs.stats.print_figures.Goals as goal
 

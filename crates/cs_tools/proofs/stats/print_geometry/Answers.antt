@@ -5,8 +5,8 @@ use Rattle.std.specs.Prelude.{Option}
 use Rattle.cs_frame.specs.FormatNumbers.{counted_as, number_in}
 use Rattle.cs_frame.specs.Roots.{identity_in}
 use Rattle.cs_tools.specs.Stats.{dimensions_text, geometry_text, identity_line, store_text}
-use Rattle.cs_tools.specs.declared.outputs.Style.TheVariants.{Text}
-use Rattle.cs_tools.proofs.Appended.{appends_same, appends_then}
+use Rattle.cs_advice.specs.declared.outputs.Style.TheVariants.{Text}
+use Rattle.cs_advice.proofs.Appended.{appends_same, appends_then}
 use Rattle.cs_tools.proofs.stats.print_geometry.Goals as goal
 
 pub returns-in-Some : goal.returns-in-Some

@@ -1,4 +1,4 @@
-use Rattle.cs_tools.specs.Stats.{GoesOn}
+use Rattle.cs_advice.specs.Members.{GoesOn}
 use Rattle.cs_tools.proofs.stats.print_run_lines.Given as goal
 
 abbrev pub invariant-loop-number : goal.invariant-loop-number

@@ -1,7 +1,7 @@
 use Rattle.std.proofs.Common.{◌++◌, ℕ, ap}
 use Rattle.std.proofs.lemmas.Result.{on_ok_weaker}
 use Rattle.cs_tools.specs.Summaries.{great_text, more_text, small_line}
-use Rattle.cs_tools.proofs.Appended.{appends_same, appends_then}
+use Rattle.cs_advice.proofs.Appended.{appends_same, appends_then}
 use Rattle.cs_tools.proofs.summaries.print_more.Goals as goal
 
 pub returns : goal.returns

@@ -1,7 +1,7 @@
 use Rattle.std.proofs.Common.{◌∙◌, ◌++◌, ℕ, ap}
 use Rattle.std.proofs.lemmas.Result.{on_ok_weaker}
 use Rattle.cs_tools.specs.Summaries.{cost_at, cost_line, index_line, live_line, more_text, share_of}
-use Rattle.cs_tools.proofs.Appended.{appends_same}
+use Rattle.cs_advice.proofs.Appended.{appends_same}
 use Rattle.cs_tools.proofs.Rows.{four_then}
 use Rattle.cs_tools.proofs.summaries.print_room_lines.Goals as goal
 

@@ -12,7 +12,7 @@ use Rattle.cs_store.specs.Events.{Declines, IsHalted}
 use Rattle.cs_inspect.specs.Choices.{ReadsOn}
 use Rattle.cs_store.specs.Sweeps.{DeclinesSweep}
 use Rattle.law_room_in_store.proofs.KeepingRoom.{state_of}
-use Rattle.law_room_in_store.proofs.StoresFull.{store_abandon, store_delete, store_put, store_reclaim, store_sweep, store_sync}
+use Rattle.law_room_in_store.proofs.StoresFull.{read_put, store_abandon, store_delete, store_reclaim, store_sweep, store_sync}
 use Rattle.law_room_in_store.proofs.room_of_stores.nothing_but_a_put_of_a_store_is_refused_full.Goals as goal
 
 pub returns-clause-sync : goal.returns-clause-sync
@@ -42,5 +42,5 @@ returns-clause-reclaim g c = λ v w error roomy young refused full.
     × ((sweep_refusal x ≡ OutOfMemory) × (w ≡ read) ⊎ DeclinesSweep g.D.PageDisk extent read w (sweep_refusal x)))) full refused)
 
 pub returns-clause-put : goal.returns-clause-put
-returns-clause-put g c = λ v w id bytes roomy young declines.
-    store_put g.D.PageDisk v w id bytes (state_of g.D.PageDisk v roomy) young declines
+returns-clause-put g c = λ v w id bytes roomy young refuses.
+    read_put g.D.PageDisk v w id bytes (state_of g.D.PageDisk v roomy) young refuses

@@ -13,8 +13,8 @@ returns-clause-core g c = λ v w id bytes taken roomy young idle most fits full.
     core_put g.D.PageDisk v roomy.geometry roomy.apart roomy.core roomy.honest roomy.room young idle w id bytes taken most fits full
 
 pub returns-clause-store : goal.returns-clause-store
-returns-clause-store g c = λ v w id bytes taken roomy young then_young idle most fits declines.
-    store_put_beside g.D.PageDisk v roomy.geometry roomy.apart w id bytes taken (state_of g.D.PageDisk v roomy) young then_young idle most fits declines
+returns-clause-store g c = λ v w id bytes taken roomy young then_young idle most fits refuses.
+    store_put_beside g.D.PageDisk v w id bytes taken (state_of g.D.PageDisk v roomy) young then_young idle most fits refuses
 
 pub returns-clause-taken : goal.returns-clause-taken
 returns-clause-taken g c = λ v live nothing most r room.

@@ -101,6 +101,11 @@ returns-in-Ok-open-clause-sound g c =
     let still = c.in-Ok-open.ensures.sound c.in-Ok.ensures.sound in
     (still.0, still.1 ∙ c.in-Ok.ensures.refusals)
 
+pub returns-in-Ok-open-clause-later : goal.returns-in-Ok-open-clause-later
+returns-in-Ok-open-clause-later g c =
+    let still = c.in-Ok-open.ensures.sound c.in-Ok.ensures.sound in
+    omega (arith, c.failures.ensures, c.in-Ok.ensures.failures, c.in-Ok.ensures.refusals, still.1, c.in-Ok-open.ensures.later)
+
 -- ---- what a crash leaves where it is refused
 
 pub returns-in-Err-open-clause-crash_refused : goal.returns-in-Err-open-clause-crash_refused

@@ -1,13 +1,13 @@
 use Rattle.std.proofs.Common.{◌≡◌, ◌≤◌, ℕ, Err, ap, inl, inr, refl, subst, sym, ◌∙◌}
-use Rattle.cs_disk.specs.Disk.{LeavesOnly, page, seen}
+use Rattle.cs_disk.specs.Disk.{LeavesOnly, Rises, page, seen}
 use Rattle.cs_extent.specs.State.{shape}
 use Rattle.cs_frame.specs.Formats.{formats_of}
 use Rattle.cs_mount.proofs.Closing.{still_leaves}
 use Rattle.cs_mount.specs.LeftOut.{IsAtRest, IsLeftOut, IsRowWorn, LeavesTheMap, NoneDamagedOn}
 use Rattle.cs_mount.specs.StorePairs.{store_version}
-use Rattle.cs_refusal.specs.declared.refusals.Refusal.TheVariants.{Unsettled, WornOut}
+use Rattle.cs_refusal.specs.declared.refusals.Refusal.TheVariants.{DeviceFault, Unsettled, WornOut}
 use Rattle.cs_twin.specs.Laws.{only_pairs}
-use Rattle.cs_twin.specs.Paired.{disk_below, left_as_shown, moment_of, state_shown}
+use Rattle.cs_twin.specs.Paired.{disk_below, failures_of, left_as_shown, moment_of, state_shown}
 use Rattle.law_machine.specs.Element.{Map}
 use Rattle.law_machine.specs.Recovery.{Recovers}
 use Rattle.cs_store.specs.LeftOut.{IsWhyNotLeftOut, dimensions_in}
@@ -92,5 +92,5 @@ returns-in-Err-clause-worn g c =
 pub returns-in-Err-clause-number : goal.returns-in-Err-clause-number
 returns-in-Err-clause-number g c = c.in-Err.ensures.number
 
-pub returns-in-Err-clause-counted : goal.returns-in-Err-clause-counted
-returns-in-Err-clause-counted g c = c.in-Err.ensures.counted
+pub returns-in-Err-clause-cause : goal.returns-in-Err-clause-cause
+returns-in-Err-clause-cause g c = subst (λ z. c.in-Err.refused.0 ≡ DeviceFault → Rises (failures_of z.disk) (failures_of c.in-Err.refused.1)) c.into_core.ensures c.in-Err.ensures.cause

@@ -18,7 +18,7 @@ use Rattle.cs_store.proofs.Fenced.{filled_again, filled_still, guarded_again, gu
 use Rattle.cs_refusal.specs.declared.refusals.Refusal.TheVariants.{NotAStore}
 use Rattle.cs_store.proofs.LeavingOut.{never_refused}
 use Rattle.cs_store.proofs.Maps.{opened_map}
-use Rattle.cs_store.proofs.Readied.{rises_some}
+use Rattle.cs_store.proofs.Readied.{rises_from}
 use Rattle.cs_store.proofs.options.OpenOptions.open_readied.Goals as goal
 
 pub returns-then-not-are_passed_over-clause-recovers : goal.returns-then-not-are_passed_over-clause-recovers
@@ -131,10 +131,10 @@ pub returns-in-Err-open_fenced-clause-two : goal.returns-in-Err-open_fenced-clau
 returns-in-Err-open_fenced-clause-two g c = λ h two. absurd (c.in-Ok.ensures.two h two)
 
 pub returns-in-Err-open_fenced-clause-cause : goal.returns-in-Err-open_fenced-clause-cause
-returns-in-Err-open_fenced-clause-cause g c = λ h none.
-    let disk = c.args.disk in
-    let named : list_any is_halved c.in-Ok.findings.items ≡ true = ap (list_any is_halved) (sym c.deref.ensures.value) ∙ sym c.are_passed_over.ensures ∙ c.if-not-are_passed_over.false in
-    not_passed (g.D.PageDisk.page_count disk) (g.D.PageDisk.state disk) (g.met.D.PageDisk.sized disk h) c.in-Ok.findings.items (c.in-Ok.ensures.findings h) named none
+returns-in-Err-open_fenced-clause-cause g c = λ is.
+    let D = g.D.PageDisk in
+    let refused = c.in-Err-open_fenced.refused in
+    rises_from (D.failure_count c.args.disk) (D.failure_count c.in-Ok.core.disk.disk) (D.failure_count refused.1) c.in-Ok.ensures.later (c.in-Err-open_fenced.ensures.cause c.in-Ok.ensures.sound.0 c.in-Ok.ensures.sound.1 is)
 
 pub returns-in-Err-open_fenced-clause-unwritten : goal.returns-in-Err-open_fenced-clause-unwritten
 returns-in-Err-open_fenced-clause-unwritten g c = λ h none.
@@ -188,12 +188,6 @@ returns-in-Ok-open_fenced-clause-untouched g c = λ h.
     untouched_again (D.page_count disk) (D.state disk) (g.met.D.PageDisk.sized disk h) c.in-Ok.findings.items (c.in-Ok.ensures.findings h) named
     (D.page_count p.disk) p.rules.geometry p.pairs.items (D.state p.disk) c.in-Ok.ensures.pages (p.fit before).durable (c.in-Ok.ensures.image h).1 (ap seen (c.in-Ok.ensures.unwritten h))
     (seen (D.state c.in-Ok-open_fenced.core.disk.disk)) (c.in-Ok-open_fenced.ensures.untouched before)
-
-pub returns-in-Err-open_fenced-clause-counted : goal.returns-in-Err-open_fenced-clause-counted
-returns-in-Err-open_fenced-clause-counted g c = λ is. c.in-Err-open_fenced.ensures.counted c.in-Ok.ensures.sound.0 c.in-Ok.ensures.sound.1 is
-
-pub returns-in-Err-clause-counted : goal.returns-in-Err-clause-counted
-returns-in-Err-clause-counted g c = λ is. rises_some (g.D.PageDisk.failure_count c.args.disk) (g.D.PageDisk.failure_count c.in-Err.refused.1) (c.in-Err.ensures.cause is)
 
 pub returns-in-Err-open_fenced-clause-crash_refused : goal.returns-in-Err-open_fenced-clause-crash_refused
 returns-in-Err-open_fenced-clause-crash_refused g c = λ h some left past.

@@ -14,7 +14,7 @@ use Rattle.law_machine.specs.Geometry.{shape_of}
 use Rattle.law_machine.specs.Recovery.{Recovers}
 use Rattle.cs_store.specs.Opening.{AgreeBeside, AreFencesIn, NoneIsPassedOver, Opening, given_up}
 use Rattle.cs_store.specs.declared.options.Loss.TheVariants.{Refused}
-use Rattle.cs_store.proofs.Readied.{answered, given_up_partly, moved, moved_back, none_given_up, opened_readable, rises_from, rises_some, same_Err, shows_moved}
+use Rattle.cs_store.proofs.Readied.{answered, given_up_partly, moved, moved_back, none_given_up, opened_readable, rises_from, same_Err, shows_moved}
 use Rattle.cs_store.proofs.options.OpenOptions.open_to_write.Goals as goal
 
 -- ---- it is opened
@@ -174,9 +174,6 @@ returns-in-Err-open_readied-clause-left g c = λ h.
     (λ k z. IsNoAnswer r ⊎ ((r ≡ NotAStore) × AreOfTwo k (seen z)) ⊎ IsWhyNotOpened k (page (shown_on k (seen z))) r) (c.in-Err-open_readied.ensures.refusals (c.ready_to_write.ensures.honest.0 h)) in
     ⊎_elim (λ no. inl no) (λ is. inr (inr (c.in-Ok.lost.items, c.in-Ok.ensures.halves h, is))) why
 
-pub returns-in-Err-open_readied-clause-counted : goal.returns-in-Err-open_readied-clause-counted
-returns-in-Err-open_readied-clause-counted g c = c.in-Err-open_readied.ensures.counted
-
 pub returns-in-Err-open_readied-clause-number : goal.returns-in-Err-open_readied-clause-number
 returns-in-Err-open_readied-clause-number g c = inl c.in-Err-open_readied.ensures.number
 
@@ -193,13 +190,9 @@ pub returns-in-Err-open_readied-clause-kept : goal.returns-in-Err-open_readied-c
 returns-in-Err-open_readied-clause-kept g c = λ h is. opened_readable c.in-Err-open_readied.refused.0 c.in-Err-open_readied.ensures.number is
 
 pub returns-in-Err-open_readied-clause-cause : goal.returns-in-Err-open_readied-clause-cause
-returns-in-Err-open_readied-clause-cause g c = λ h refused none one.
+returns-in-Err-open_readied-clause-cause g c = λ one.
     let D = g.D.PageDisk in
-    let d = c.ready_to_write.new.disk in
-    let same = none_given_up c.in-Ok.lost.items (D.state c.args.disk) (D.state d) (c.in-Ok.ensures.none (subst (λ (u : Opening). u.loss ≡ Refused) (sym c.self.view_is) refused)) (c.in-Ok.ensures.state h) in
-    rises_from (D.failure_count c.args.disk) (D.failure_count d) (D.failure_count c.in-Err-open_readied.refused.1) c.ready_to_write.ensures.later
-    (c.in-Err-open_readied.ensures.cause (c.ready_to_write.ensures.honest.0 h)
-    (moved_back (D.page_count d) (D.page_count c.args.disk) (D.state d) (D.state c.args.disk) c.ready_to_write.ensures.pages same (λ k z. NoneIsPassedOver (findings_on k (seen z))) none) one)
+    rises_from (D.failure_count c.args.disk) (D.failure_count c.ready_to_write.new.disk) (D.failure_count c.in-Err-open_readied.refused.1) c.ready_to_write.ensures.later (c.in-Err-open_readied.ensures.cause one)
 
 pub returns-in-Err-open_readied-clause-unwritten : goal.returns-in-Err-open_readied-clause-unwritten
 returns-in-Err-open_readied-clause-unwritten g c = λ h refused none.
@@ -242,10 +235,7 @@ pub returns-in-Err-clause-kept : goal.returns-in-Err-clause-kept
 returns-in-Err-clause-kept g c = λ h is. ⊎_elim (λ no. answered c.in-Err.refusal no is) (λ it. (c.in-Err.ensures.same it.1).same h) c.in-Err.ensures.refused
 
 pub returns-in-Err-clause-cause : goal.returns-in-Err-clause-cause
-returns-in-Err-clause-cause g c = λ h refused none one. c.in-Err.ensures.cause one
-
-pub returns-in-Err-clause-counted : goal.returns-in-Err-clause-counted
-returns-in-Err-clause-counted g c = λ one. rises_some (g.D.PageDisk.failure_count c.args.disk) (g.D.PageDisk.failure_count c.ready_to_write.new.disk) (c.in-Err.ensures.cause one)
+returns-in-Err-clause-cause g c = c.in-Err.ensures.cause
 
 pub returns-in-Err-clause-left : goal.returns-in-Err-clause-left
 returns-in-Err-clause-left g c = λ h. ⊎_elim (λ no. inl no) (λ it. inr (inl it.0)) c.in-Err.ensures.refused

@@ -1,0 +1,9 @@
+pub mod Advices
+pub mod Advised
+pub mod Knowns
+pub mod Losses
+pub mod Members
+pub mod Outcomes
+pub mod Outputs
+pub mod Tellings
+pub mod Texts

@@ -1,5 +1,0 @@
-use Rattle.cs_node.proofs.Passing.{passing_more}
-use Rattle.cs_node.proofs.choices.pass_all.Goals as goal
-
-pub loop-i-preserved : goal.loop-i-preserved
-loop-i-preserved c = passing_more c.args.passed.now c.loop-i.i c.args.uses.now _ _ c.loop-i-test.true c.loop-i.invariant c.pass_one.ensures

@@ -1,5 +1,0 @@
-use Rattle.std.specs.Prelude.{◌≤◌, All, take}
-use Rattle.cs_tools.proofs.diagnosis_counts.greatest_of.Given as goal
-
-abbrev pub invariant-loop-k : goal.invariant-loop-k
-invariant-loop-k l = All (λ part. part.head.command ≤ l.greatest) (take l.k l.parts)

@@ -1,8 +1,0 @@
-use Rattle.std.proofs.Common.{◌≡◌, take, map}
-use Rattle.serde_json.specs.Data.{string}
-use Rattle.serde_json.specs.View.{view}
-use Rattle.cs_tools.specs.Steps.{step_text}
-use Rattle.cs_tools.proofs.doctor_json.steps_value.Given as goal
-
-abbrev pub invariant-loop-k : goal.invariant-loop-k
-invariant-loop-k l = map view l.texts.items ≡ map (λ step. string (step_text l.file step)) (take l.k l.steps)
